@@ -1,0 +1,55 @@
+-- What comes back: the number and the fields of each refusal. The types stand in src/lib.rt. A field that is not named is 0.
+use Prim.Native.Nat.{ℕ}
+use Rattle.rules.specs.declared.Span.{Span}
+use Rattle.rules.specs.declared.Answer.{Answer}
+use Rattle.rules.specs.declared.Refusal.{Refusal}
+use Rattle.rules.specs.declared.Refusal.the-variants.{WorkShort, TreeTooLong, TreeForm, TreeTooDeep, TooManyOpen}
+use Rattle.rules.specs.declared.Refusal.the-variants.{AlreadyDefined, AccessInsideInitializer, ClassInheritFromSelf, JumpTooLarge, TooManyArgs, TooManyConstants, TooManyLocals, TooManyParams, TooManyUpvalues}
+use Rattle.rules.specs.declared.Refusal.the-variants.{ReturnInInitializer, ReturnOutsideFunction, SuperOutsideClass, SuperWithoutSuperclass, ThisOutsideClass}
+use Rattle.rules.specs.declared.Refusal.the-variants.{CodeFull, OutFull, ImageRefused, NoSuchFunction, NoSuchByte}
+
+abbrev pub NO-SPAN : Span
+NO-SPAN = record { start = 0; end = 0 }
+
+abbrev pub at-place : (number at : ℕ) → Answer
+at-place number at = record { number = number; at = at; end = 0; name = 0; length = 0 }
+
+abbrev pub at-span : (number : ℕ) → Span → (name : ℕ) → Answer
+at-span number span name = record { number = number; at = span .start; end = span .end; name = name; length = 0 }
+
+abbrev pub with-length : (number length : ℕ) → Answer
+with-length number length = record { number = number; at = 0; end = 0; name = 0; length = length }
+
+abbrev pub accepted : (length : ℕ) → Answer
+accepted length = with-length 0 length
+
+unfoldable pub refusal : Refusal → Answer
+refusal WorkShort = at-place 1 0
+refusal TreeTooLong = at-place 2 0
+refusal (TreeForm at) = at-place 3 at
+refusal (TreeTooDeep at) = at-place 4 at
+refusal (TooManyOpen at) = at-place 5 at
+refusal (AlreadyDefined span name) = at-span 10 span name
+refusal (AccessInsideInitializer span name) = at-span 11 span name
+refusal (ClassInheritFromSelf span name) = at-span 12 span name
+refusal (JumpTooLarge span) = at-span 13 span 0
+refusal (TooManyArgs span) = at-span 14 span 0
+refusal (TooManyConstants span) = at-span 15 span 0
+refusal (TooManyLocals span) = at-span 16 span 0
+refusal (TooManyParams span) = at-span 17 span 0
+refusal (TooManyUpvalues span) = at-span 18 span 0
+refusal (ReturnInInitializer span) = at-span 19 span 0
+refusal (ReturnOutsideFunction span) = at-span 20 span 0
+refusal (SuperOutsideClass span) = at-span 21 span 0
+refusal (SuperWithoutSuperclass span) = at-span 22 span 0
+refusal (ThisOutsideClass span) = at-span 23 span 0
+refusal CodeFull = at-place 30 0
+refusal (OutFull length) = with-length 31 length
+refusal ImageRefused = at-place 40 0
+refusal NoSuchFunction = at-place 41 0
+refusal NoSuchByte = at-place 42 0
+
+-- who unfolds this unfolds the whole file and those that it stands on, and can compute with them
+unfoldable pub computes : Unit {0}
+unfolding refusal
+computes = tt

@@ -1,0 +1,163 @@
+-- The image checker, as a function of bytes: what it asks beside demand 3, its count of instructions; and the two lookups.
+use mathlib.Core.Bool.{Bool, true, false, not, _&&_}
+use mathlib.Core.Option.{Option, none, some}
+use mathlib.Core.List.{List, [], _∷_}
+use Prim.Native.Nat.{ℕ, _+_, _-_}
+use lib.ListN.{length, getD, getElem?}
+use lib.Dec.{ltb, eqb}
+use Rattle.rules.specs.Base.{if_then_else_, all, all-below}
+use Rattle.rules.specs.declared.Span.{Span}
+use Rattle.rules.specs.declared.Answer.{Answer}
+use Rattle.rules.specs.declared.Refusal.the-variants.{ImageRefused, NoSuchFunction, NoSuchByte}
+use Rattle.rules.specs.Answer.{refusal, accepted, at-span}
+use Rattle.rules.specs.Reader.{Read, got, bad, _>>_, many}
+use Rattle.rules.specs.Op.{Operands, Plain, Byte, Captured, Value, Text, Invoke, Ahead, Back, Closure}
+use Rattle.rules.specs.Chunk.{Constant, CN, CS, CF, same-constant, Run, same-span, ObjectFunction}
+use Rattle.rules.specs.Division.{Instruction, division, kind-at, is-function, fits}
+use Rattle.rules.specs.ImageFile.{read-function, read-image}
+
+-- ## What is asked beside demand 3
+
+-- neighbouring runs share a span only after a count of 255
+unfoldable pub runs-apart : List Run → Bool
+runs-apart [] = true
+runs-apart (run ∷ []) = true
+runs-apart (run ∷ next ∷ runs) = (if same-span (run .span) (next .span) then eqb (run .count) 255 else true) && runs-apart (next ∷ runs)
+
+-- no two constants are equal
+unfoldable pub distinct : List Constant → Bool
+distinct [] = true
+distinct (value ∷ values) = all (λ other. not (same-constant value other)) values && distinct values
+
+-- a constant of the function with this number names none that is not before it
+unfoldable pub names-earlier : (number : ℕ) → Constant → Bool
+names-earlier number (CN _) = true
+names-earlier number (CS _) = true
+names-earlier number (CF named) = ltb named number
+
+-- the functions from this number on
+unfoldable pub all-earlier : (number : ℕ) → List ObjectFunction → Bool
+all-earlier number [] = true
+all-earlier number (f ∷ fs) = all (names-earlier number) (f .chunk .constants) && all-earlier (number + 1) fs
+
+-- how many constants name a function
+unfoldable pub names : (number : ℕ) → List Constant → ℕ
+names number [] = 0
+names number (value ∷ values) = (if same-constant (CF number) value then 1 else 0) + names number values
+
+unfoldable pub names-in-all : (number : ℕ) → List ObjectFunction → ℕ
+names-in-all number [] = 0
+names-in-all number (f ∷ fs) = names number (f .chunk .constants) + names-in-all number fs
+
+-- each function but the last is named by one constant
+unfoldable pub named-once : List ObjectFunction → Bool
+named-once functions = all-below (length functions - 1) (λ number. eqb (names-in-all number functions) 1)
+
+-- how many CLOSUREs name the constant at a place
+unfoldable pub closes : (place : ℕ) → Operands → (bytes : List ℕ) → ℕ
+closes place Plain bytes = 0
+closes place Byte bytes = 0
+closes place Captured bytes = 0
+closes place Value bytes = 0
+closes place Text bytes = 0
+closes place Invoke bytes = 0
+closes place Ahead bytes = 0
+closes place Back bytes = 0
+closes place Closure bytes = if eqb (getD bytes 0 0) place then 1 else 0
+
+unfoldable pub closures : (place : ℕ) → List Instruction → ℕ
+closures place [] = 0
+closures place (i ∷ is) = closes place (i .operands) (i .bytes) + closures place is
+
+-- the constant at a place, if it is a function, is named by one CLOSURE
+unfoldable pub closed-at : List ObjectFunction → List Constant → List Instruction → (place : ℕ) → Bool
+closed-at functions constants is place =
+    if is-function (kind-at functions constants place) then eqb (closures place is) 1 else true
+
+-- each function among a function's constants is named by one CLOSURE of its code. With `named-once` that is: each function but the last is
+-- named by one constant and one CLOSURE, both in one function, since a CLOSURE names a constant of its own function
+unfoldable pub closed-in : List ObjectFunction → ObjectFunction → Option (List Instruction) → Bool
+closed-in functions f none = false
+closed-in functions f (some is) = all-below (length (f .chunk .constants)) (closed-at functions (f .chunk .constants) is)
+
+unfoldable pub closed-once : List ObjectFunction → ObjectFunction → Bool
+closed-once functions f = closed-in functions f (division functions f)
+
+-- all that is asked of the functions of an image
+unfoldable pub sound : List ObjectFunction → Bool
+sound functions =
+    fits functions
+    && all (λ (f : ObjectFunction). runs-apart (f .chunk .spans)) functions
+    && all (λ (f : ObjectFunction). distinct (f .chunk .constants)) functions
+    && all-earlier 0 functions
+    && named-once functions
+    && all (closed-once functions) functions
+
+-- ## The checker
+
+unfoldable pub instructions : Option (List Instruction) → ℕ
+instructions none = 0
+instructions (some is) = length is
+
+-- how many instructions there are in the division of all the code
+unfoldable pub instruction-count : (all-of functions : List ObjectFunction) → ℕ
+instruction-count all-of [] = 0
+instruction-count all-of (f ∷ fs) = instructions (division all-of f) + instruction-count all-of fs
+
+unfoldable pub checked : Read (List ObjectFunction) → Option (List ObjectFunction)
+checked (bad _) = none
+checked (got functions _) = if sound functions then some functions else none
+
+-- the functions of bytes that are an image
+unfoldable pub image-of : (image : List ℕ) → Option (List ObjectFunction)
+image-of image = checked (read-image image)
+
+unfoldable pub verdict : Option (List ObjectFunction) → Answer
+verdict none = refusal ImageRefused
+verdict (some functions) = accepted (instruction-count functions functions)
+
+-- 0 with the number of instructions, or 40
+unfoldable pub check : (image : List ℕ) → Answer
+check image = verdict (image-of image)
+
+-- ## The code of function k, as a stretch of the image
+
+unfoldable pub function-numbered : (k : ℕ) → Option (List ObjectFunction) → Option ObjectFunction
+function-numbered k none = none
+function-numbered k (some functions) = getElem? functions k
+
+unfoldable pub code-in : Option ObjectFunction → List ℕ
+code-in none = []
+code-in (some f) = f .chunk .ops
+
+-- its content: empty for a refused lookup
+unfoldable pub code-of : (image : List ℕ) → (k : ℕ) → List ℕ
+code-of image k = code-in (function-numbered k (image-of image))
+
+unfoldable pub code-before : Read ObjectFunction → ℕ
+code-before (bad _) = 0
+code-before (got f next) = next - length (f .chunk .ops)
+
+-- its place in the image: a function's code is its record's end, and the functions begin behind the image's mark and count
+unfoldable pub code-start : (image : List ℕ) → (k : ℕ) → ℕ
+code-start image k = code-before ((many k (read-function image) >> read-function image) 6)
+
+unfoldable pub code-verdict : (k : ℕ) → Option (List ObjectFunction) → Answer
+code-verdict k none = refusal ImageRefused
+code-verdict k (some functions) = if ltb k (length functions) then accepted 0 else refusal NoSuchFunction
+
+-- the lookup's number: 0, 40 or 41
+unfoldable pub code-answer : (image : List ℕ) → (k : ℕ) → Answer
+code-answer image k = code-verdict k (image-of image)
+
+-- ## The span of one code byte, from a list of runs
+
+-- chunk.rs, `Index for VecRun`: the run that holds the byte, or 42
+unfoldable pub span-of : List Run → (offset : ℕ) → Answer
+span-of [] offset = refusal NoSuchByte
+span-of (run ∷ runs) offset = if ltb offset (run .count) then at-span 0 (run .span) 0 else span-of runs (offset - run .count)
+
+-- who unfolds this unfolds the whole file and those that it stands on, and can compute with them
+unfoldable pub computes : Unit {0}
+unfolding Rattle.rules.specs.Answer.computes Rattle.rules.specs.Division.computes Rattle.rules.specs.ImageFile.computes runs-apart distinct names-earlier all-earlier names names-in-all named-once closes closures closed-at closed-in closed-once sound instructions instruction-count checked image-of verdict check function-numbered code-in code-of code-before code-start code-verdict code-answer span-of
+computes = tt

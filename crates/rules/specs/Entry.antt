@@ -1,0 +1,98 @@
+-- The whole: from a tree file's bytes and the sizes of what is lent to the answer and what every lent area then holds.
+use mathlib.Core.List.{List, _++_}
+use Prim.Native.Nat.{ℕ, _-_, _*_, _/_, min}
+use lib.ListN.{length, replicate}
+use lib.Dec.{leb}
+use Rattle.rules.specs.Base.{if_then_else_}
+use Rattle.rules.specs.Limits.{Limits, first-limits, max-tree, max-code}
+use Rattle.rules.specs.declared.Answer.{Answer}
+use Rattle.rules.specs.declared.Refusal.{Refusal}
+use Rattle.rules.specs.declared.Refusal.the-variants.{WorkShort, TreeTooLong, OutFull}
+use Rattle.rules.specs.Answer.{refusal, accepted}
+use Rattle.rules.specs.Chunk.{ObjectFunction}
+use Rattle.rules.specs.Tree.{Stmts}
+use Rattle.rules.specs.Reader.{Read, got, bad}
+use Rattle.rules.specs.TreeFile.{read-tree}
+use Rattle.rules.specs.Compiler.{Outcome, ok, err, compile-functions}
+use Rattle.rules.specs.Image.{image-bytes}
+
+-- how much the caller lends beside the tree
+pub record Lent : Type 0 where
+  pub table-words : ℕ  -- of eight bytes
+  pub code-bytes : ℕ
+  pub span-words : ℕ  -- of four bytes
+  pub output-bytes : ℕ
+
+-- what a call leaves; the tree is as it was
+pub record Left : Type 0 where
+  pub answer : Answer
+  pub output : List ℕ
+  pub table : List ℕ
+  pub code : List ℕ
+  pub spans : List ℕ
+
+-- the least of the code bytes, a third of the span words rounded down, and 262,144
+unfoldable pub code-limit : Lent → ℕ
+code-limit lent = min (min (lent .code-bytes) (lent .span-words / 3)) max-code
+
+pub data Compiled : Type 0 where
+  functions-are : List ObjectFunction → Compiled
+  refused : Refusal → Compiled
+
+-- 10 to 30, in the Rust's own order of work
+unfoldable pub from-outcome : Outcome (List ObjectFunction) → Compiled
+from-outcome (ok functions _) = functions-are functions
+from-outcome (err r) = refused r
+
+-- 3, 4 and 5 over the whole file come first
+unfoldable pub from-read : Read Stmts → (limit : ℕ) → Compiled
+from-read (got stmts _) limit = from-outcome (compile-functions limit stmts)
+from-read (bad r) limit = refused r
+
+-- whatever the answer, the work areas end all zero
+unfoldable pub leaves : Lent → Answer → (output : List ℕ) → Left
+leaves lent answer output =
+    record {
+      answer = answer;
+      output = output;
+      table = replicate (lent .table-words) 0;
+      code = replicate (lent .code-bytes) 0;
+      spans = replicate (lent .span-words) 0;
+    }
+
+unfoldable pub write-image : Lent → (image : List ℕ) → Left
+write-image lent image =
+    if leb (length image) (lent .output-bytes)
+    then leaves lent (accepted (length image)) (image ++ replicate (lent .output-bytes - length image) 0)
+    else leaves lent (refusal (OutFull (length image))) (replicate (lent .output-bytes) 0)
+
+-- the image and then zeros, or after a refusal only zeros; 31 where all else is accepted
+unfoldable pub write-out : Lent → Compiled → Left
+write-out lent (refused r) = leaves lent (refusal r) (replicate (lent .output-bytes) 0)
+write-out lent (functions-are functions) = write-image lent (image-bytes functions)
+
+module _ (limits : Limits) where
+  -- 2, and what comes after it
+  unfoldable pub compile-tree : (tree : List ℕ) → (limit : ℕ) → Compiled
+  compile-tree tree limit =
+      if leb (length tree) max-tree
+      then from-read (read-tree tree (limits .depth) (limits .funs)) limit
+      else refused TreeTooLong
+
+  -- 1, and what comes after it
+  unfoldable pub compile-lent : (tree : List ℕ) → Lent → Compiled
+  compile-lent tree lent =
+      if leb (limits .table-bytes) (8 * lent .table-words)
+      then compile-tree tree (code-limit lent)
+      else refused WorkShort
+
+  unfoldable pub compile-within : (tree : List ℕ) → Lent → Left
+  compile-within tree lent = write-out lent (compile-lent tree lent)
+
+abbrev pub compile : (tree : List ℕ) → Lent → Left
+compile = compile-within first-limits
+
+-- who unfolds this unfolds the whole file and those that it stands on, and can compute with them
+unfoldable pub computes : Unit {0}
+unfolding Rattle.rules.specs.Base.computes Rattle.rules.specs.Answer.computes Rattle.rules.specs.TreeFile.computes Rattle.rules.specs.Compiler.computes Rattle.rules.specs.Image.computes code-limit from-outcome from-read leaves write-image write-out compile-tree compile-lent compile-within
+computes = tt

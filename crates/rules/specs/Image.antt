@@ -1,0 +1,36 @@
+-- The image file: from finished functions to bytes.
+use mathlib.Core.List.{List, [], _∷_, _++_}
+use Prim.Native.Nat.{ℕ}
+use lib.ListN.{length}
+use Rattle.rules.specs.Base.{le}
+use Rattle.rules.specs.Chunk.{Chunk, Constant, CN, CS, CF, Run, ObjectFunction}
+
+-- ## Records
+
+unfoldable pub join : {A : Type 0} → (A → List ℕ) → List A → List ℕ
+join f [] = []
+join f (x ∷ xs) = f x ++ join f xs
+
+unfoldable pub constant-bytes : Constant → List ℕ
+constant-bytes (CN bits) = 0x43 ∷ 0x4E ∷ le 8 bits
+constant-bytes (CS name) = 0x43 ∷ 0x53 ∷ le 2 name
+constant-bytes (CF number) = 0x43 ∷ 0x46 ∷ le 4 number
+
+unfoldable pub run-bytes : Run → List ℕ
+run-bytes run = 0x52 ∷ 0x55 ∷ le 4 (run .span .start) ++ le 4 (run .span .end) ++ le 1 (run .count)
+
+unfoldable pub function-bytes : ObjectFunction → List ℕ
+function-bytes f =
+    0x46 ∷ 0x4E ∷ le 2 (f .name) ++ le 1 (f .arity) ++ le 2 (f .upvalue-count)
+    ++ le 2 (length (f .chunk .constants)) ++ le 4 (length (f .chunk .spans)) ++ le 4 (length (f .chunk .ops))
+    ++ join constant-bytes (f .chunk .constants)
+    ++ join run-bytes (f .chunk .spans)
+    ++ 0x43 ∷ 0x44 ∷ f .chunk .ops
+
+unfoldable pub image-bytes : List ObjectFunction → List ℕ
+image-bytes functions = 0x49 ∷ 0x4D ∷ le 4 (length functions) ++ join function-bytes functions
+
+-- who unfolds this unfolds the whole file and those that it stands on, and can compute with them
+unfoldable pub computes : Unit {0}
+unfolding Rattle.rules.specs.Base.computes Rattle.rules.specs.Chunk.computes join constant-bytes run-bytes function-bytes image-bytes
+computes = tt
