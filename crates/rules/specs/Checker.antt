@@ -84,14 +84,17 @@ unfoldable pub closed-once : List ObjectFunction → ObjectFunction → Bool
 closed-once functions f = closed-in functions f (division functions f)
 
 -- all that is asked of the functions of an image
+unfoldable pub facts : List ObjectFunction → List Bool
+facts functions =
+    fits functions ∷
+    all (λ (f : ObjectFunction). runs-apart (f .chunk .spans)) functions ∷
+    all (λ (f : ObjectFunction). distinct (f .chunk .constants)) functions ∷
+    all-earlier 0 functions ∷
+    named-once functions ∷
+    all (closed-once functions) functions ∷ []
+
 unfoldable pub sound : List ObjectFunction → Bool
-sound functions =
-    fits functions
-    && all (λ (f : ObjectFunction). runs-apart (f .chunk .spans)) functions
-    && all (λ (f : ObjectFunction). distinct (f .chunk .constants)) functions
-    && all-earlier 0 functions
-    && named-once functions
-    && all (closed-once functions) functions
+sound functions = all (λ fact. fact) (facts functions)
 
 -- ## The checker
 
@@ -159,5 +162,5 @@ span-of (run ∷ runs) offset = if ltb offset (run .count) then at-span 0 (run .
 
 -- who unfolds this unfolds the whole file and those that it stands on, and can compute with them
 unfoldable pub computes : Unit {0}
-unfolding Rattle.rules.specs.Answer.computes Rattle.rules.specs.Division.computes Rattle.rules.specs.ImageFile.computes runs-apart distinct names-earlier all-earlier names names-in-all named-once closes closures closed-at closed-in closed-once sound instructions instruction-count checked image-of verdict check function-numbered code-in code-of code-before code-start code-verdict code-answer span-of
+unfolding Rattle.rules.specs.Answer.computes Rattle.rules.specs.Division.computes Rattle.rules.specs.ImageFile.computes runs-apart distinct names-earlier all-earlier names names-in-all named-once closes closures closed-at closed-in closed-once facts sound instructions instruction-count checked image-of verdict check function-numbered code-in code-of code-before code-start code-verdict code-answer span-of
 computes = tt
