@@ -1,5 +1,6 @@
 -- Laws of the definitions in specs/. They add nothing to what those say. Read in this order.
 pub mod Examples
+pub mod Slips
 pub mod Tests
 pub mod Keeps
 pub mod Facts

@@ -1,0 +1,213 @@
+-- Slips this trade makes, each shut out by a law or by the smallest example that shows it. P1 to P12 show some of them too: slot 0 unnamed by P5.
+use mathlib.Core.Path.{_≡_, refl, ap}
+use mathlib.Core.Bool.{Bool, true, false}
+use mathlib.Core.Option.{none}
+use mathlib.Core.List.{List, [], _∷_, _++_}
+use Prim.Native.Nat.{ℕ, _-_, _≤_, _<_}
+use native.Mathlib.Omega.{arith}
+use lib.ListN.{length, replicate}
+use lib.Dec.{leb, eqb}
+use borrow.Author.Tests.{le-leb, lt-leb, le-ltb}
+use Rattle.rules.specs.Base.{if_then_else_, position}
+use Rattle.rules.specs.declared.Span.{Span}
+use Rattle.rules.specs.declared.Refusal.{Refusal}
+use Rattle.rules.specs.declared.Refusal.the-variants.{TooManyArgs, TooManyParams, TooManyLocals, TooManyUpvalues, TreeTooDeep, TooManyOpen, TreeTooLong, OutFull}
+use Rattle.rules.specs.declared.Answer.{Answer}
+use Rattle.rules.specs.Answer.{NO-SPAN, refusal, accepted}
+use Rattle.rules.specs.Tree.{Expr, Exprs, ExprCall, count-exprs}
+use Rattle.rules.specs.Op as op
+use Rattle.rules.specs.Chunk.{Chunk, Constant, CN, CS, same-constant, Run, push-span, ObjectFunction, write-constant, written, at-place, no-room}
+use Rattle.rules.specs.Image.{image-bytes}
+use Rattle.rules.specs.Compiler as c
+use Rattle.rules.specs.Compiler.{Compiler, CompilerCtx, FunctionType, Upvalue, err, ends-in-return, same-upvalue, add-upvalue, added, captured, failed, with-upvalues, declared}
+use Rattle.rules.specs.Limits.{Limits, first-limits, max-tree, max-code}
+use Rattle.rules.specs.Entry as entry
+use Rattle.rules.specs.Entry.{Lent, Left, Compiled, functions-are, refused, compile-tree, compile-lent, compile-within}
+use Rattle.rules.specs.Division as d
+use Rattle.rules.specs.Division.{division, function-fits}
+use Rattle.rules.specs.Checker as checker
+use Rattle.rules.specs.Checker.{span-of}
+use Rattle.rules.proofs.Examples.{hex, P2-tree, P12-tree, from-to}
+
+-- ## "256 arguments", and `super` before the count
+
+-- 256 arguments are too many whatever is called, a method of a superclass outside every class among them
+pub too-many-args : (limit : ℕ) (span : Span) (callee : Expr) (args : Exprs) (s : Compiler) → 256 ≤ count-exprs args →
+    c.compile-expr limit (ExprCall span callee args) s ≡ err (TooManyArgs span)
+unfolding c.compile-expr c._>>_ c.go-on c.need
+too-many-args limit span callee args s l =
+    rw (lt-leb (count-exprs args) 255 (omega arith))
+
+-- 255 are not
+pub enough-args : (limit : ℕ) (span : Span) (callee : Expr) (args : Exprs) (s : Compiler) → count-exprs args ≤ 255 →
+    c.compile-expr limit (ExprCall span callee args) s
+    ≡ c.compile-call limit callee (c.compile-expr limit callee) (c.compile-exprs limit args) (count-exprs args) span s
+unfolding c.compile-expr c._>>_ c.go-on c.need
+enough-args limit span callee args s l = rw (le-leb (count-exprs args) 255 l)
+
+pub too-many-params : (limit : ℕ) (type : FunctionType) (name : ℕ) (params : List ℕ) (body : c.Compile Unit) (span : Span) (s : Compiler) → 256 ≤ length params →
+    c.compile-function-with limit type name params body span s ≡ err (TooManyParams span)
+unfolding c.compile-function-with c._>>_ c.go-on c.need
+too-many-params limit type name params body span s l = rw (lt-leb (length params) 255 (omega arith))
+
+-- ## 256 constants, captured variables and locals: one more is refused
+
+pub too-many-constants : (ch : Chunk) (value : Constant) → position (same-constant value) (ch .constants) ≡ none → 256 ≤ length (ch .constants) →
+    write-constant ch value ≡ no-room
+unfolding write-constant written
+too-many-constants ch value e l = rw (e, le-ltb (length (ch .constants)) 256 l)
+
+pub last-constant : (ch : Chunk) (value : Constant) → position (same-constant value) (ch .constants) ≡ none → length (ch .constants) ≡ 255 →
+    write-constant ch value ≡ at-place 255 (record { ops = ch .ops; constants = ch .constants ++ (value ∷ []); spans = ch .spans })
+unfolding write-constant written
+last-constant ch value e l = rw (e, l)
+
+pub too-many-upvalues : (u : Upvalue) (span : Span) (ctx : CompilerCtx) (parents : List CompilerCtx) → position (same-upvalue u) (ctx .upvalues) ≡ none →
+    256 ≤ length (ctx .upvalues) → add-upvalue u span ctx parents ≡ failed (TooManyUpvalues span)
+unfolding add-upvalue added
+too-many-upvalues u span ctx parents e l = rw (e, le-ltb (length (ctx .upvalues)) 256 l)
+
+pub last-upvalue : (u : Upvalue) (span : Span) (ctx : CompilerCtx) (parents : List CompilerCtx) → position (same-upvalue u) (ctx .upvalues) ≡ none →
+    length (ctx .upvalues) ≡ 255 → add-upvalue u span ctx parents ≡ captured 255 (with-upvalues ctx (ctx .upvalues ++ (u ∷ []))) parents
+unfolding add-upvalue added
+last-upvalue u span ctx parents e l = rw (e, l)
+
+pub too-many-locals : (name : ℕ) (span : Span) (s : Compiler) → declared (s .ctx .scope-depth) name (s .ctx .locals) ≡ false → 256 ≤ length (s .ctx .locals) →
+    c.declare-local name span s ≡ err (TooManyLocals span)
+unfolding c.declare-local c._>>=_ c._>>_ c.go-on c.need c.the
+too-many-locals name span s e l = rw (e, le-ltb (length (s .ctx .locals)) 256 l)
+
+-- ## The last byte and not the last instruction
+
+pub by-last-byte : (ops : List ℕ) (b : ℕ) → ends-in-return (ops ++ (b ∷ [])) ≡ eqb b op.RETURN
+unfolding ends-in-return
+by-last-byte [] b = refl
+by-last-byte (x ∷ []) b = refl
+by-last-byte (x ∷ y ∷ ops) b = by-last-byte (y ∷ ops) b
+
+-- ## Runs: 0..0 is a span like any other, and no run passes 255
+
+-- print nil; with the spans 0..0 in the tree: its bytes and the script's own return are one run of four
+abbrev nowhere-tree : List ℕ
+nowhere-tree =
+    hex 6 0x5452_0000_0100  -- TR
+    ++ hex 10 0x5350_00000000_00000000  -- SP
+    ++ hex 11 0x454C_00000000_00000000_02  -- EL
+
+pub one-run : compile-tree first-limits nowhere-tree max-code
+    ≡ functions-are
+    (record {
+      name = 3;
+      arity = 0;
+      upvalue-count = 0;
+      chunk = record { ops = hex 4 0x01_1B_01_24; constants = []; spans = record { span = NO-SPAN; count = 4 } ∷ [] };
+    }
+    ∷ [])
+unfolding hex entry.computes
+one-run = refl
+
+pub full-run : push-span (record { span = from-to 1 2; count = 254 } ∷ []) (from-to 1 2) ≡ record { span = from-to 1 2; count = 255 } ∷ []
+unfolding entry.computes
+full-run = refl
+
+pub next-run : push-span (record { span = from-to 1 2; count = 255 } ∷ []) (from-to 1 2)
+    ≡ record { span = from-to 1 2; count = 255 } ∷ record { span = from-to 1 2; count = 1 } ∷ []
+unfolding entry.computes
+next-run = refl
+
+-- ## A constant is found by kind and content
+
+pub other-kind : (n : ℕ) → same-constant (CN n) (CS n) ≡ false
+unfolding same-constant
+other-kind n = refl
+
+-- ## 31 only where all else is accepted
+
+pub refused-first : (limits : Limits) (tree : List ℕ) (lent : Lent) (r : Refusal) → compile-lent limits tree lent ≡ refused r →
+    compile-within limits tree lent .answer ≡ refusal r
+unfolding compile-within entry.write-out entry.leaves
+refused-first limits tree lent r e = ap (λ (x : Compiled). entry.write-out lent x .answer) e
+
+-- ## Work areas end all zero, whatever the answer
+
+pub record Zero (lent : Lent) (left : Left) : Type 0 where
+  pub table : left .table ≡ replicate (lent .table-words) 0
+  pub code : left .code ≡ replicate (lent .code-bytes) 0
+  pub spans : left .spans ≡ replicate (lent .span-words) 0
+
+leaves-zero : (lent : Lent) (answer : Answer) (output : List ℕ) → Zero lent (entry.leaves lent answer output)
+unfolding entry.leaves
+leaves-zero lent answer output = record { table = refl; code = refl; spans = refl }
+
+image-zero : (lent : Lent) (image : List ℕ) → Zero lent (entry.write-image lent image)
+unfolding entry.write-image
+image-zero lent image = by-room (leb (length image) (lent .output-bytes))
+  where
+    by-room : (b : Bool) →
+        Zero lent
+        (if b
+        then entry.leaves lent (accepted (length image)) (image ++ replicate (lent .output-bytes - length image) 0)
+        else entry.leaves lent (refusal (OutFull (length image))) (replicate (lent .output-bytes) 0))
+    by-room true = leaves-zero lent _ _
+    by-room false = leaves-zero lent _ _
+
+pub work-areas-zero : (limits : Limits) (tree : List ℕ) (lent : Lent) → Zero lent (compile-within limits tree lent)
+unfolding compile-within entry.write-out
+work-areas-zero limits tree lent = by-answer (compile-lent limits tree lent)
+  where
+    by-answer : (x : Compiled) → Zero lent (entry.write-out lent x)
+    by-answer (refused r) = leaves-zero lent _ _
+    by-answer (functions-are fs) = image-zero lent (image-bytes fs)
+
+-- ## The reader's limits are what it is given: P2 has depth 2, and P12 two `SF` inside one another
+
+abbrev limits : (depth funs : ℕ) → Limits
+limits d f = record { depth = d; funs = f; table-bytes = 0 }
+
+pub record At-limits : Type 0 where
+  pub deep-enough : compile-tree (limits 2 0) P2-tree max-code ≡ compile-tree first-limits P2-tree max-code
+  pub too-deep : compile-tree (limits 1 0) P2-tree max-code ≡ refused (TreeTooDeep 16)
+  pub open-enough : compile-tree (limits 4 2) P12-tree max-code ≡ compile-tree first-limits P12-tree max-code
+  pub too-many-open : compile-tree (limits 4 1) P12-tree max-code ≡ refused (TooManyOpen 39)
+
+pub at-limits : At-limits
+unfolding hex entry.computes
+at-limits = record { deep-enough = refl; too-deep = refl; open-enough = refl; too-many-open = refl }
+
+-- 2, for every tree that is too long
+pub too-long : (limits : Limits) (tree : List ℕ) (limit : ℕ) → max-tree < length tree → compile-tree limits tree limit ≡ refused TreeTooLong
+unfolding compile-tree
+too-long limits tree limit long = rw (lt-leb (length tree) max-tree long)
+
+-- ## The division: an instruction that the code's end cuts is none, whatever the runs
+
+abbrev one-byte : (opcode : ℕ) → ObjectFunction
+one-byte opcode =
+    record {
+      name = 3;
+      arity = 0;
+      upvalue-count = 0;
+      chunk = record { ops = opcode ∷ []; constants = []; spans = record { span = NO-SPAN; count = 1 } ∷ [] };
+    }
+
+pub record Cut : Type 0 where
+  pub call : division (one-byte op.CALL ∷ []) (one-byte op.CALL) ≡ none
+  pub get-local : function-fits (one-byte op.GET-LOCAL ∷ []) (one-byte op.GET-LOCAL) ≡ false
+
+pub cut : Cut
+unfolding d.computes
+cut = record { call = refl; get-local = refl }
+
+-- ## The span of a byte: the last of a run, the first of the next, and past the end
+
+abbrev two-runs : List Run
+two-runs = record { span = from-to 1 2; count = 3 } ∷ record { span = from-to 4 6; count = 1 } ∷ []
+
+pub record Spans : Type 0 where
+  pub last-of-first : span-of two-runs 2 ≡ record { number = 0; at = 1; end = 2; name = 0; length = 0 }
+  pub first-of-next : span-of two-runs 3 ≡ record { number = 0; at = 4; end = 6; name = 0; length = 0 }
+  pub past-the-end : span-of two-runs 4 ≡ record { number = 42; at = 0; end = 0; name = 0; length = 0 }
+
+pub spans : Spans
+unfolding checker.computes
+spans = record { last-of-first = refl; first-of-next = refl; past-the-end = refl }
