@@ -1,0 +1,2 @@
+-- What stands at a place of a file, as numbers.
+pub mod Words

@@ -1,0 +1,73 @@
+// The fields of the files: what stands at a place. The tree reader, the compiler and the image checker read by these.
+ghost use mathlib.Core.Path.{_≡_};
+ghost use Prim.Native.Nat.{_+_, _≤_};
+ghost use lib.ListN.{length};
+ghost use lib.Dec.{leb};
+ghost use Rattle.fields.specs.Words.{word8, word16, word32, word64, letters, span-of};
+use rules::Span;
+
+// There are `size` bytes from `at` on. Sums that could wrap are not made.
+pub fn has(bytes: &[u8], at: usize, size: usize) -> bool
+    ensures { λ r. ⌜ r ≡ leb (at + size) (length (now (bytes .entry))) ⌝ }
+{
+    if bytes.len() < size {
+        return false;
+    }
+    if bytes.len() - size < at {
+        return false;
+    }
+    true
+}
+
+pub fn u8_at(bytes: &[u8], at: usize) -> u8
+    requires { ⌜ at + 1 ≤ length (now bytes) ⌝ }
+    ensures { λ r. ⌜ r ≡ word8 (now (bytes .entry)) at ⌝ }
+{
+    bytes[at]
+}
+
+pub fn u16_at(bytes: &[u8], at: usize) -> u16
+    requires { ⌜ at + 2 ≤ length (now bytes) ⌝ }
+    ensures { λ r. ⌜ r ≡ word16 (now (bytes .entry)) at ⌝ }
+{
+    let lo = u8_at(bytes, at);
+    let hi = u8_at(bytes, at + 1);
+    lo as u16 + 256 * (hi as u16)
+}
+
+pub fn u32_at(bytes: &[u8], at: usize) -> u32
+    requires { ⌜ at + 4 ≤ length (now bytes) ⌝ }
+    ensures { λ r. ⌜ r ≡ word32 (now (bytes .entry)) at ⌝ }
+{
+    let lo = u16_at(bytes, at);
+    let hi = u16_at(bytes, at + 2);
+    lo as u32 + 65536 * (hi as u32)
+}
+
+pub fn u64_at(bytes: &[u8], at: usize) -> u64
+    requires { ⌜ at + 8 ≤ length (now bytes) ⌝ }
+    ensures { λ r. ⌜ r ≡ word64 (now (bytes .entry)) at ⌝ }
+{
+    let lo = u32_at(bytes, at);
+    let hi = u32_at(bytes, at + 4);
+    lo as u64 + 4294967296 * (hi as u64)
+}
+
+// Two letters, the first times 256 plus the second, so that the digits read as the letters do.
+pub fn mark_at(bytes: &[u8], at: usize) -> u16
+    requires { ⌜ at + 2 ≤ length (now bytes) ⌝ }
+    ensures { λ r. ⌜ r ≡ letters (now (bytes .entry)) at ⌝ }
+{
+    let first = u8_at(bytes, at);
+    let second = u8_at(bytes, at + 1);
+    256 * (first as u16) + second as u16
+}
+
+pub fn span_at(bytes: &[u8], at: usize) -> Span
+    requires { ⌜ at + 8 ≤ length (now bytes) ⌝ }
+    ensures { λ r. ⌜ r ≡ span-of (now (bytes .entry)) at ⌝ }
+{
+    let start = u32_at(bytes, at);
+    let end = u32_at(bytes, at + 4);
+    Span { start, end }
+}
