@@ -213,15 +213,15 @@ first-targets (functions-are (f ∷ fs)) = targets (division (f ∷ fs) f)
 
 pub record P1-to-P12 : Type 0 where
   pub codes-and-refusals : map (λ (r : Row). given (compile-tree first-limits (r .tree) max-code)) table ≡ map (λ (r : Row). r .gives) table
-  pub P1-whole : compile P1-tree (lent 17_410 2 6 38) ≡ leaves (lent 17_410 2 6 38) (accepted 38) P1-image
-  pub P2-whole : compile P2-tree (lent 17_410 5 15 73) ≡ leaves (lent 17_410 5 15 73) (accepted 73) P2-image
-  pub P2-room-left : compile P2-tree (lent 17_411 6 16 75) ≡ leaves (lent 17_411 6 16 75) (accepted 73) (P2-image ++ 0 ∷ 0 ∷ [])
-  pub P2-out-full : compile P2-tree (lent 17_410 5 15 72) ≡ leaves (lent 17_410 5 15 72) (refusal (OutFull 73)) (replicate 72 0)
-  pub P2-code-full : compile P2-tree (lent 17_410 4 15 73) ≡ leaves (lent 17_410 4 15 73) (refusal CodeFull) (replicate 73 0)
-  pub P2-spans-full : compile P2-tree (lent 17_410 5 14 73) ≡ leaves (lent 17_410 5 14 73) (refusal CodeFull) (replicate 73 0)
+  pub P1-whole : compile P1-tree (lent 17_412 2 6 38) ≡ leaves (lent 17_412 2 6 38) (accepted 38) P1-image
+  pub P2-whole : compile P2-tree (lent 17_412 5 15 73) ≡ leaves (lent 17_412 5 15 73) (accepted 73) P2-image
+  pub P2-room-left : compile P2-tree (lent 17_413 6 16 75) ≡ leaves (lent 17_413 6 16 75) (accepted 73) (P2-image ++ 0 ∷ 0 ∷ [])
+  pub P2-out-full : compile P2-tree (lent 17_412 5 15 72) ≡ leaves (lent 17_412 5 15 72) (refusal (OutFull 73)) (replicate 72 0)
+  pub P2-code-full : compile P2-tree (lent 17_412 4 15 73) ≡ leaves (lent 17_412 4 15 73) (refusal CodeFull) (replicate 73 0)
+  pub P2-spans-full : compile P2-tree (lent 17_412 5 14 73) ≡ leaves (lent 17_412 5 14 73) (refusal CodeFull) (replicate 73 0)
   -- 30 before 31, 1 before all
-  pub P2-code-and-out : compile P2-tree (lent 17_410 4 15 72) ≡ leaves (lent 17_410 4 15 72) (refusal CodeFull) (replicate 72 0)
-  pub P2-work-short : compile P2-tree (lent 17_409 4 14 72) ≡ leaves (lent 17_409 4 14 72) (refusal WorkShort) (replicate 72 0)
+  pub P2-code-and-out : compile P2-tree (lent 17_412 4 15 72) ≡ leaves (lent 17_412 4 15 72) (refusal CodeFull) (replicate 72 0)
+  pub P2-work-short : compile P2-tree (lent 17_411 4 14 72) ≡ leaves (lent 17_411 4 14 72) (refusal WorkShort) (replicate 72 0)
   -- f's JUMP_IF_FALSE goes to 12, its JUMP to the code's end
   pub P11-lands-on-end : first-targets (compile-tree first-limits P11-tree max-code) ≡ 12 ∷ 15 ∷ []
   -- the lookups in P2's image: its code is the last five bytes

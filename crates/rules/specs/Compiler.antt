@@ -1,4 +1,6 @@
 -- src/vm/compiler.rs: contexts, scopes, names, statements, expressions. A definition for each function of the Rust, under its name with `-` for `_`.
+-- antt wants a definition above its use, so the file goes from the Rust's end to its start: the structs, `impl CompilerCtx`, the small functions
+-- of `impl Compiler`, then `compile_expr`, `compile_function`, `compile_stmt`, `compile`. The arms of each `match` stand in the Rust's order.
 -- A list of locals, of contexts or of classes has the newest first; code, constants, captured variables and finished functions stand in order.
 use mathlib.Core.Bool.{Bool, true, false, not, _&&_}
 use mathlib.Core.Option.{Option, none, some}
@@ -166,7 +168,7 @@ the f s = ok (f s) s
 unfoldable pub update-ctx : (CompilerCtx → CompilerCtx) → Compile Unit
 update-ctx f s = ok tt (with-ctx s (f (s .ctx)))
 
--- ## Names
+-- ## `impl CompilerCtx`: names
 
 pub data Found : Type 0 where
   at-slot : ℕ → Found
@@ -242,6 +244,26 @@ resolve name span = do
   s ← get
   resolved (find-local name (s .ctx .locals)) (resolve-upvalue name span (s .ctx) (s .parents)) name span
 
+-- ## `impl Compiler` from `begin_ctx` on: what emits nothing
+
+unfoldable pub begin-ctx : CompilerCtx → Compile Unit
+begin-ctx ctx s = ok tt (with-ctxs s ctx (s .ctx ∷ s .parents))
+
+unfoldable pub finish : CompilerCtx → ObjectFunction
+finish c = record { name = c .name; arity = c .arity; upvalue-count = length (c .upvalues); chunk = c .chunk }
+
+unfoldable pub back-to : List CompilerCtx → Compile (ℕ × List Upvalue)
+back-to [] s = ok (0, []) s  -- never: there is always a context around a function
+back-to (parent ∷ above) s =
+    ok (length (s .functions), s .ctx .upvalues)
+    (record { ctx = parent; parents = above; class-ctx = s .class-ctx; functions = s .functions ++ (finish (s .ctx) ∷ []) })
+
+-- the finished function's number and its captured variables
+unfoldable pub end-ctx : Compile (ℕ × List Upvalue)
+end-ctx = do
+  parents ← the λ s. s .parents
+  back-to parents
+
 -- the loop of `declare_local`: a local of that name, looking down while the depth isn't below the current one
 unfoldable pub declared : (depth name : ℕ) → List Local → Bool
 declared depth name [] = false
@@ -266,50 +288,9 @@ initialize (local ∷ below) =
 unfoldable pub define-local : Compile Unit
 define-local = update-ctx λ c. with-locals c (initialize (c .locals))
 
-unfoldable pub is-global : Compile Bool
-is-global = the λ s. eqb (s .ctx .scope-depth) 0
-
-unfoldable pub begin-scope : Compile Unit
-begin-scope = update-ctx λ c. with-scope-depth c (c .scope-depth + 1)
-
-unfoldable pub begin-ctx : CompilerCtx → Compile Unit
-begin-ctx ctx s = ok tt (with-ctxs s ctx (s .ctx ∷ s .parents))
-
-unfoldable pub finish : CompilerCtx → ObjectFunction
-finish c = record { name = c .name; arity = c .arity; upvalue-count = length (c .upvalues); chunk = c .chunk }
-
-unfoldable pub back-to : List CompilerCtx → Compile (ℕ × List Upvalue)
-back-to [] s = ok (0, []) s  -- never: there is always a context around a function
-back-to (parent ∷ above) s =
-    ok (length (s .functions), s .ctx .upvalues)
-    (record { ctx = parent; parents = above; class-ctx = s .class-ctx; functions = s .functions ++ (finish (s .ctx) ∷ []) })
-
--- the finished function's number and its captured variables
-unfoldable pub end-ctx : Compile (ℕ × List Upvalue)
-end-ctx = do
-  parents ← the λ s. s .parents
-  back-to parents
-
--- how many code bytes the open functions have
-unfoldable pub open-code : Compiler → ℕ
-open-code s = length (s .ctx .chunk .ops) + of-all (s .parents)
-  where
-    of-all : List CompilerCtx → ℕ
-    of-all [] = 0
-    of-all (c ∷ cs) = length (c .chunk .ops) + of-all cs
-
-unfoldable pub push-class-ctx : (with-super : Bool) → Compile Unit
-push-class-ctx with-super s = ok tt (with-classes s (with-super ∷ s .class-ctx))
-
-unfoldable pub pop-class-ctx : Compile Unit
-pop-class-ctx s = ok tt (with-classes s (drop 1 (s .class-ctx)))
-
 -- where the next byte goes
 unfoldable pub code-length : Compile ℕ
 code-length = the λ s. length (s .ctx .chunk .ops)
-
-abbrev pub start-loop : Compile ℕ
-start-loop = code-length
 
 unfoldable pub set-u16 : List ℕ → ℕ → ℕ → List ℕ
 set-u16 ops at n = set (set ops at (n % 256)) (at + 1) (n / 256)
@@ -324,6 +305,29 @@ patch-jump offset-idx span = do
         constants = c .chunk .constants;
         spans = c .chunk .spans;
       })
+
+abbrev pub start-loop : Compile ℕ
+start-loop = code-length
+
+unfoldable pub begin-scope : Compile Unit
+begin-scope = update-ctx λ c. with-scope-depth c (c .scope-depth + 1)
+
+unfoldable pub is-global : Compile Bool
+is-global = the λ s. eqb (s .ctx .scope-depth) 0
+
+unfoldable pub push-class-ctx : (with-super : Bool) → Compile Unit
+push-class-ctx with-super s = ok tt (with-classes s (with-super ∷ s .class-ctx))
+
+unfoldable pub pop-class-ctx : Compile Unit
+pop-class-ctx s = ok tt (with-classes s (drop 1 (s .class-ctx)))
+
+-- how many code bytes the open functions have
+unfoldable pub open-code : Compiler → ℕ
+open-code s = length (s .ctx .chunk .ops) + of-all (s .parents)
+  where
+    of-all : List CompilerCtx → ℕ
+    of-all [] = 0
+    of-all (c ∷ cs) = length (c .chunk .ops) + of-all cs
 
 -- ## Small questions about the tree and the state
 
@@ -374,11 +378,9 @@ some-methods (method _ _ _) = true
 unfoldable pub fun-name : Fun → ℕ
 fun-name (fun name params body) = name
 
--- ## What emits, under the code limit
+-- ## `impl Compiler`: what emits, under the code limit
 
 module _ (code-limit : ℕ) where
-  -- ## Emitting
-
   unfoldable pub emit-u8 : ℕ → Span → Compile Unit
   emit-u8 byte span = do
     used ← the open-code
@@ -490,7 +492,7 @@ module _ (code-limit : ℕ) where
   unfoldable pub define-global : (name : ℕ) → Span → Compile Unit
   define-global name span = emit-op-constant op.DEFINE-GLOBAL (CS name) span
 
-  -- ## Expressions
+  -- ## `compile_expr`, its longer arms first
 
   unfoldable pub compile-literal : ExprLiteral → Span → Compile Unit
   compile-literal (LitBool true) span = emit-op op.TRUE span
@@ -595,7 +597,7 @@ module _ (code-limit : ℕ) where
       compile-expr e
       compile-exprs es
 
-  -- ## Statements
+  -- ## `compile_function` and `compile_stmt`, their longer arms first
 
   -- `match value { Some(value) => .., None => NIL }`
   unfoldable pub compile-value : Option Expr → Span → Compile Unit
@@ -777,7 +779,7 @@ module _ (code-limit : ℕ) where
       emit-op-constant op.METHOD (CS (fun-name f)) span
       compile-methods methods
 
-  -- ## The script
+  -- ## `compile`
 
   unfoldable pub compile-script : Stmts → Compile Unit
   compile-script stmts = do

@@ -8,7 +8,7 @@ pub record Limits : Type 0 where
   pub table-bytes : ℕ  -- the published need of the table area
 
 abbrev pub first-limits : Limits
-first-limits = record { depth = 128; funs = 16; table-bytes = 139_280 }
+first-limits = record { depth = 128; funs = 16; table-bytes = 139_296 }
 
 abbrev pub max-tree : ℕ
 max-tree = 1_048_576
