@@ -1,0 +1,2 @@
+-- Laws of what the output holds.
+pub mod Padding

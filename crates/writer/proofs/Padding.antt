@@ -1,0 +1,160 @@
+-- Bytes put one after the other: a byte, and what two calls come to.
+use mathlib.Core.Path.{_≡_, refl, sym, ap, _∙_, subst}
+use mathlib.Core.List.{List, [], _∷_, _++_, append-assoc, append-nil}
+use Prim.Native.Nat.{ℕ, zero, suc, _+_, _-_, _*_, _/_, _%_, _≤_, _<_}
+use native.Mathlib.Omega.{arith}
+use lib.ListN.{length, length-append, length-set, set, replicate, getD}
+use Rattle.rules.specs.Base.{le}
+use Rattle.rules.specs.Chunk.{Run}
+use Rattle.rules.specs.Image.{join, run-bytes}
+use Rattle.writer.specs.Put.{padded, Put, run-at, runs-in, bytes-in}
+
+pub length-padded : (room : ℕ) (bs : List ℕ) → length (padded room bs) ≡ room
+unfolding padded
+length-padded zero bs = refl
+length-padded (suc room) [] = ap suc (length-padded room [])
+length-padded (suc room) (b ∷ bs) = ap suc (length-padded room bs)
+
+-- a byte behind the last, where there is room
+set-padded : (room : ℕ) (bs : List ℕ) (b : ℕ) → length bs < room → set (padded room bs) (length bs) b ≡ padded room (bs ++ (b ∷ []))
+unfolding padded
+set-padded zero bs b l = absurd (omega arith)
+set-padded (suc room) [] b l = refl
+set-padded (suc room) (x ∷ bs) b l = ap (λ (r : List ℕ). x ∷ r) (set-padded room bs b (omega arith))
+
+-- where there is none, what comes after is not there
+full-padded : (room : ℕ) (bs more : List ℕ) → room ≤ length bs → padded room (bs ++ more) ≡ padded room bs
+unfolding padded
+full-padded zero bs more l = refl
+full-padded (suc room) [] more l = absurd (omega arith)
+full-padded (suc room) (x ∷ bs) more l = ap (λ (r : List ℕ). x ∷ r) (full-padded room bs more (omega arith))
+
+zeros-padded : (room : ℕ) → padded room [] ≡ replicate room 0
+unfolding padded
+zeros-padded zero = refl
+zeros-padded (suc room) = ap (λ (r : List ℕ). 0 ∷ r) (zeros-padded room)
+
+-- where all the bytes fit
+pub whole-padded : (room : ℕ) (bs : List ℕ) → length bs ≤ room → padded room bs ≡ bs ++ replicate (room - length bs) 0
+unfolding padded
+whole-padded zero [] l = refl
+whole-padded zero (x ∷ bs) l = absurd (omega arith)
+whole-padded (suc room) [] l = zeros-padded (suc room) ∙ ap (λ (k : ℕ). replicate k 0) (no-less (suc room))
+  where
+    no-less : (a : ℕ) → a ≡ a - 0
+    no-less a = omega arith
+whole-padded (suc room) (x ∷ bs) l =
+    ap (λ (r : List ℕ). x ∷ r) (whole-padded room bs (omega arith) ∙ ap (λ (k : ℕ). bs ++ replicate k 0) (fewer room (length bs)))
+  where
+    fewer : (a b : ℕ) → a - b ≡ suc a - suc b
+    fewer a b = omega arith
+
+pub put-byte : (out out′ : List ℕ) (at b r : ℕ) → at < length out → out′ ≡ set out at b → r ≡ at + 1 → Put out out′ at (b ∷ []) r
+put-byte out out′ at b r l e n =
+    record {
+      next = n;
+      size = ap length e ∙ length-set out at b;
+      holds =
+          λ bs k h.
+          e ∙ ap (λ (o : List ℕ). set o at b) h ∙ ap (λ (i : ℕ). set (padded (length out) bs) i b) (sym k)
+          ∙ set-padded (length out) bs b (omega arith);
+    }
+
+pub put-none : (out : List ℕ) (at b r : ℕ) → length out ≤ at → r ≡ at + 1 → Put out out at (b ∷ []) r
+put-none out at b r l n =
+    record { next = n; size = refl; holds = λ bs k h. h ∙ sym (full-padded (length out) bs (b ∷ []) (omega arith)) }
+
+-- one call after the other
+pub put-then : {out mid out′ : List ℕ} {at m r : ℕ} {a b : List ℕ} → Put out mid at a m → Put mid out′ m b r → Put out out′ at (a ++ b) r
+put-then {out} {mid} {out′} {at} {m} {r} {a} {b} p q =
+    record {
+      next = omega (arith, p .next, q .next, length-append a b);
+      size = q .size ∙ p .size;
+      holds =
+          λ bs k h.
+          let here : mid ≡ padded (length mid) (bs ++ a) = p .holds bs k h ∙ ap (λ (n : ℕ). padded n (bs ++ a)) (sym (p .size)) in
+          let l : length (bs ++ a) ≡ m = omega (arith, length-append bs a, p .next) in
+          q .holds (bs ++ a) l here ∙ ap (λ (n : ℕ). padded n ((bs ++ a) ++ b)) (p .size) ∙ ap (padded (length out)) (append-assoc bs a b);
+    }
+
+-- nothing put
+pub put-nothing : (out : List ℕ) (at : ℕ) → Put out out at [] at
+put-nothing out at =
+    record {
+      next = omega arith;
+      size = refl;
+      holds = λ bs k h. h ∙ ap (padded (length out)) (sym (append-nil bs));
+    }
+
+-- ## A loop: of `all`, what is left is still to be put
+
+pub record Putting (out out′ : List ℕ) (at next : ℕ) (all left : List ℕ) : Type 0 where
+  pub done : List ℕ
+  pub is : all ≡ done ++ left
+  pub put : Put out out′ at done next
+
+pub putting-start : (out : List ℕ) (at : ℕ) (all : List ℕ) → Putting out out at at all all
+putting-start out at all = record { done = []; is = refl; put = put-nothing out at }
+
+pub putting-step : {out mid out′ : List ℕ} {at m next : ℕ} {all more left now : List ℕ} → Putting out mid at m all now → now ≡ more ++ left →
+    Put mid out′ m more next → Putting out out′ at next all left
+putting-step {all = all} {more = more} {left = left} p e q =
+    record {
+      done = p .done ++ more;
+      is = p .is ∙ ap (λ (l : List ℕ). p .done ++ l) e ∙ sym (append-assoc (p .done) more left);
+      put = put-then (p .put) q;
+    }
+
+pub putting-end : {out out′ : List ℕ} {at next : ℕ} {all left : List ℕ} → Putting out out′ at next all left → left ≡ [] → Put out out′ at all next
+putting-end {out} {out′} {at} {next} {all} p e =
+    subst (λ (l : List ℕ). Put out out′ at l next) (sym (p .is ∙ ap (λ (l : List ℕ). p .done ++ l) e ∙ append-nil (p .done))) (p .put)
+
+-- ## What is left of each kind
+
+pub le-more : (left m : ℕ) → 0 < left → le left m ≡ (m % 256 ∷ []) ++ le (left - 1) (m / 256)
+unfolding le
+le-more zero m l = absurd (omega arith)
+le-more (suc left) m l = ap (λ (k : ℕ). m % 256 ∷ le k (m / 256)) (less left)
+  where
+    less : (k : ℕ) → k ≡ suc k - 1
+    less k = omega arith
+
+pub le-none : (left m : ℕ) → left ≡ 0 → le left m ≡ []
+unfolding le
+le-none left m e = rw e
+
+pub length-le : (count n : ℕ) → length (le count n) ≡ count
+unfolding le
+length-le zero n = refl
+length-le (suc count) n = ap suc (length-le count (n / 256))
+
+pub bytes-more : (code : List ℕ) (from left : ℕ) → 0 < left → bytes-in code from left ≡ (getD code from 0 ∷ []) ++ bytes-in code (from + 1) (left - 1)
+unfolding bytes-in
+bytes-more code from zero l = absurd (omega arith)
+bytes-more code from (suc left) l = ap (λ (k : ℕ). getD code from 0 ∷ bytes-in code (from + 1) k) (less left)
+  where
+    less : (k : ℕ) → k ≡ suc k - 1
+    less k = omega arith
+
+pub bytes-none : (code : List ℕ) (from left : ℕ) → left ≡ 0 → bytes-in code from left ≡ []
+unfolding bytes-in
+bytes-none code from left e = rw e
+
+pub runs-more : (spans : List ℕ) (from left : ℕ) → 0 < left →
+    join run-bytes (runs-in spans from left)
+    ≡ run-bytes (run-at spans from) ++ join run-bytes (runs-in spans (from + 1) (left - 1))
+unfolding runs-in join
+runs-more spans from zero l = absurd (omega arith)
+runs-more spans from (suc left) l =
+    ap (λ (k : ℕ). run-bytes (run-at spans from) ++ join run-bytes (runs-in spans (from + 1) k)) (less left)
+  where
+    less : (k : ℕ) → k ≡ suc k - 1
+    less k = omega arith
+
+pub runs-none : (spans : List ℕ) (from left : ℕ) → left ≡ 0 → join run-bytes (runs-in spans from left) ≡ []
+unfolding runs-in join
+runs-none spans from left e = rw e
+
+pub length-run : (run : Run) → length (run-bytes run) ≡ 11
+unfolding run-bytes le
+length-run run = refl

@@ -1,0 +1,23 @@
+-- `put_mark`: two bytes.
+use Rattle.writer.proofs.Padding.{put-then}
+use borrow.Author.Needs.{needs}
+use Rattle.writer.proofs.put_mark.Statement.{statement}
+use Rattle.writer.proofs.put_mark.Tie as tie
+use Rattle.writer.proofs.put_mark.Reads as reads
+use Rattle.writer.proofs.put_mark.Lts as lts
+use Rattle.writer.proofs.put_u8.Reads as put-u8-reads
+
+put-u8-requires : tie.Need-put-u8-requires
+put-u8-requires c κs = search needs
+
+put-u8-requires-2 : tie.Need-put-u8-requires-2
+put-u8-requires-2 c κs = search needs
+
+same-length : tie.Need-same-length
+same-length c = search needs
+
+returns : tie.Need-returns
+returns c = put-then (c .before .before .before .before .before .before .put-u8 .ensures) (c .before .before .put-u82 .ensures)
+
+pub put-mark-spec : {M : Type 1} → statement M
+put-mark-spec = tie.close (tie.spec put-u8-requires put-u8-requires-2 same-length returns)

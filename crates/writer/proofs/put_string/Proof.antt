@@ -1,0 +1,27 @@
+-- `put_string`: the mark and the content.
+use Rattle.rules.specs.Image.{constant-bytes}
+use Rattle.writer.proofs.Padding.{put-then}
+use native.Mathlib.Omega.{arith}
+use borrow.Author.Needs.{needs}
+use Rattle.writer.proofs.put_string.Statement.{statement}
+use Rattle.writer.proofs.put_string.Tie as tie
+use Rattle.writer.proofs.put_string.Reads as reads
+use Rattle.writer.proofs.put_string.Lts as lts
+use Rattle.writer.proofs.put_le.Reads as put-le-reads
+use Rattle.writer.proofs.put_mark.Reads as put-mark-reads
+
+put-mark-requires : tie.Need-put-mark-requires
+put-mark-requires c κs = search needs
+
+put-le-requires : tie.Need-put-le-requires
+put-le-requires c κs = omega (arith, c .before .before .before .put-mark .ensures .next)
+
+same-length : tie.Need-same-length
+same-length c = search needs
+
+returns : tie.Need-returns
+unfolding constant-bytes
+returns c = put-then (c .before .before .before .before .before .before .put-mark .ensures) (c .before .before .put-le .ensures)
+
+pub put-string-spec : {M : Type 1} → statement M
+put-string-spec = tie.close (tie.spec put-mark-requires put-le-requires same-length returns)

@@ -1,0 +1,108 @@
+//! Checks of this program itself.
+
+use crate::answer::{answer, code_limit, peak};
+use crate::checker;
+use crate::examples::{examples, Told, P2_IMAGE};
+use crate::files::{Answer, Case};
+use crate::images;
+use crate::kinds::{damaged, generate};
+use crate::limits::limits;
+use crate::pack::{pack, pack_cases, pack_images, unpack, unpack_cases, unpack_images};
+use crate::random::Rng;
+use crate::vectors::checked;
+
+const RANDOM: usize = 20_000;
+
+pub fn run() {
+    examples_hold();
+    let limits: Vec<(Case, Answer)> = limits()
+        .into_iter()
+        .map(|limit| {
+            let answer = answer(&limit.case);
+            assert_eq!(answer.number, limit.expected, "{}", limit.label);
+            (limit.case, answer)
+        })
+        .collect();
+    println!("limits: {} cases have the number that they must have", limits.len());
+
+    let mut cases = generate("random", 1, RANDOM, 3_000).unwrap();
+    cases.extend(generate("budget", 2, RANDOM, 1_000).unwrap());
+    let mut all: Vec<(Case, Answer)> = cases.into_iter().map(|case| (case.clone(), answer(&case))).collect();
+    all.extend(limits);
+    peaks_hold(&all);
+    images_hold(&all);
+    packing_holds(&all);
+}
+
+fn hex(text: &str) -> Vec<u8> {
+    let digits: Vec<u8> = text.bytes().filter(u8::is_ascii_hexdigit).collect();
+    digits.chunks(2).map(|pair| u8::from_str_radix(std::str::from_utf8(pair).unwrap(), 16).unwrap()).collect()
+}
+
+/// P1 to P12 give what document 01 says.
+fn examples_hold() {
+    for example in examples() {
+        let answer = answer(&Case::plenty(example.tree.bytes()));
+        match example.told {
+            Told::Refused(number) => assert_eq!(answer.number, number, "{}", example.label),
+            Told::Codes(codes) => {
+                let functions = checker::read(&answer.image).expect("an image");
+                let given: Vec<Vec<u8>> = functions.into_iter().map(|function| function.code).collect();
+                let told: Vec<Vec<u8>> = codes.iter().map(|code| hex(code)).collect();
+                assert_eq!(given, told, "{}", example.label);
+            }
+        }
+    }
+    let [p1, p2] = [0, 1].map(|place| Case::plenty(examples()[place].tree.bytes()));
+    assert_eq!(p1.tree, hex("54 52 00 00 00 00"));
+    assert_eq!(p2.tree.len(), 35);
+    assert_eq!(answer(&p2).image, hex(P2_IMAGE));
+    assert_eq!(answer(&p2).image.len(), 73);
+    let short = answer(&Case { output: 72, ..p2 });
+    assert_eq!((short.number, short.length), (31, 73));
+    println!("P1 to P12: as in document 01");
+}
+
+/// The counted peak is the one read off the image, and is just the code that is needed.
+fn peaks_hold(all: &[(Case, Answer)]) {
+    let mut accepted = 0;
+    for (case, answer) in all.iter().filter(|(_, answer)| answer.number == 0) {
+        let counted = peak(&case.tree);
+        assert_eq!(Some(counted), checker::peak(&answer.image), "{:02X?}", case.tree);
+        assert!(counted <= code_limit(case) as usize);
+        accepted += 1;
+    }
+    let mut full = 0;
+    for (case, _) in all.iter().filter(|(_, answer)| answer.number == 30) {
+        assert!(peak(&case.tree) > code_limit(case) as usize || peak(&case.tree) == 262_144);
+        full += 1;
+    }
+    println!("code limit: {accepted} accepted images have the counted peak, {full} cases are past the limit");
+}
+
+/// The checker accepts what the compiler gives, and its own writer is the image writer's match.
+fn images_hold(all: &[(Case, Answer)]) {
+    let accepted = all.iter().filter(|(_, answer)| answer.number == 0);
+    let mut count = 0;
+    for (_, answer) in accepted {
+        assert!(checker::check(&answer.image).is_some());
+        assert_eq!(images::written(&checker::read(&answer.image).unwrap()), answer.image);
+        count += 1;
+    }
+    println!("checker: accepts {count} images of the compiler");
+}
+
+/// What is packed comes back.
+fn packing_holds(all: &[(Case, Answer)]) {
+    assert!(unpack_cases(&pack_cases(all)).unwrap() == all);
+    let accepted = all.iter().filter(|(_, answer)| answer.number == 0);
+    let images: Vec<Vec<u8>> = accepted.map(|(_, answer)| answer.image.clone()).collect();
+    let images: Vec<_> = images::images(3, 2_000, 2_000, &images).into_iter().map(checked).collect();
+    assert!(unpack_images(&pack_images(&images)).unwrap() == images);
+    let mut rng = Rng::new(4);
+    for _ in 0..2_000 {
+        let bytes = damaged(&mut rng, 3_000);
+        assert!(unpack(&pack(&bytes), bytes.len()).unwrap() == bytes);
+    }
+    println!("packing: {} cases and {} images come back", all.len(), images.len());
+}

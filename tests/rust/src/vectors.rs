@@ -1,0 +1,188 @@
+//! The committed vectors, and what they cover.
+
+use std::collections::{BTreeMap, BTreeSet};
+use std::fs;
+use std::io;
+use std::path::Path;
+
+use crate::answer::answer;
+use crate::checker;
+use crate::files::{Answer, Case};
+use crate::images;
+use crate::kinds::generate;
+use crate::limits::{limits, Limit};
+use crate::pack::{pack_cases, pack_images, Checked};
+
+const SEED: u64 = 20_301;
+const NUMBERS: [u32; 21] = [0, 2, 3, 4, 5, 10, 11, 12, 13, 14, 15, 16, 17, 18, 19, 20, 21, 22, 23, 30, 31];
+const MARKS: usize = 19;
+const OPCODES: u8 = 40;
+
+type Answered = (Case, Answer);
+
+fn answered(cases: Vec<Case>) -> Vec<Answered> {
+    cases.into_iter().map(|case| (case.clone(), answer(&case))).collect()
+}
+
+fn made(kind: &str, seed: u64, count: usize, most: usize) -> Vec<Answered> {
+    answered(generate(kind, seed, count, most).expect("a known kind"))
+}
+
+/// The first so many of each answer number that is asked for.
+fn first_of_each(cases: Vec<Answered>, count: impl Fn(u32) -> usize) -> Vec<Answered> {
+    let mut taken: BTreeMap<u32, usize> = BTreeMap::new();
+    let mut take = |number| {
+        let taken = taken.entry(number).or_insert(0);
+        *taken += 1;
+        *taken <= count(number)
+    };
+    cases.into_iter().filter(|(_, answer)| take(answer.number)).collect()
+}
+
+/// Trees for a reader. Every eleventh truncation and every 1,801st change of a byte: both strides are prime, so that
+/// they do not keep step with the records.
+fn tree_cases(limits: &[(Limit, Answer)]) -> Vec<Answered> {
+    let mut cases = made("truncated", 11, usize::MAX, usize::MAX);
+    cases.extend(made("flipped", 1_801, usize::MAX, usize::MAX));
+    let damaged = made("damaged", SEED, 6_000, 400);
+    cases.extend(first_of_each(damaged, |number| if number == 3 { 160 } else { 4 }));
+    let random = made("random", SEED + 1, 6_000, 500);
+    cases.extend(first_of_each(random, |number| if number == 5 { 8 } else { 3 }));
+    cases.extend(of_limits(limits, |number| (2..=5).contains(&number), 2));
+    cases
+}
+
+/// Trees for the compiler: random ones, and budgets.
+fn compile_cases(limits: &[(Limit, Answer)]) -> Vec<Answered> {
+    let mut cases = made("small", 1_999, 120, usize::MAX);
+    let random = made("random", SEED + 2, 20_000, 700);
+    cases.extend(first_of_each(random, |number| if number == 0 { 45 } else { 10 }));
+    let large = made("random", SEED + 3, 2_000, 6_000).into_iter().filter(|(case, _)| case.tree.len() > 2_500);
+    cases.extend(first_of_each(large.collect(), |number| if number == 0 { 3 } else { 1 }));
+    let budget = made("budget", SEED + 4, 2_000, 320);
+    cases.extend(first_of_each(budget, |number| if number >= 30 || number == 0 { 32 } else { 4 }));
+    cases.extend(of_limits(limits, |number| (13..=18).contains(&number), 2));
+    cases
+}
+
+/// The first few limit cases of each answer number.
+fn of_limits(limits: &[(Limit, Answer)], wanted: impl Fn(u32) -> bool, count: usize) -> Vec<Answered> {
+    let cases = limits.iter().map(|(limit, answer)| (limit.case.clone(), answer.clone())).collect();
+    first_of_each(cases, |number| if wanted(number) { count } else { 0 })
+}
+
+/// Images for the checker: by hand and random, damaged or not; the limits' images; long jumps, also one byte off.
+fn image_cases(limits: &[(Limit, Answer)]) -> Vec<Checked> {
+    let accepted: Vec<Vec<u8>> = made("random", SEED + 5, 20_000, 500)
+        .into_iter()
+        .filter(|(_, answer)| answer.number == 0)
+        .map(|(_, answer)| answer.image)
+        .collect();
+    let mut images = images::images(SEED + 6, 750, 420, &accepted);
+    images.extend(images::by_hand().into_iter().filter(|image| image.len() > 420));
+    for (limit, answer) in limits.iter().filter(|(_, answer)| answer.number == 0) {
+        if limit.label.ends_with("65535") {
+            images.extend(images::with_moved_jumps(&answer.image));
+        } else {
+            images.push(answer.image.clone());
+        }
+    }
+    images.into_iter().map(checked).collect()
+}
+
+pub fn checked(image: Vec<u8>) -> Checked {
+    match checker::check(&image) {
+        Some(opcodes) => (image, 0, opcodes.len() as u32),
+        None => (image, 40, 0),
+    }
+}
+
+/// Writes the four files and prints what they cover; an error where something is not covered.
+pub fn write(folder: &str) -> io::Result<()> {
+    let limits: Vec<(Limit, Answer)> = limits()
+        .into_iter()
+        .map(|limit| {
+            let answer = answer(&limit.case);
+            (limit, answer)
+        })
+        .collect();
+    let tree = tree_cases(&limits);
+    let compile = compile_cases(&limits);
+    let limit = limits.iter().map(|(limit, answer)| (limit.case.clone(), answer.clone())).collect::<Vec<_>>();
+    let images = image_cases(&limits);
+
+    fs::create_dir_all(folder)?;
+    let files = [
+        ("tree", pack_cases(&tree)),
+        ("compile", pack_cases(&compile)),
+        ("limits", pack_cases(&limit)),
+        ("images", pack_images(&images)),
+    ];
+    for (name, bytes) in &files {
+        fs::write(Path::new(folder).join(format!("{name}.pack")), bytes)?;
+    }
+    let sizes: Vec<String> = files.iter().map(|(name, bytes)| format!("{name}.pack {}", bytes.len())).collect();
+    println!("bytes: {}", sizes.join(", "));
+    print_numbers("tree.pack", tree.iter().map(|(_, answer)| answer.number));
+    print_numbers("compile.pack", compile.iter().map(|(_, answer)| answer.number));
+    print_numbers("limits.pack", limit.iter().map(|(_, answer)| answer.number));
+    print_numbers("images.pack", images.iter().map(|(_, number, _)| *number));
+    let all: Vec<&Answered> = tree.iter().chain(&compile).chain(&limit).collect();
+    let complete = [covers_numbers(&all), covers_opcodes(&all), covers_marks(&all), covers_limits(&limits)];
+    if complete.contains(&false) {
+        return Err(io::Error::other("the vectors do not cover everything"));
+    }
+    Ok(())
+}
+
+fn print_numbers(file: &str, numbers: impl Iterator<Item = u32>) {
+    let counts = counted(numbers);
+    let total: usize = counts.values().sum();
+    println!("{file}: {total} ({})", listed(&counts));
+}
+
+fn counted<T: Ord>(items: impl Iterator<Item = T>) -> BTreeMap<T, usize> {
+    let mut counts = BTreeMap::new();
+    items.for_each(|item| *counts.entry(item).or_insert(0) += 1);
+    counts
+}
+
+fn listed<T: std::fmt::Display>(counts: &BTreeMap<T, usize>) -> String {
+    counts.iter().map(|(item, count)| format!("{item}: {count}")).collect::<Vec<_>>().join(", ")
+}
+
+fn covers_numbers(all: &[&Answered]) -> bool {
+    let counts = counted(all.iter().map(|(_, answer)| answer.number));
+    println!("answer numbers, {} of {}: {}", counts.len(), NUMBERS.len(), listed(&counts));
+    NUMBERS.iter().all(|number| counts.contains_key(number))
+}
+
+fn covers_opcodes(all: &[&Answered]) -> bool {
+    let accepted = all.iter().filter(|(_, answer)| answer.number == 0);
+    // What the compiler gives, the checker accepts.
+    let opcodes = accepted.flat_map(|(_, answer)| checker::check(&answer.image).expect("a sound image"));
+    let counts = counted(opcodes);
+    println!("opcodes, {} of {OPCODES}: {}", counts.len(), listed(&counts));
+    (0..OPCODES).all(|opcode| counts.contains_key(&opcode))
+}
+
+fn covers_marks(all: &[&Answered]) -> bool {
+    let marks = all.iter().filter_map(|(case, _)| plain::read(&case.tree).ok()).flatten();
+    let counts = counted(marks.map(|mark| String::from_utf8_lossy(&mark).into_owned()));
+    println!("record kinds, {} of {MARKS}: {}", counts.len(), listed(&counts));
+    counts.len() == MARKS
+}
+
+fn covers_limits(limits: &[(Limit, Answer)]) -> bool {
+    let mut complete = true;
+    println!("limits, {}:", limits.len());
+    for (limit, answer) in limits {
+        println!("  {}: {}", limit.label, answer.number);
+        if answer.number != limit.expected {
+            println!("  expected {} there", limit.expected);
+            complete = false;
+        }
+    }
+    let labels: BTreeSet<&str> = limits.iter().map(|(limit, _)| limit.label.as_str()).collect();
+    complete && labels.len() == limits.len()
+}
