@@ -6,8 +6,10 @@ ghost use Prim.Native.Nat.{_+_, _*_, _≤_, _<_};
 ghost use lib.ListN.{length, getD};
 ghost use Rattle.rules.specs.Base.{le};
 ghost use Rattle.rules.specs.Chunk.{CN, CS, CF};
-ghost use Rattle.rules.specs.Image.{join, constant-bytes, run-bytes};
-ghost use Rattle.writer.specs.Put.{Put, run-of, runs-in, bytes-in};
+ghost use Rattle.rules.specs.Image.{join, constant-bytes, run-bytes, function-bytes};
+ghost use Rattle.rules.specs.Compiler as rules;
+ghost use Rattle.state.specs.Layout.{levels, constantOf, runAt, codeFrom, runsFrom, codeEnd, runsEnd, ctxAt, Wf, Coded};
+ghost use Rattle.writer.specs.Put.{Put, stretch, byte-at, constant-at, run-of, head-bytes};
 
 // One byte.
 pub fn put_u8(out: &mut [u8], at: usize, b: u8) -> usize
@@ -86,7 +88,7 @@ pub fn put_run(out: &mut [u8], at: usize, start: u32, end: u32, count: u32) -> u
 // The runs from number `from` on, three words each.
 pub fn put_runs(out: &mut [u8], at: usize, spans: &[u32], from: usize, count: usize) -> usize
     requires { ⌜ ((from + count) * 3 ≤ length (now spans)) × (at + count * 11 ≤ 1152921504606846976) ⌝ }
-    ensures { λ r. ⌜ Put (now (out .entry)) (now (out .exit)) at (join run-bytes (runs-in (now (spans .entry)) from count)) r ⌝ }
+    ensures { λ r. ⌜ Put (now (out .entry)) (now (out .exit)) at (join run-bytes (stretch (runAt (now (spans .entry))) from count)) r ⌝ }
 {
     let mut next = at;
     let mut i = from;
@@ -102,13 +104,43 @@ pub fn put_runs(out: &mut [u8], at: usize, spans: &[u32], from: usize, count: us
 // The bytes of a stretch of code.
 pub fn put_code(out: &mut [u8], at: usize, code: &[u8], from: usize, count: usize) -> usize
     requires { ⌜ (from + count ≤ length (now code)) × (at + count ≤ 1152921504606846976) ⌝ }
-    ensures { λ r. ⌜ Put (now (out .entry)) (now (out .exit)) at (bytes-in (now (code .entry)) from count) r ⌝ }
+    ensures { λ r. ⌜ Put (now (out .entry)) (now (out .exit)) at (stretch (byte-at (now (code .entry))) from count) r ⌝ }
 {
     let mut next = at;
     let mut i = from;
     let mut left = count;
     while 0 < left {
         next = put_u8(out, next, code[i]);
+        i += 1;
+        left -= 1;
+    }
+    next
+}
+
+// A constant, by its word.
+pub fn put_constant(out: &mut [u8], at: usize, w: u64) -> usize
+    requires { ⌜ at + 10 ≤ 1152921504606846976 ⌝ }
+    ensures { λ r. ⌜ Put (now (out .entry)) (now (out .exit)) at (constant-bytes (constantOf w)) r ⌝ }
+{
+    if w < 9223372036854775808 {
+        return put_number(out, at, w);
+    }
+    if w < 9223372041149743104 {
+        return put_string(out, at, w - 9223372036854775808);
+    }
+    put_function_number(out, at, w - 9223372041149743104)
+}
+
+// The constants whose words stand from `from` on.
+pub fn put_constants(out: &mut [u8], at: usize, t: &[u64], from: usize, count: usize) -> usize
+    requires { ⌜ (from + count ≤ length (now t)) × (at + count * 10 ≤ 1152921504606846976) ⌝ }
+    ensures { λ r. ⌜ Put (now (out .entry)) (now (out .exit)) at (join constant-bytes (stretch (constant-at (now (t .entry))) from count)) r ⌝ }
+{
+    let mut next = at;
+    let mut i = from;
+    let mut left = count;
+    while 0 < left {
+        next = put_constant(out, next, t[i]);
         i += 1;
         left -= 1;
     }
