@@ -9,7 +9,7 @@ use Rattle.rules.specs.Chunk.{Run, Constant, CN, CS, CF}
 use Rattle.rules.specs.Image.{join, run-bytes, constant-bytes}
 use borrow.Author.Tests.{lt-ltb, le-ltb}
 use Rattle.state.specs.Layout.{constantOf}
-use Rattle.writer.specs.Put.{padded, Put, stretch}
+use Rattle.writer.specs.Put.{padded, Put, stretch, head-bytes}
 
 pub length-padded : (room : ℕ) (bs : List ℕ) → length (padded room bs) ≡ room
 unfolding padded
@@ -174,3 +174,28 @@ function-word w g = rw (le-ltb w (2 ^ 63) (omega arith), le-ltb w (2 ^ 63 + 2 ^ 
 
 pub as-constant : {out out′ : List ℕ} {at r : ℕ} {a b : Constant} → a ≡ b → Put out out′ at (constant-bytes b) r → Put out out′ at (constant-bytes a) r
 as-constant {out} {out′} {at} {r} {a} {b} e p = subst (λ (v : Constant). Put out out′ at (constant-bytes v) r) (sym e) p
+
+-- where a number and a row of records end
+pub le-next : {out out′ : List ℕ} {at r : ℕ} (count n : ℕ) → Put out out′ at (le count n) r → r ≡ at + count
+le-next {at = at} count n p = p .next ∙ ap (λ (k : ℕ). at + k) (length-le count n)
+
+pub constants-next : {out out′ : List ℕ} {at r : ℕ} (g : ℕ → Constant) (from count : ℕ) → Put out out′ at (join constant-bytes (stretch g from count)) r → r ≤ at + count * 10
+unfolding join stretch
+constants-next {at = at} g from count p = omega (arith, p .next, short g from count)
+  where
+    short : (g : ℕ → Constant) (from count : ℕ) → length (join constant-bytes (stretch g from count)) ≤ count * 10
+    short g from zero = omega arith
+    short g from (suc count) =
+        omega (arith, length-append (constant-bytes (g from)) (join constant-bytes (stretch g (from + 1) count)), constant-short (g from), short g (from + 1) count)
+
+pub runs-next : {out out′ : List ℕ} {at r : ℕ} (g : ℕ → Run) (from count : ℕ) → Put out out′ at (join run-bytes (stretch g from count)) r → r ≡ at + count * 11
+unfolding join stretch
+runs-next {at = at} g from count p = omega (arith, p .next, long g from count)
+  where
+    long : (g : ℕ → Run) (from count : ℕ) → length (join run-bytes (stretch g from count)) ≡ count * 11
+    long g from zero = omega arith
+    long g from (suc count) = omega (arith, length-append (run-bytes (g from)) (join run-bytes (stretch g (from + 1) count)), length-run (g from), long g (from + 1) count)
+
+pub head-next : {out out′ : List ℕ} {at r : ℕ} (a b c d e f : ℕ) → Put out out′ at (head-bytes a b c d e f) r → r ≡ at + 17
+unfolding head-bytes le
+head-next a b c d e f p = p .next

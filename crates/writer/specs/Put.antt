@@ -1,11 +1,12 @@
 -- What the output holds while the image is written: its bytes as far as there is room, then zeros.
 use mathlib.Core.Path.{_≡_}
 use mathlib.Core.List.{List, [], _∷_, _++_}
-use Prim.Native.Nat.{ℕ, zero, suc, _+_}
+use Prim.Native.Nat.{ℕ, zero, suc, _+_, _*_, _≤_, _<_}
 use lib.ListN.{length, getD}
 use Rattle.rules.specs.Base.{le}
 use Rattle.rules.specs.Chunk.{Run, Constant}
-use Rattle.state.specs.Layout.{constantOf}
+use Rattle.rules.specs.Limits.{max-code}
+use Rattle.state.specs.Layout.{levels, constantOf, codeFrom, codeEnd, runsFrom, runsEnd, Wf}
 
 unfoldable pub padded : (room : ℕ) → List ℕ → List ℕ
 padded zero bs = []
@@ -38,3 +39,14 @@ run-of start end count = record { span = record { start = start; end = end }; co
 unfoldable pub head-bytes : (name arity upvalues constants runs code : ℕ) → List ℕ
 head-bytes name arity upvalues constants runs code =
     0x46 ∷ 0x4E ∷ le 2 name ++ le 1 arity ++ le 2 upvalues ++ le 2 constants ++ le 4 runs ++ le 4 code
+
+-- a level whose function can be put: its words, its code and its runs lie within the lent areas
+pub record Closed (t code spans : List ℕ) (l : ℕ) : Type 0 where
+  pub low : l < levels
+  pub wf : Wf t
+  pub code-order : codeFrom t l ≤ codeEnd t
+  pub code-room : codeEnd t ≤ length code
+  pub code-small : codeEnd t ≤ max-code
+  pub runs-order : runsFrom t l ≤ runsEnd t
+  pub runs-room : runsEnd t * 3 ≤ length spans
+  pub runs-few : runsEnd t ≤ codeEnd t

@@ -59,4 +59,3 @@ put-code-spec =
     loop-again
     same-length
     returns)
-

@@ -50,4 +50,3 @@ put-constant-spec =
     put-function-number-requires
     same-length-3
     returns-3)
-

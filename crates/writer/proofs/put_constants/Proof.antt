@@ -64,4 +64,3 @@ put-constants-spec =
     loop-again
     same-length
     returns)
-

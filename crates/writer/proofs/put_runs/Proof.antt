@@ -101,4 +101,3 @@ put-runs-spec =
     loop-again
     same-length
     returns)
-
