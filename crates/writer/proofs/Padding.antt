@@ -1,13 +1,15 @@
 -- Bytes put one after the other: a byte, and what two calls come to.
 use mathlib.Core.Path.{_≡_, refl, sym, ap, _∙_, subst}
 use mathlib.Core.List.{List, [], _∷_, _++_, append-assoc, append-nil}
-use Prim.Native.Nat.{ℕ, zero, suc, _+_, _-_, _*_, _/_, _%_, _≤_, _<_}
+use Prim.Native.Nat.{ℕ, zero, suc, _+_, _-_, _*_, _/_, _%_, _^_, _≤_, _<_}
 use native.Mathlib.Omega.{arith}
-use lib.ListN.{length, length-append, length-set, set, replicate, getD}
+use lib.ListN.{length, length-append, length-set, set, replicate}
 use Rattle.rules.specs.Base.{le}
-use Rattle.rules.specs.Chunk.{Run}
-use Rattle.rules.specs.Image.{join, run-bytes}
-use Rattle.writer.specs.Put.{padded, Put, run-at, runs-in, bytes-in}
+use Rattle.rules.specs.Chunk.{Run, Constant, CN, CS, CF}
+use Rattle.rules.specs.Image.{join, run-bytes, constant-bytes}
+use borrow.Author.Tests.{lt-ltb, le-ltb}
+use Rattle.state.specs.Layout.{constantOf}
+use Rattle.writer.specs.Put.{padded, Put, stretch, head-bytes}
 
 pub length-padded : (room : ℕ) (bs : List ℕ) → length (padded room bs) ≡ room
 unfolding padded
@@ -128,33 +130,72 @@ unfolding le
 length-le zero n = refl
 length-le (suc count) n = ap suc (length-le count (n / 256))
 
-pub bytes-more : (code : List ℕ) (from left : ℕ) → 0 < left → bytes-in code from left ≡ (getD code from 0 ∷ []) ++ bytes-in code (from + 1) (left - 1)
-unfolding bytes-in
-bytes-more code from zero l = absurd (omega arith)
-bytes-more code from (suc left) l = ap (λ (k : ℕ). getD code from 0 ∷ bytes-in code (from + 1) k) (less left)
+pub stretch-more : {A : Type 0} (g : ℕ → A) (from left : ℕ) → 0 < left → stretch g from left ≡ g from ∷ stretch g (from + 1) (left - 1)
+unfolding stretch
+stretch-more g from zero l = absurd (omega arith)
+stretch-more g from (suc left) l = ap (λ (k : ℕ). g from ∷ stretch g (from + 1) k) (less left)
   where
     less : (k : ℕ) → k ≡ suc k - 1
     less k = omega arith
 
-pub bytes-none : (code : List ℕ) (from left : ℕ) → left ≡ 0 → bytes-in code from left ≡ []
-unfolding bytes-in
-bytes-none code from left e = rw e
+pub stretch-none : {A : Type 0} (g : ℕ → A) (from left : ℕ) → left ≡ 0 → stretch g from left ≡ []
+unfolding stretch
+stretch-none g from left e = rw e
 
-pub runs-more : (spans : List ℕ) (from left : ℕ) → 0 < left →
-    join run-bytes (runs-in spans from left)
-    ≡ run-bytes (run-at spans from) ++ join run-bytes (runs-in spans (from + 1) (left - 1))
-unfolding runs-in join
-runs-more spans from zero l = absurd (omega arith)
-runs-more spans from (suc left) l =
-    ap (λ (k : ℕ). run-bytes (run-at spans from) ++ join run-bytes (runs-in spans (from + 1) k)) (less left)
-  where
-    less : (k : ℕ) → k ≡ suc k - 1
-    less k = omega arith
+-- the records of a stretch
+pub join-more : {A : Type 0} (f : A → List ℕ) (g : ℕ → A) (from left : ℕ) → 0 < left → join f (stretch g from left) ≡ f (g from) ++ join f (stretch g (from + 1) (left - 1))
+unfolding join
+join-more f g from left l = ap (join f) (stretch-more g from left l)
 
-pub runs-none : (spans : List ℕ) (from left : ℕ) → left ≡ 0 → join run-bytes (runs-in spans from left) ≡ []
-unfolding runs-in join
-runs-none spans from left e = rw e
+pub join-none : {A : Type 0} (f : A → List ℕ) (g : ℕ → A) (from left : ℕ) → left ≡ 0 → join f (stretch g from left) ≡ []
+unfolding join
+join-none f g from left e = ap (join f) (stretch-none g from left e)
 
 pub length-run : (run : Run) → length (run-bytes run) ≡ 11
 unfolding run-bytes le
 length-run run = refl
+
+pub constant-short : (value : Constant) → length (constant-bytes value) ≤ 10
+unfolding constant-bytes le
+constant-short (CN bits) = omega arith
+constant-short (CS name) = omega arith
+constant-short (CF number) = omega arith
+
+-- ## What a constant's word stands for
+
+pub number-word : (w : ℕ) → w < 2 ^ 63 → constantOf w ≡ CN w
+number-word w l = rw (lt-ltb w (2 ^ 63) l)
+
+pub string-word : (w : ℕ) → 2 ^ 63 ≤ w → w < 2 ^ 63 + 2 ^ 32 → constantOf w ≡ CS (w - 2 ^ 63)
+string-word w g l = rw (le-ltb w (2 ^ 63) g, lt-ltb w (2 ^ 63 + 2 ^ 32) l)
+
+pub function-word : (w : ℕ) → 2 ^ 63 + 2 ^ 32 ≤ w → constantOf w ≡ CF (w - (2 ^ 63 + 2 ^ 32))
+function-word w g = rw (le-ltb w (2 ^ 63) (omega arith), le-ltb w (2 ^ 63 + 2 ^ 32) g)
+
+pub as-constant : {out out′ : List ℕ} {at r : ℕ} {a b : Constant} → a ≡ b → Put out out′ at (constant-bytes b) r → Put out out′ at (constant-bytes a) r
+as-constant {out} {out′} {at} {r} {a} {b} e p = subst (λ (v : Constant). Put out out′ at (constant-bytes v) r) (sym e) p
+
+-- where a number and a row of records end
+pub le-next : {out out′ : List ℕ} {at r : ℕ} (count n : ℕ) → Put out out′ at (le count n) r → r ≡ at + count
+le-next {at = at} count n p = p .next ∙ ap (λ (k : ℕ). at + k) (length-le count n)
+
+pub constants-next : {out out′ : List ℕ} {at r : ℕ} (g : ℕ → Constant) (from count : ℕ) → Put out out′ at (join constant-bytes (stretch g from count)) r → r ≤ at + count * 10
+unfolding join stretch
+constants-next {at = at} g from count p = omega (arith, p .next, short g from count)
+  where
+    short : (g : ℕ → Constant) (from count : ℕ) → length (join constant-bytes (stretch g from count)) ≤ count * 10
+    short g from zero = omega arith
+    short g from (suc count) =
+        omega (arith, length-append (constant-bytes (g from)) (join constant-bytes (stretch g (from + 1) count)), constant-short (g from), short g (from + 1) count)
+
+pub runs-next : {out out′ : List ℕ} {at r : ℕ} (g : ℕ → Run) (from count : ℕ) → Put out out′ at (join run-bytes (stretch g from count)) r → r ≡ at + count * 11
+unfolding join stretch
+runs-next {at = at} g from count p = omega (arith, p .next, long g from count)
+  where
+    long : (g : ℕ → Run) (from count : ℕ) → length (join run-bytes (stretch g from count)) ≡ count * 11
+    long g from zero = omega arith
+    long g from (suc count) = omega (arith, length-append (run-bytes (g from)) (join run-bytes (stretch g (from + 1) count)), length-run (g from), long g (from + 1) count)
+
+pub head-next : {out out′ : List ℕ} {at r : ℕ} (a b c d e f : ℕ) → Put out out′ at (head-bytes a b c d e f) r → r ≡ at + 17
+unfolding head-bytes le
+head-next a b c d e f p = p .next

@@ -6,8 +6,12 @@ ghost use Prim.Native.Nat.{_+_, _*_, _≤_, _<_};
 ghost use lib.ListN.{length, getD};
 ghost use Rattle.rules.specs.Base.{le};
 ghost use Rattle.rules.specs.Chunk.{CN, CS, CF};
-ghost use Rattle.rules.specs.Image.{join, constant-bytes, run-bytes};
-ghost use Rattle.writer.specs.Put.{Put, run-of, runs-in, bytes-in};
+ghost use Rattle.rules.specs.Image.{join, constant-bytes, run-bytes, function-bytes};
+ghost use Rattle.rules.specs.Compiler as rules;
+ghost use Rattle.state.specs.Layout.{constantOf, runAt, codeEnd, runsEnd, ctxAt};
+ghost use Rattle.writer.specs.Put.{Put, Closed, stretch, byte-at, constant-at, run-of, head-bytes};
+use state::CODE_END;
+use state::RUNS_END;
 
 // One byte.
 pub fn put_u8(out: &mut [u8], at: usize, b: u8) -> usize
@@ -86,7 +90,7 @@ pub fn put_run(out: &mut [u8], at: usize, start: u32, end: u32, count: u32) -> u
 // The runs from number `from` on, three words each.
 pub fn put_runs(out: &mut [u8], at: usize, spans: &[u32], from: usize, count: usize) -> usize
     requires { ⌜ ((from + count) * 3 ≤ length (now spans)) × (at + count * 11 ≤ 1152921504606846976) ⌝ }
-    ensures { λ r. ⌜ Put (now (out .entry)) (now (out .exit)) at (join run-bytes (runs-in (now (spans .entry)) from count)) r ⌝ }
+    ensures { λ r. ⌜ Put (now (out .entry)) (now (out .exit)) at (join run-bytes (stretch (runAt (now (spans .entry))) from count)) r ⌝ }
 {
     let mut next = at;
     let mut i = from;
@@ -102,7 +106,7 @@ pub fn put_runs(out: &mut [u8], at: usize, spans: &[u32], from: usize, count: us
 // The bytes of a stretch of code.
 pub fn put_code(out: &mut [u8], at: usize, code: &[u8], from: usize, count: usize) -> usize
     requires { ⌜ (from + count ≤ length (now code)) × (at + count ≤ 1152921504606846976) ⌝ }
-    ensures { λ r. ⌜ Put (now (out .entry)) (now (out .exit)) at (bytes-in (now (code .entry)) from count) r ⌝ }
+    ensures { λ r. ⌜ Put (now (out .entry)) (now (out .exit)) at (stretch (byte-at (now (code .entry))) from count) r ⌝ }
 {
     let mut next = at;
     let mut i = from;
@@ -113,4 +117,91 @@ pub fn put_code(out: &mut [u8], at: usize, code: &[u8], from: usize, count: usiz
         left -= 1;
     }
     next
+}
+
+// A constant, by its word.
+pub fn put_constant(out: &mut [u8], at: usize, w: u64) -> usize
+    requires { ⌜ at + 10 ≤ 1152921504606846976 ⌝ }
+    ensures { λ r. ⌜ Put (now (out .entry)) (now (out .exit)) at (constant-bytes (constantOf w)) r ⌝ }
+{
+    if w < 9223372036854775808 {
+        return put_number(out, at, w);
+    }
+    if w < 9223372041149743104 {
+        return put_string(out, at, w - 9223372036854775808);
+    }
+    put_function_number(out, at, w - 9223372041149743104)
+}
+
+// The constants whose words stand from `from` on.
+pub fn put_constants(out: &mut [u8], at: usize, t: &[u64], from: usize, count: usize) -> usize
+    requires { ⌜ (from + count ≤ length (now t)) × (at + count * 10 ≤ 1152921504606846976) ⌝ }
+    ensures { λ r. ⌜ Put (now (out .entry)) (now (out .exit)) at (join constant-bytes (stretch (constant-at (now (t .entry))) from count)) r ⌝ }
+{
+    let mut next = at;
+    let mut i = from;
+    let mut left = count;
+    while 0 < left {
+        next = put_constant(out, next, t[i]);
+        i += 1;
+        left -= 1;
+    }
+    next
+}
+
+// A function's record up to its constants.
+pub fn put_head(
+    out: &mut [u8],
+    at: usize,
+    name: u64,
+    arity: u64,
+    upvalues: u64,
+    constants: u64,
+    runs: u64,
+    code: u64,
+) -> usize
+    requires { ⌜ at + 17 ≤ 1152921504606846976 ⌝ }
+    ensures { λ r. ⌜ Put (now (out .entry)) (now (out .exit)) at (head-bytes name arity upvalues constants runs code) r ⌝ }
+{
+    let a = put_mark(out, at, b'F', b'N');
+    let b = put_le(out, a, name, 2);
+    let c = put_le(out, b, arity, 1);
+    let d = put_le(out, c, upvalues, 2);
+    let e = put_le(out, d, constants, 2);
+    let f = put_le(out, e, runs, 4);
+    put_le(out, f, code, 4)
+}
+
+// The function that is open at a level, as it stands.
+pub fn put_function(
+    out: &mut [u8],
+    at: usize,
+    t: &[u64],
+    code: &[u8],
+    spans: &[u32],
+    level: usize,
+) -> usize
+    requires { ⌜ (Closed (now t) (now code) (now spans) level) × (at ≤ 576460752303423488) ⌝ }
+    ensures { λ r. ⌜ Put (now (out .entry)) (now (out .exit)) at (function-bytes (rules.finish (ctxAt (now (t .entry)) (now (code .entry)) (now (spans .entry)) level (codeEnd (now (t .entry))) (runsEnd (now (t .entry)))))) r ⌝ }
+{
+    let base = level * 1024;
+    let constants = t[base + 770] as usize;
+    let code_from = t[base + 772] as usize;
+    let runs_from = t[base + 773] as usize;
+    let code_count = t[CODE_END] as usize - code_from;
+    let run_count = t[RUNS_END] as usize - runs_from;
+    let a = put_head(
+        out,
+        at,
+        t[base + 774],
+        t[base + 775],
+        t[base + 513],
+        constants as u64,
+        run_count as u64,
+        code_count as u64,
+    );
+    let b = put_constants(out, a, t, base + 514, constants);
+    let c = put_runs(out, b, spans, runs_from, run_count);
+    let d = put_mark(out, c, b'C', b'D');
+    put_code(out, d, code, code_from, code_count)
 }

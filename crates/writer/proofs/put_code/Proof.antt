@@ -1,8 +1,8 @@
 -- `put_code`: of the stretch, what is left is still to be put.
 use Prim.Native.Nat.{_+_, _≤_}
-use Rattle.writer.specs.Put.{bytes-in}
+use Rattle.writer.specs.Put.{stretch, byte-at}
 use lib.ListN.{length}
-use Rattle.writer.proofs.Padding.{Putting, putting-start, putting-step, putting-end, bytes-more, bytes-none}
+use Rattle.writer.proofs.Padding.{Putting, putting-start, putting-step, putting-end, stretch-more, stretch-none}
 use borrow.Author.Needs.{needs}
 use native.Mathlib.Omega.{arith}
 use Rattle.writer.proofs.put_code.Statement.{statement}
@@ -12,7 +12,7 @@ use Rattle.writer.proofs.put_code.Lts as lts
 use Rattle.writer.proofs.put_u8.Reads as put-u8-reads
 
 abbrev Inv-loop : tie.InvT-loop
-Inv-loop out₀ at code from count next₀ i₀ left₀ out next i left = Putting out₀ out at next (bytes-in code from count) (bytes-in code i left) × (next + left ≤ 1152921504606846976) × (i + left ≤ length code)
+Inv-loop out₀ at code from count next₀ i₀ left₀ out next i left = Putting out₀ out at next (stretch (byte-at code) from count) (stretch (byte-at code) i left) × (next + left ≤ 1152921504606846976) × (i + left ≤ length code)
 
 abbrev μ-loop : tie.MeasureT-loop
 μ-loop out₀ at code from count next₀ i₀ left₀ out next i left = left
@@ -36,13 +36,13 @@ loop-less : tie.Need-loop-less Inv-loop μ-loop
 loop-less c = search needs
 
 loop-again : tie.Need-loop-again Inv-loop μ-loop
-loop-again c = (putting-step (c .before .before .before .before .before .before .loop .inv .0) (bytes-more _ (c .before .before .before .before .before .before .loop .i) (c .before .before .before .before .before .before .loop .left) (c .before .before .before .before .before .loop-test .taken)) (c .before .before .put-u8 .ensures), omega (arith, c .before .before .put-u8 .ensures .next, c .before .before .before .before .before .before .loop .inv .1, c .before .before .before .before .before .loop-test .taken), omega (arith, c .before .before .before .before .before .before .loop .inv .2, c .before .before .before .before .before .loop-test .taken))
+loop-again c = (putting-step (c .before .before .before .before .before .before .loop .inv .0) (stretch-more (byte-at (c .before .before .before .before .before .before .before .before .before .args .code .now)) (c .before .before .before .before .before .before .loop .i) (c .before .before .before .before .before .before .loop .left) (c .before .before .before .before .before .loop-test .taken)) (c .before .before .put-u8 .ensures), omega (arith, c .before .before .put-u8 .ensures .next, c .before .before .before .before .before .before .loop .inv .1, c .before .before .before .before .before .loop-test .taken), omega (arith, c .before .before .before .before .before .before .loop .inv .2, c .before .before .before .before .before .loop-test .taken))
 
 same-length : tie.Need-same-length Inv-loop μ-loop
 same-length c = c .before .loop .inv .0 .put .size
 
 returns : tie.Need-returns Inv-loop μ-loop
-returns c = putting-end (c .before .loop .inv .0) (bytes-none _ (c .before .loop .i) (c .before .loop .left) (omega (arith, c .loop-test .left)))
+returns c = putting-end (c .before .loop .inv .0) (stretch-none (byte-at (c .before .before .before .before .args .code .now)) (c .before .loop .i) (c .before .loop .left) (omega (arith, c .loop-test .left)))
 
 pub put-code-spec : {M : Type 1} → statement M
 put-code-spec =

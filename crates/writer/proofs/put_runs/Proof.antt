@@ -1,9 +1,10 @@
 -- `put_runs`: of the runs, what is left is still to be put.
 use Prim.Native.Nat.{_+_, _*_, _≤_}
 use Rattle.rules.specs.Image.{join, run-bytes}
-use Rattle.writer.specs.Put.{runs-in, run-at}
+use Rattle.state.specs.Layout.{runAt}
+use Rattle.writer.specs.Put.{stretch}
 use lib.ListN.{length}
-use Rattle.writer.proofs.Padding.{Putting, putting-start, putting-step, putting-end, runs-more, runs-none, length-run}
+use Rattle.writer.proofs.Padding.{Putting, putting-start, putting-step, putting-end, join-more, join-none, length-run}
 use borrow.Author.Needs.{needs}
 use native.Mathlib.Omega.{arith}
 use Rattle.writer.proofs.put_runs.Statement.{statement}
@@ -13,7 +14,7 @@ use Rattle.writer.proofs.put_runs.Lts as lts
 use Rattle.writer.proofs.put_run.Reads as put-run-reads
 
 abbrev Inv-loop : tie.InvT-loop
-Inv-loop out₀ at spans from count next₀ i₀ left₀ out next i left = Putting out₀ out at next (join run-bytes (runs-in spans from count)) (join run-bytes (runs-in spans i left)) × (next + left * 11 ≤ 1152921504606846976) × ((i + left) * 3 ≤ length spans)
+Inv-loop out₀ at spans from count next₀ i₀ left₀ out next i left = Putting out₀ out at next (join run-bytes (stretch (runAt spans) from count)) (join run-bytes (stretch (runAt spans) i left)) × (next + left * 11 ≤ 1152921504606846976) × ((i + left) * 3 ≤ length spans)
 
 abbrev μ-loop : tie.MeasureT-loop
 μ-loop out₀ at spans from count next₀ i₀ left₀ out next i left = left
@@ -67,13 +68,13 @@ loop-less : tie.Need-loop-less Inv-loop μ-loop
 loop-less c = search needs
 
 loop-again : tie.Need-loop-again Inv-loop μ-loop
-loop-again c = (putting-step (c .before .before .before .before .before .before .before .before .loop .inv .0) (runs-more _ (c .before .before .before .before .before .before .before .before .loop .i) (c .before .before .before .before .before .before .before .before .loop .left) (c .before .before .before .before .before .before .before .loop-test .taken)) (c .before .before .put-run .ensures), omega (arith, c .before .before .put-run .ensures .next, length-run (run-at (c .before .before .before .before .before .before .before .before .before .before .before .args .spans .now) (c .before .before .before .before .before .before .before .before .loop .i)), c .before .before .before .before .before .before .before .before .loop .inv .1, c .before .before .before .before .before .before .before .loop-test .taken), omega (arith, c .before .before .before .before .before .before .before .before .loop .inv .2, c .before .before .before .before .before .before .before .loop-test .taken))
+loop-again c = (putting-step (c .before .before .before .before .before .before .before .before .loop .inv .0) (join-more run-bytes (runAt (c .before .before .before .before .before .before .before .before .before .before .before .args .spans .now)) (c .before .before .before .before .before .before .before .before .loop .i) (c .before .before .before .before .before .before .before .before .loop .left) (c .before .before .before .before .before .before .before .loop-test .taken)) (c .before .before .put-run .ensures), omega (arith, c .before .before .put-run .ensures .next, length-run (runAt (c .before .before .before .before .before .before .before .before .before .before .before .args .spans .now) (c .before .before .before .before .before .before .before .before .loop .i)), c .before .before .before .before .before .before .before .before .loop .inv .1, c .before .before .before .before .before .before .before .loop-test .taken), omega (arith, c .before .before .before .before .before .before .before .before .loop .inv .2, c .before .before .before .before .before .before .before .loop-test .taken))
 
 same-length : tie.Need-same-length Inv-loop μ-loop
 same-length c = c .before .loop .inv .0 .put .size
 
 returns : tie.Need-returns Inv-loop μ-loop
-returns c = putting-end (c .before .loop .inv .0) (runs-none _ (c .before .loop .i) (c .before .loop .left) (omega (arith, c .loop-test .left)))
+returns c = putting-end (c .before .loop .inv .0) (join-none run-bytes (runAt (c .before .before .before .before .args .spans .now)) (c .before .loop .i) (c .before .loop .left) (omega (arith, c .loop-test .left)))
 
 pub put-runs-spec : {M : Type 1} → statement M
 put-runs-spec =

@@ -1,0 +1,2 @@
+-- The law of the three loops.
+pub mod Clear

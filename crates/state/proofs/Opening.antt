@@ -1,0 +1,206 @@
+-- Opening a context, and a store of the scope depth, as facts of lists.
+use Prim.Native.Nat.{ℕ, zero, suc, _+_, _*_, _-_, _≤_, _<_}
+use native.Mathlib.Omega.{arith}
+use native.Mathlib.Nat.{eq-or-lt-of-le}
+use mathlib.Core.Logic.{⊎-elim}
+use mathlib.Core.Path.{_≡_, refl, sym, ap, ap₂, _∙_, subst}
+use mathlib.Core.List.{List, [], _∷_, _++_}
+use lib.ListN.{length, getD, set, length-set}
+use lib.Seq.{getD-set-same, getD-set-other}
+use Rattle.rules.specs.Chunk.{Chunk, Run}
+use Rattle.rules.specs.Compiler.{CompilerCtx, new-ctx}
+use Rattle.state.specs.Layout.{levels, deepest, table-words, code-end-at, runs-end-at, row, stack, localOf, upvalueOf, constantOf, type-of, codeFrom, runsFrom, codeEnd, runsEnd, runAt, chunkAt, ctxAt, parentsOf, Wf, Coded}
+use Rattle.state.specs.Contracts.{Kept, Moved, Began}
+use Rattle.state.proofs.Laws.{kept-set, kept-then, kept-off, ctx-same, parents-named, wf-count, wf-depth, wf-plain}
+
+pub moved : (t : List ℕ) (l depth : ℕ) → l < levels → Wf t → depth ≤ deepest → Moved t (set t (l * 1024 + 771) depth) l depth
+moved t l depth low wf h = record {
+  does = getD-set-same t _ depth 0 (omega (arith, wf .size));
+  kept = kept-set _ _ t _ _ (omega arith) (omega arith);
+  wf = wf-depth t l depth h wf;
+}
+
+none-row : {A : Type 0} (f : ℕ → A) (n : ℕ) → n ≡ 0 → row f n ≡ []
+unfolding row
+none-row f n e = ap (row f) e
+
+none-stack : {A : Type 0} (f : ℕ → A) (n : ℕ) → n ≡ 0 → stack f n ≡ []
+unfolding stack
+none-stack f n e = ap (stack f) e
+
+le-of-lt-suc : (j l : ℕ) → j < suc l → j ≤ l
+le-of-lt-suc j l h = omega arith
+
+-- nine stores at offsets that rise: what stands at each of them afterwards
+abbrev put : (b : ℕ) → List ℕ → ℕ → ℕ → List ℕ
+put b t o v = set t (b + o) v
+
+put-same : (b : ℕ) (t : List ℕ) (o v : ℕ) → b + o < length t → getD (put b t o v) (b + o) 0 ≡ v
+put-same b t o v h = getD-set-same t (b + o) v 0 h
+
+put-other : (b : ℕ) (t : List ℕ) (o v i : ℕ) → (i ≡ o → ⊥) → getD (put b t o v) (b + i) 0 ≡ getD t (b + i) 0
+put-other b t o v i ne = getD-set-other t (b + o) (b + i) v 0 (λ z. ne (omega arith))
+
+put-length : (b : ℕ) (t : List ℕ) (o v : ℕ) → length (put b t o v) ≡ length t
+put-length b t o v = length-set t (b + o) v
+
+module _ (t : List ℕ) (l name arity kind : ℕ) (low : l + 1 < levels) (wf : Wf t) (shallow : getD t (l * 1024 + 771) 0 < deepest) where
+  abbrev b : ℕ
+  b = (l + 1) * 1024
+
+  abbrev t₁ : List ℕ
+  t₁ = put b t 256 0
+
+  abbrev t₂ : List ℕ
+  t₂ = put b t₁ 513 0
+
+  abbrev t₃ : List ℕ
+  t₃ = put b t₂ 770 0
+
+  abbrev t₄ : List ℕ
+  t₄ = put b t₃ 771 (getD t (l * 1024 + 771) 0 + 1)
+
+  abbrev t₅ : List ℕ
+  t₅ = put b t₄ 772 (codeEnd t)
+
+  abbrev t₆ : List ℕ
+  t₆ = put b t₅ 773 (runsEnd t)
+
+  abbrev t₇ : List ℕ
+  t₇ = put b t₆ 774 name
+
+  abbrev t₈ : List ℕ
+  t₈ = put b t₇ 775 arity
+
+  abbrev t₉ : List ℕ
+  t₉ = put b t₈ 776 kind
+
+  n₁ : length t₁ ≡ table-words
+  n₁ = length-set t _ _ ∙ wf .size
+
+  n₂ : length t₂ ≡ table-words
+  n₂ = length-set t₁ _ _ ∙ n₁
+
+  n₃ : length t₃ ≡ table-words
+  n₃ = length-set t₂ _ _ ∙ n₂
+
+  n₄ : length t₄ ≡ table-words
+  n₄ = length-set t₃ _ _ ∙ n₃
+
+  n₅ : length t₅ ≡ table-words
+  n₅ = length-set t₄ _ _ ∙ n₄
+
+  n₆ : length t₆ ≡ table-words
+  n₆ = length-set t₅ _ _ ∙ n₅
+
+  n₇ : length t₇ ≡ table-words
+  n₇ = length-set t₆ _ _ ∙ n₆
+
+  n₈ : length t₈ ≡ table-words
+  n₈ = length-set t₇ _ _ ∙ n₇
+
+  kp : Kept b (b + 1024) t t₉
+  kp =
+      kept-then _ _ t t₈ _ _ (kept-then _ _ t t₇ _ _ (kept-then _ _ t t₆ _ _
+      (kept-then _ _ t t₅ _ _ (kept-then _ _ t t₄ _ _ (kept-then _ _ t t₃ _ _ (kept-then _ _ t t₂ _ _ (kept-then _ _ t t₁ _ _ (kept-set _ _ t _ _ (omega arith) (omega arith)) (omega arith) (omega arith)) (omega arith) (omega arith)) (omega arith) (omega arith)) (omega arith) (omega arith)) (omega arith) (omega arith))
+      (omega arith) (omega arith)) (omega arith) (omega arith)) (omega arith) (omega arith)
+
+  wf₉ : Wf t₉
+  wf₉ =
+      wf-plain t₈ (l + 1) 776 _ (omega arith) (λ x y. omega arith) (λ z. omega arith) (λ z. omega arith)
+      (wf-plain t₇ (l + 1) 775 _ (omega arith) (λ x y. omega arith) (λ z. omega arith) (λ z. omega arith)
+      (wf-plain t₆ (l + 1) 774 _ (omega arith) (λ x y. omega arith) (λ z. omega arith) (λ z. omega arith)
+      (wf-plain t₅ (l + 1) 773 _ (omega arith) (λ x y. omega arith) (λ z. omega arith) (λ z. omega arith)
+      (wf-plain t₄ (l + 1) 772 _ (omega arith) (λ x y. omega arith) (λ z. omega arith) (λ z. omega arith)
+      (wf-depth t₃ (l + 1) _ (omega arith) (wf-count t₂ _ 0 (omega arith) (wf-count t₁ _ 0 (omega arith) (wf-count t _ 0 (omega arith) wf))))))))
+
+  -- the last three stores, and the last six, keep off what is below them
+  o₉ : (o : ℕ) → o < 774 → getD t₉ (b + o) 0 ≡ getD t₆ (b + o) 0
+  o₉ o h = put-other b t₈ 776 kind o (λ z. omega arith) ∙ put-other b t₇ 775 arity o (λ z. omega arith) ∙ put-other b t₆ 774 name o (λ z. omega arith)
+
+  o₆ : (o : ℕ) → o < 771 → getD t₆ (b + o) 0 ≡ getD t₃ (b + o) 0
+  o₆ o h = put-other b t₅ 773 (runsEnd t) o (λ z. omega arith) ∙ put-other b t₄ 772 (codeEnd t) o (λ z. omega arith) ∙ put-other b t₃ 771 (getD t (l * 1024 + 771) 0 + 1) o (λ z. omega arith)
+
+  v₁ : getD t₉ (b + 256) 0 ≡ 0
+  v₁ = o₉ 256 (omega arith) ∙ o₆ 256 (omega arith) ∙ put-other b t₂ 770 0 256 (λ z. omega arith) ∙ put-other b t₁ 513 0 256 (λ z. omega arith) ∙ put-same b t 256 0 (omega (arith, wf .size))
+
+  v₂ : getD t₉ (b + 513) 0 ≡ 0
+  v₂ = o₉ 513 (omega arith) ∙ o₆ 513 (omega arith) ∙ put-other b t₂ 770 0 513 (λ z. omega arith) ∙ put-same b t₁ 513 0 (omega (arith, n₁))
+
+  v₃ : getD t₉ (b + 770) 0 ≡ 0
+  v₃ = o₉ 770 (omega arith) ∙ o₆ 770 (omega arith) ∙ put-same b t₂ 770 0 (omega (arith, n₂))
+
+  v₄ : getD t₉ (b + 771) 0 ≡ getD t (l * 1024 + 771) 0 + 1
+  v₄ = o₉ 771 (omega arith) ∙ put-other b t₅ 773 (runsEnd t) 771 (λ z. omega arith) ∙ put-other b t₄ 772 (codeEnd t) 771 (λ z. omega arith) ∙ put-same b t₃ 771 (getD t (l * 1024 + 771) 0 + 1) (omega (arith, n₃))
+
+  v₅ : getD t₉ (b + 772) 0 ≡ codeEnd t
+  v₅ = o₉ 772 (omega arith) ∙ put-other b t₅ 773 (runsEnd t) 772 (λ z. omega arith) ∙ put-same b t₄ 772 (codeEnd t) (omega (arith, n₄))
+
+  v₆ : getD t₉ (b + 773) 0 ≡ runsEnd t
+  v₆ = o₉ 773 (omega arith) ∙ put-same b t₅ 773 (runsEnd t) (omega (arith, n₅))
+
+  v₇ : getD t₉ (b + 774) 0 ≡ name
+  v₇ = put-other b t₈ 776 kind 774 (λ z. omega arith) ∙ put-other b t₇ 775 arity 774 (λ z. omega arith) ∙ put-same b t₆ 774 name (omega (arith, n₆))
+
+  v₈ : getD t₉ (b + 775) 0 ≡ arity
+  v₈ = put-other b t₈ 776 kind 775 (λ z. omega arith) ∙ put-same b t₇ 775 arity (omega (arith, n₇))
+
+  v₉ : getD t₉ (b + 776) 0 ≡ kind
+  v₉ = put-same b t₈ 776 kind (omega (arith, n₈))
+
+  up-one : l + 1 ≡ suc l
+  up-one = omega arith
+
+  ce : codeEnd t₉ ≡ codeEnd t
+  ce = kp .above code-end-at (omega arith)
+
+  re : runsEnd t₉ ≡ runsEnd t
+  re = kp .above runs-end-at (omega arith)
+
+  fresh′ : (code spans : List ℕ) → ctxAt t₉ code spans (l + 1) (codeEnd t₉) (runsEnd t₉) ≡ new-ctx name arity (type-of kind) (getD t (l * 1024 + 771) 0 + 1)
+  unfolding ctxAt chunkAt
+  fresh′ code spans =
+      let ls = none-stack (λ i. localOf (getD t₉ (b + i) 0)) _ v₁ in
+      let us = none-row (λ i. upvalueOf (getD t₉ (b + 257 + i) 0)) _ v₂ in
+      let ks = none-row (λ i. constantOf (getD t₉ (b + 514 + i) 0)) _ v₃ in
+      let ops = none-row (λ i. getD code (codeFrom t₉ (l + 1) + i) 0) (codeEnd t₉ - codeFrom t₉ (l + 1)) (omega (arith, v₅, ce)) in
+      let runs = none-row (λ i. runAt spans (runsFrom t₉ (l + 1) + i)) (runsEnd t₉ - runsFrom t₉ (l + 1)) (omega (arith, v₆, re)) in
+      λ i. record {
+        name = v₇ i;
+        arity = v₈ i;
+        type = type-of (v₉ i);
+        chunk = record { ops = ops i; constants = ks i; spans = runs i };
+        locals = ls i;
+        upvalues = us i;
+        scope-depth = v₄ i;
+      }
+
+  same : (j o : ℕ) → j ≤ l → o < 1024 → getD t₉ (j * 1024 + o) 0 ≡ getD t (j * 1024 + o) 0
+  same j o h a = kp .below _ (omega arith)
+
+  pub began : Began t t₉ l name arity kind
+  unfolding parentsOf
+  began =
+      let cu : codeFrom t₉ (suc l) ≡ codeEnd t = ap (codeFrom t₉) (sym up-one) ∙ v₅ in
+      let ru : runsFrom t₉ (suc l) ≡ runsEnd t = ap (runsFrom t₉) (sym up-one) ∙ v₆ in
+      record {
+        fresh = λ code spans. ap (λ (m : ℕ). ctxAt t₉ code spans m (codeEnd t₉) (runsEnd t₉)) (sym up-one) ∙ fresh′ code spans;
+        around = λ code spans. ap₂ _∷_
+            (ap₂ (ctxAt t₉ code spans l) cu ru ∙ ctx-same t code spans t₉ code spans l (codeEnd t) (runsEnd t) wf (omega arith) (λ o h. same l o (omega arith) (omega arith)) (λ i h. refl) (λ i h. refl))
+            (parents-named t t₉ l wf (omega arith) (λ k o h g. same k o (omega arith) (omega arith)) (same l 772 (omega arith) (omega arith)) (same l 773 (omega arith) (omega arith)) code spans);
+        coded = λ code spans limit ok. record {
+          roomCode = ok .roomCode;
+          roomRuns = ok .roomRuns;
+          within = omega (arith, ok .within, ce);
+          fewer = omega (arith, ok .fewer, ce, re);
+          fromZero = same 0 772 (omega arith) (omega arith) ∙ ok .fromZero;
+          top = omega (arith, ce);
+          topRuns = omega (arith, re);
+          order = λ j h. ⊎-elim (λ (q : j ≡ l). subst (λ (m : ℕ). codeFrom t₉ m ≤ codeFrom t₉ (suc m)) (sym q) (omega (arith, same l 772 (omega arith) (omega arith), ok .top)))
+              (λ (q : j < l). omega (arith, same j 772 (omega arith) (omega arith), same (suc j) 772 (omega arith) (omega arith), ok .order j q)) (eq-or-lt-of-le (le-of-lt-suc j l h));
+          orderRuns = λ j h. ⊎-elim (λ (q : j ≡ l). subst (λ (m : ℕ). runsFrom t₉ m ≤ runsFrom t₉ (suc m)) (sym q) (omega (arith, same l 773 (omega arith) (omega arith), ok .topRuns)))
+              (λ (q : j < l). omega (arith, same j 773 (omega arith) (omega arith), same (suc j) 773 (omega arith) (omega arith), ok .orderRuns j q)) (eq-or-lt-of-le (le-of-lt-suc j l h));
+        };
+        kept = subst (λ (m : ℕ). Kept (m * 1024) (m * 1024 + 1024) t t₉) up-one kp;
+        wf = wf₉;
+      }

@@ -1,0 +1,118 @@
+use Rattle.state.proofs.Declare as ways
+use borrow.Author.Tests.{lt-ltb, le-ltb}
+use lib.ListN.{getD, length-set}
+use mathlib.Core.Path.{_≡_, subst, sym, _∙_}
+use native.Mathlib.Omega.{arith}
+use Prim.Native.Nat.{ℕ, suc, _+_, _*_, _-_, _≤_, _<_}
+use borrow.Author.Needs.{needs}
+use Rattle.state.proofs.declare_local.Statement.{statement}
+use Rattle.state.proofs.declare_local.Tie as tie
+use Rattle.state.proofs.declare_local.Reads as reads
+use Rattle.state.proofs.declare_local.Lts as lts
+use Rattle.state.proofs.clashing.Reads as clashing-reads
+
+mul-base : tie.Need-mul-base
+mul-base c = search needs
+
+add-n : tie.Need-add-n
+add-n c = search needs
+
+mul-n : tie.Need-mul-n
+mul-n c = search needs
+
+slice-read-n : tie.Need-slice-read-n
+slice-read-n c = search needs
+
+add-depth : tie.Need-add-depth
+add-depth c = search needs
+
+mul-depth : tie.Need-mul-depth
+mul-depth c = search needs
+
+slice-read-depth : tie.Need-slice-read-depth
+slice-read-depth c = search needs
+
+clashing-requires : tie.Need-clashing-requires
+clashing-requires c κs = let s = c .before .before .before .before in omega (arith, s .pre .1 .fewLocals (s .args .level) (s .pre .0))
+
+same-length : tie.Need-same-length
+same-length c = search needs
+
+returns : tie.Need-returns
+returns c =
+    let s = c .before .before .before .before .before .before in
+    let a = s .args in
+    ways.already (a .t .now) (a .level) (a .name) (s .fits .name .fits) (s .pre .0) (s .pre .1) (sym (c .before .clashing .ensures) ∙ lt-ltb 0 _ (c .if1 .taken))
+
+same-length-2 : tie.Need-same-length-2
+same-length-2 c = search needs
+
+returns-2 : tie.Need-returns-2
+returns-2 c =
+    let s = c .before .before .before .before .before .before .before in
+    let a = s .args in
+    ways.full (a .t .now) (a .level) (a .name) (s .fits .name .fits) (s .pre .0) (s .pre .1) (sym (c .before .before .clashing .ensures) ∙ le-ltb 0 _ (c .before .if1 .left)) (c .if2 .taken)
+
+mul-t : tie.Need-mul-t
+mul-t c = let s = c .before .before .before .before .before .before .before in omega (arith, s .pre .1 .shallow (s .args .level) (s .pre .0))
+
+add-t : tie.Need-add-t
+add-t c = let s = c .before .before .before .before .before .before .before in omega (arith, s .pre .1 .shallow (s .args .level) (s .pre .0))
+
+add-t-2 : tie.Need-add-t-2
+add-t-2 c = search needs
+
+mul-t-2 : tie.Need-mul-t-2
+mul-t-2 c = search needs
+
+slice-write-t : tie.Need-slice-write-t
+slice-write-t c = search needs
+
+add-t-3 : tie.Need-add-t-3
+add-t-3 c = search needs
+
+add-t-4 : tie.Need-add-t-4
+add-t-4 c = search needs
+
+mul-t-3 : tie.Need-mul-t-3
+mul-t-3 c = search needs
+
+slice-write-t-2 : tie.Need-slice-write-t-2
+slice-write-t-2 c = simp length-set (omega arith)
+
+same-length-3 : tie.Need-same-length-3
+same-length-3 c = search needs
+
+returns-3 : tie.Need-returns-3
+returns-3 c =
+    let s = c .before .before .before .before .before .before .before in
+    let a = s .args in
+    ways.pushed (a .t .now) (a .level) (a .name) (s .fits .name .fits) (s .pre .0) (s .pre .1) (sym (c .before .before .clashing .ensures) ∙ le-ltb 0 _ (c .before .if1 .left)) (c .if2 .left)
+
+pub declare-local-spec : {M : Type 1} → statement M
+declare-local-spec =
+    tie.close
+    (tie.spec
+    mul-base
+    add-n
+    mul-n
+    slice-read-n
+    add-depth
+    mul-depth
+    slice-read-depth
+    clashing-requires
+    same-length
+    returns
+    same-length-2
+    returns-2
+    mul-t
+    add-t
+    add-t-2
+    mul-t-2
+    slice-write-t
+    add-t-3
+    add-t-4
+    mul-t-3
+    slice-write-t-2
+    same-length-3
+    returns-3)

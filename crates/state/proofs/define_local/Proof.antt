@@ -1,0 +1,89 @@
+use Rattle.state.proofs.Declare as ways
+use lib.ListN.{getD, length-set}
+use mathlib.Core.Path.{_≡_, subst, sym, _∙_}
+use native.Mathlib.Omega.{arith}
+use Prim.Native.Nat.{ℕ, suc, _+_, _*_, _-_, _≤_, _<_}
+use borrow.Author.Needs.{needs}
+use Rattle.state.proofs.define_local.Statement.{statement}
+use Rattle.state.proofs.define_local.Tie as tie
+use Rattle.state.proofs.define_local.Reads as reads
+use Rattle.state.proofs.define_local.Lts as lts
+
+few : (s : tie.Start) → getD (s .args .t .now) (s .args .level * 1024 + 256) 0 ≤ 256
+few s = s .pre .1 .fewLocals (s .args .level) (s .pre .0)
+
+mul-base : tie.Need-mul-base
+mul-base c = search needs
+
+add-n : tie.Need-add-n
+add-n c = search needs
+
+mul-n : tie.Need-mul-n
+mul-n c = search needs
+
+slice-read-n : tie.Need-slice-read-n
+slice-read-n c = search needs
+
+returns : tie.Need-returns
+returns c =
+    let s = c .before .before in
+    let a = s .args in
+    ways.define-none (a .t .now) (a .level) (s .pre .0) (s .pre .1) (c .if1 .taken)
+
+sub-at : tie.Need-sub-at
+sub-at c = search needs
+
+add-at : tie.Need-add-at
+add-at c = omega (arith, few (c .before .before))
+
+mul-w : tie.Need-mul-w
+mul-w c = omega (arith, few (c .before .before))
+
+slice-read-w : tie.Need-slice-read-w
+slice-read-w c = omega (arith, few (c .before .before .before))
+
+add-t : tie.Need-add-t
+add-t c =
+    let a = c .before .before .before .before .args in
+    omega (arith, c .before .slice-known2 .given (a .level * 1024 + (getD (a .t .now) (a .level * 1024 + 256) 0 - 1)))
+
+mul-t : tie.Need-mul-t
+mul-t c = omega (arith, few (c .before .before .before .before))
+
+slice-write-t : tie.Need-slice-write-t
+slice-write-t c = omega (arith, few (c .before .before .before .before))
+
+same-length : tie.Need-same-length
+same-length c = search needs
+
+returns-2 : tie.Need-returns-2
+returns-2 c =
+    let s = c .before .before .before .before in
+    let a = s .args in
+    ways.define-now (a .t .now) (a .level) (s .pre .0) (s .pre .1) (getD (a .t .now) (a .level * 1024 + 256) 0 - 1) (omega arith) (c .if2 .taken)
+
+returns-3 : tie.Need-returns-3
+returns-3 c =
+    let s = c .before .before .before .before in
+    let a = s .args in
+    ways.define-again (a .t .now) (a .level) (s .pre .0) (s .pre .1) (getD (a .t .now) (a .level * 1024 + 256) 0 - 1) (omega arith) (c .if2 .left)
+
+pub define-local-spec : {M : Type 1} → statement M
+define-local-spec =
+    tie.close
+    (tie.spec
+    mul-base
+    add-n
+    mul-n
+    slice-read-n
+    returns
+    sub-at
+    add-at
+    mul-w
+    slice-read-w
+    add-t
+    mul-t
+    slice-write-t
+    same-length
+    returns-2
+    returns-3)

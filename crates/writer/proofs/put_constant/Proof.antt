@@ -1,0 +1,52 @@
+-- `put_constant`: a word is a number, a name or a function, by its size.
+use Rattle.writer.proofs.Padding.{as-constant, number-word, string-word, function-word}
+use native.Mathlib.Omega.{arith}
+use borrow.Author.Needs.{needs}
+use Rattle.writer.proofs.put_constant.Statement.{statement}
+use Rattle.writer.proofs.put_constant.Tie as tie
+use Rattle.writer.proofs.put_constant.Reads as reads
+use Rattle.writer.proofs.put_constant.Lts as lts
+use Rattle.writer.proofs.put_function_number.Reads as put-function-number-reads
+use Rattle.writer.proofs.put_number.Reads as put-number-reads
+use Rattle.writer.proofs.put_string.Reads as put-string-reads
+
+put-number-requires : tie.Need-put-number-requires
+put-number-requires c κs = search needs
+
+same-length : tie.Need-same-length
+same-length c = search needs
+
+returns : tie.Need-returns
+returns c = as-constant (number-word (c .before .before .before .before .before .before .args .w) (omega (arith, c .before .before .before .before .if1 .taken))) (c .before .before .put-number .ensures)
+
+put-string-requires : tie.Need-put-string-requires
+put-string-requires c κs = search needs
+
+same-length-2 : tie.Need-same-length-2
+same-length-2 c = search needs
+
+returns-2 : tie.Need-returns-2
+returns-2 c = as-constant (string-word (c .before .before .before .before .before .before .before .args .w) (omega (arith, c .before .before .before .before .before .if1 .left)) (omega (arith, c .before .before .before .before .if2 .taken))) (c .before .before .put-string .ensures)
+
+put-function-number-requires : tie.Need-put-function-number-requires
+put-function-number-requires c κs = search needs
+
+same-length-3 : tie.Need-same-length-3
+same-length-3 c = search needs
+
+returns-3 : tie.Need-returns-3
+returns-3 c = as-constant (function-word (c .before .before .before .before .before .before .before .args .w) (omega (arith, c .before .before .before .before .if2 .left))) (c .before .before .put-function-number .ensures)
+
+pub put-constant-spec : {M : Type 1} → statement M
+put-constant-spec =
+    tie.close
+    (tie.spec
+    put-number-requires
+    same-length
+    returns
+    put-string-requires
+    same-length-2
+    returns-2
+    put-function-number-requires
+    same-length-3
+    returns-3)
