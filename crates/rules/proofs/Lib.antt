@@ -11,3 +11,4 @@ pub mod Constants
 pub mod CodeBytes
 pub mod Demand3
 pub mod Checks
+pub mod ReadBack
