@@ -12,3 +12,5 @@ pub mod CodeBytes
 pub mod Demand3
 pub mod Checks
 pub mod ReadBack
+pub mod Trees
+pub mod Steps
