@@ -14,3 +14,4 @@ pub mod Checks
 pub mod ReadBack
 pub mod Trees
 pub mod Steps
+pub mod TreeBytes

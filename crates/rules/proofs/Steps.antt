@@ -90,12 +90,12 @@ module _ (l : Leaf) (limit limit′ : ℕ) (R : (A : Type 0) → (from to : l .l
     pub pop-class-ctx : {g : l .level} → R _ g g 0 c.pop-class-ctx c.pop-class-ctx
     pub begin-ctx : {g h : l .level} (name arity depth : ℕ) (type : FunctionType) → l .opens g h → l .name name → arity ≤ 255 →
         R _ g h 0 (c.begin-ctx (c.new-ctx name arity type depth)) (c.begin-ctx (c.new-ctx name arity type depth))
-    -- steps that write: a scope's end has been paid for where its locals were declared, and a closure's pairs where they were captured
+    -- steps that write: the bytes of a scope's end are paid for where its locals are declared, a closure's pairs where they are captured
     pub emit-u8 : {g : l .level} (b : ℕ) (span : Span) → l .span span → R _ g g 1 (c.emit-u8 limit b span) (c.emit-u8 limit′ b span)
     pub emit-constant : {g : l .level} (v : Constant) (span : Span) → Of-constant l v → l .span span →
         R _ g g 1 (c.emit-constant limit v span) (c.emit-constant limit′ v span)
     pub end-scope : {g : l .level} (span : Span) → l .span span → R _ g g 0 (c.end-scope limit span) (c.end-scope limit′ span)
-    pub end-function : {g h : l .level} (span : Span) → l .opens g h → l .span span → R _ h g 2 (c.end-function limit span) (c.end-function limit′ span)
+    pub end-function : {g h : l .level} (span : Span) → l .opens g h → l .span span → R _ h g 3 (c.end-function limit span) (c.end-function limit′ span)
 
   module _ (laws : Laws) where
     infixl 10 _>>=_
@@ -482,7 +482,7 @@ module _ (l : Leaf) (limit limit′ : ℕ) (R : (A : Type 0) → (from to : l .l
 
     compile-function-with : {g h : l .level} {n : ℕ} (type : FunctionType) (name : ℕ) (params : List ℕ) {body body′ : Compile (Unit {0})} (span : Span) → l .opens g h → R _ h h n body body′ →
         l .name name → l .span span →
-        R _ g g (length params + n + 6) (c.compile-function-with limit type name params body span) (c.compile-function-with limit′ type name params body′ span)
+        R _ g g (length params + n + 7) (c.compile-function-with limit type name params body span) (c.compile-function-with limit′ type name params body′ span)
     unfolding c.compile-function-with
     compile-function-with type name params span up hb n s =
         needs (leb (length params) 255) _ tt
