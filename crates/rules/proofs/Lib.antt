@@ -14,4 +14,6 @@ pub mod Checks
 pub mod ReadBack
 pub mod Trees
 pub mod Steps
+pub mod Spends
 pub mod TreeBytes
+pub mod Widths
