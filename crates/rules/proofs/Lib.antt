@@ -17,3 +17,4 @@ pub mod Steps
 pub mod Spends
 pub mod TreeBytes
 pub mod Widths
+pub mod Accepted

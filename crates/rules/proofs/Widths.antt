@@ -310,6 +310,7 @@ module _ (limit top : ℕ) where
 
 pub record Widths (size : ℕ) (fs : List ObjectFunction) : Type 0 where
   pub each : All Wide-function fs
+  pub some : 0 < length fs
   pub count : length fs ≤ 6 * size + 3
 
 pub widths : (limit funs : ℕ) (stmts : Stmts) → Of-stmts fitting stmts funs → After (λ fs _. Widths (stmts-size stmts) fs) (c.compile-functions limit stmts)
@@ -329,6 +330,7 @@ widths limit funs stmts o = by-outcome (c.compile-script limit stmts c.new) comp
     by-outcome (ok a s) i =
         record {
           each = all-end Wide-function (s .functions) (c.finish (s .ctx)) (i .functions) (i .ctx);
+          some = omega (arith, length-append (s .functions) (c.finish (s .ctx) ∷ []));
           count = omega (arith, i .count, length-append (s .functions) (c.finish (s .ctx) ∷ []));
         }
     by-outcome (err r) i = tt
