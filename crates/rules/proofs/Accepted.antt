@@ -4,15 +4,16 @@ use mathlib.Core.Path.{_≡_, refl, ap, subst, subst⁻¹}
 use mathlib.Core.Bool.{Bool, true, false, _&&_}
 use mathlib.Core.Option.{Option, none, some}
 use mathlib.Core.List.{List, [], _∷_, _++_}
-use Prim.Native.Nat.{ℕ, suc, _+_, _*_, _≤_, _<_, min}
+use Prim.Native.Nat.{ℕ, suc, _+_, _-_, _*_, _≤_, _<_, min}
 use native.Mathlib.Omega.{arith}
-use lib.ListN.{length}
+use lib.ListN.{length, replicate}
 use lib.Dec.{T, ltb, leb, ltb→lt, leb→le}
 use Rattle.rules.specs.Base.{if_then_else_, all}
 use Rattle.rules.specs.Limits.{Limits, first-limits, max-tree, max-code}
 use Rattle.rules.specs.declared.Answer.{Answer}
 use Rattle.rules.specs.declared.Refusal.{Refusal}
 use Rattle.rules.specs.declared.Refusal.the-variants as refusal
+use Rattle.rules.specs.Answer as answer
 use Rattle.rules.specs.Answer.{accepted}
 use Rattle.rules.specs.Tree.{Stmts}
 use Rattle.rules.specs.Reader.{Read, got, bad}
@@ -25,12 +26,12 @@ use Rattle.rules.specs.ImageFile.{read-image}
 use Rattle.rules.specs.Checker as checker
 use Rattle.rules.specs.Checker.{check, instruction-count, sound, names-earlier, all-earlier}
 use Rattle.rules.specs.Entry as entry
-use Rattle.rules.specs.Entry.{Lent, code-limit, functions-are, refused, compile-tree, compile-lent}
+use Rattle.rules.specs.Entry.{Lent, Left, code-limit, Compiled, functions-are, refused, compile-tree, compile-lent, compile-within, compile}
 use Rattle.rules.proofs.Tests.{left, right, all-and}
 use Rattle.rules.proofs.Facts.{All, all-map, Bytes}
 use Rattle.rules.proofs.Runs.{Counts, Counted, counted}
 use Rattle.rules.proofs.CodeBytes.{AllSound, Sound}
-use Rattle.rules.proofs.Checks.{from-ok, from-lent, lent-checked, lent-sound}
+use Rattle.rules.proofs.Checks.{from-ok, from-lent, lent-checked, lent-sound, refusal-number}
 use Rattle.rules.proofs.ReadBack.{Narrow, Fits-run, Fits-constant, Fits-form, Fits-image, read-back}
 use Rattle.rules.proofs.Trees.{Of-stmts, stmts-size}
 use Rattle.rules.proofs.TreeBytes.{Fitting, tree-fits}
@@ -181,3 +182,35 @@ module _ (limits : Limits) (tree : List ℕ) (bytes : Bytes tree) (lent : Lent) 
       by-test : (b : Bool) → T b → checker.verdict (if b then some fs else none) ≡ accepted (instruction-count fs fs)
       by-test true t = refl
       by-test false t = absurd t
+
+-- ## The same of what a call leaves
+
+-- the output holds an image, as long as the answer says, which the checker accepts, and then zeros
+pub record Good (lent : Lent) (r : Left) : Type 0 where
+  pub functions : List ObjectFunction
+  pub says : r .answer ≡ accepted (length (image-bytes functions))
+  pub holds : r .output ≡ image-bytes functions ++ replicate (lent .output-bytes - length (image-bytes functions)) 0
+  pub checks : check (image-bytes functions) ≡ accepted (instruction-count functions functions)
+
+module _ (limits : Limits) (tree : List ℕ) (bytes : Bytes tree) (lent : Lent) where
+  pub within-good : compile-within limits tree lent .answer .number ≡ 0 → Good lent (compile-within limits tree lent)
+  unfolding compile-within entry.write-out entry.leaves entry.write-image
+  within-good e = by-compiled (compile-lent limits tree lent) refl e
+    where
+      room : List ℕ → Bool → Left
+      room image b =
+          if b
+          then entry.leaves lent (accepted (length image)) (image ++ replicate (lent .output-bytes - length image) 0)
+          else entry.leaves lent (answer.refusal (refusal.OutFull (length image))) (replicate (lent .output-bytes) 0)
+
+      by-room : (fs : List ObjectFunction) → compile-lent limits tree lent ≡ functions-are fs → (b : Bool) → room (image-bytes fs) b .answer .number ≡ 0 → Good lent (room (image-bytes fs) b)
+      by-room fs e₁ true e₂ = record { functions = fs; says = refl; holds = refl; checks = image-accepted limits tree bytes lent fs e₁ }
+      by-room fs e₁ false e₂ = absurd (omega (arith, refusal-number (refusal.OutFull (length (image-bytes fs)))))
+
+      by-compiled : (x : Compiled) → compile-lent limits tree lent ≡ x → entry.write-out lent x .answer .number ≡ 0 → Good lent (entry.write-out lent x)
+      by-compiled (functions-are fs) e₁ e₂ = by-room fs e₁ (leb (length (image-bytes fs)) (lent .output-bytes)) e₂
+      by-compiled (refused r) e₁ e₂ = absurd (omega (arith, refusal-number r))
+
+-- for every tree file of bytes and all lent sizes
+pub accepted-good : (tree : List ℕ) → Bytes tree → (lent : Lent) → compile tree lent .answer .number ≡ 0 → Good lent (compile tree lent)
+accepted-good tree bytes lent e = within-good first-limits tree bytes lent e

@@ -292,7 +292,7 @@ module _ (limits : Limits) where
 
 -- ## What is written
 
-refusal-number : (r : Refusal) → 1 ≤ refusal r .number
+pub refusal-number : (r : Refusal) → 1 ≤ refusal r .number
 unfolding refusal
 refusal-number answer.WorkShort = omega arith
 refusal-number answer.TreeTooLong = omega arith
