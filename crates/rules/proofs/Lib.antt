@@ -18,3 +18,4 @@ pub mod Spends
 pub mod TreeBytes
 pub mod Widths
 pub mod Accepted
+pub mod Agrees
