@@ -19,3 +19,4 @@ pub mod TreeBytes
 pub mod Widths
 pub mod Accepted
 pub mod Agrees
+pub mod Room
