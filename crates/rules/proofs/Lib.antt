@@ -12,6 +12,7 @@ pub mod CodeBytes
 pub mod Demand3
 pub mod Checks
 pub mod ReadBack
+pub mod Refusals
 pub mod Trees
 pub mod Steps
 pub mod Spends

@@ -13,7 +13,6 @@ use lib.Dec.{T, leb, leb→le}
 use Rattle.rules.specs.Base.{if_then_else_}
 use Rattle.rules.specs.declared.Span.{Span}
 use Rattle.rules.specs.declared.Refusal.{Refusal}
-use Rattle.rules.specs.declared.Refusal.the-variants as refusal
 use Rattle.rules.specs.Answer.{NO-SPAN}
 use Rattle.rules.specs.Tree.{this, super}
 use Rattle.rules.specs.Tree.{Expr, Exprs, ExprAssign, ExprCall, ExprGet, ExprInfix, Literal, ExprPrefix, ExprSet, ExprSuper, ExprVar, []ᵉ, _∷ᵉ_, count-exprs}
@@ -26,35 +25,9 @@ use Rattle.rules.specs.Chunk.{Constant, CN, CS, CF}
 use Rattle.rules.specs.Compiler as c
 use Rattle.rules.specs.Compiler.{Compiler, Compile, FunctionType, Script, Function, Method, Initializer}
 use Rattle.rules.proofs.Facts.{All}
+use Rattle.rules.proofs.Refusals.{Rusts}
 use Rattle.rules.proofs.Trees.{Leaf, If-some, Of-literal, Of-expr, Of-exprs, Of-superclass, Of-stmt, Of-stmts, Of-fun, Of-methods}
 use Rattle.rules.proofs.Trees.{literal-size, option-size, expr-size, exprs-size, stmt-size, stmts-size, fun-size, methods-size}
-
--- every refusal but 30
-abbrev pub Not-full : Refusal → Type 0
-Not-full refusal.WorkShort = Unit {0}
-Not-full refusal.TreeTooLong = Unit {0}
-Not-full (refusal.TreeForm at) = Unit {0}
-Not-full (refusal.TreeTooDeep at) = Unit {0}
-Not-full (refusal.TooManyOpen at) = Unit {0}
-Not-full (refusal.AlreadyDefined span name) = Unit {0}
-Not-full (refusal.AccessInsideInitializer span name) = Unit {0}
-Not-full (refusal.ClassInheritFromSelf span name) = Unit {0}
-Not-full (refusal.JumpTooLarge span) = Unit {0}
-Not-full (refusal.TooManyArgs span) = Unit {0}
-Not-full (refusal.TooManyConstants span) = Unit {0}
-Not-full (refusal.TooManyLocals span) = Unit {0}
-Not-full (refusal.TooManyParams span) = Unit {0}
-Not-full (refusal.TooManyUpvalues span) = Unit {0}
-Not-full (refusal.ReturnInInitializer span) = Unit {0}
-Not-full (refusal.ReturnOutsideFunction span) = Unit {0}
-Not-full (refusal.SuperOutsideClass span) = Unit {0}
-Not-full (refusal.SuperWithoutSuperclass span) = Unit {0}
-Not-full (refusal.ThisOutsideClass span) = Unit {0}
-Not-full refusal.CodeFull = ⊥
-Not-full (refusal.OutFull needed) = Unit {0}
-Not-full refusal.ImageRefused = Unit {0}
-Not-full refusal.NoSuchFunction = Unit {0}
-Not-full refusal.NoSuchByte = Unit {0}
 
 -- what is asked of a number or a string
 abbrev pub Of-constant : Leaf → Constant → Type 0
@@ -74,13 +47,13 @@ module _ (l : Leaf) (limit limit′ : ℕ) (R : (A : Type 0) → (from to : l .l
     pub _>>_ : {A B : Type 0} {g h i : l .level} {n k : ℕ} {m m′ : Compile A} {p p′ : Compile B} →
         R _ g h n m m′ → R _ h i k p p′ → R _ g i (n + k) (c._>>_ m p) (c._>>_ m′ p′)
     pub enough : {A : Type 0} {g h : l .level} {n k : ℕ} {m m′ : Compile A} → R _ g h n m m′ → n ≤ k → R _ g h k m m′
-    pub needs : {A : Type 0} {g h : l .level} {n : ℕ} {m m′ : Compile A} (b : Bool) (r : Refusal) → Not-full r → (T b → R _ g h n m m′) →
+    pub needs : {A : Type 0} {g h : l .level} {n : ℕ} {m m′ : Compile A} (b : Bool) (r : Refusal) → Rusts r → (T b → R _ g h n m m′) →
         R _ g h n (c._>>_ (c.need b r) m) (c._>>_ (c.need b r) m′)
     -- steps that write nothing
     pub return : {A : Type 0} {g : l .level} (a : A) → R _ g g 0 (c.return a) (c.return a)
     pub the : {A : Type 0} {g : l .level} (f : Compiler → A) → R _ g g 0 (c.the f) (c.the f)
-    pub need : {g : l .level} (b : Bool) (r : Refusal) → Not-full r → R _ g g 0 (c.need b r) (c.need b r)
-    pub refuse : {A : Type 0} {g h : l .level} (r : Refusal) → Not-full r → R A g h 0 (c.refuse r) (c.refuse r)
+    pub need : {g : l .level} (b : Bool) (r : Refusal) → Rusts r → R _ g g 0 (c.need b r) (c.need b r)
+    pub refuse : {A : Type 0} {g h : l .level} (r : Refusal) → Rusts r → R A g h 0 (c.refuse r) (c.refuse r)
     pub resolve : {g : l .level} (name : ℕ) (span : Span) → R _ g g 32 (c.resolve name span) (c.resolve name span)
     pub patch-jump : {g : l .level} (at : ℕ) (span : Span) → R _ g g 0 (c.patch-jump at span) (c.patch-jump at span)
     pub declare-local : {g : l .level} (name : ℕ) (span : Span) → R _ g g 1 (c.declare-local name span) (c.declare-local name span)

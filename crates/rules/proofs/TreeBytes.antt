@@ -22,6 +22,7 @@ use Rattle.rules.specs.Tree.{Stmt, Stmts, StmtBlock, StmtClass, StmtExpr
 use Rattle.rules.specs.Tree.{Fun, fun, Methods, []ᵐ, method}
 use Rattle.rules.proofs.Facts.{All, Bytes}
 use Rattle.rules.proofs.ReadBack.{Narrow}
+use Rattle.rules.proofs.Refusals.{Readers}
 use Rattle.rules.proofs.Trees.{Leaf, If-some, Of-literal, Of-expr, Of-exprs, Of-superclass, Of-stmt, Of-stmts, Of-fun, Of-methods}
 use Rattle.rules.proofs.Trees.{literal-size, option-size, expr-size, exprs-size, stmt-size, stmts-size, fun-size, methods-size}
 
@@ -33,7 +34,7 @@ fitting = record { span = Narrow; name = λ n. n < 65_536; bits = λ n. n ≤ ma
 
 abbrev Given : {A : Type 0} → (A → ℕ → Type 0) → Read A → Type 0
 Given Q (got a next) = Q a next
-Given Q (bad r) = Unit {0}
+Given Q (bad r) = Readers r
 
 -- at this place, the reader refuses or gives a value and a next place of which `Q` holds
 record At {A : Type 0} (m : Reader A) (at : ℕ) (Q : A → ℕ → Type 0) : Type 0 where
@@ -42,7 +43,7 @@ record At {A : Type 0} (m : Reader A) (at : ℕ) (Q : A → ℕ → Type 0) : Ty
 on : {A B : Type 0} {Q : A → ℕ → Type 0} {S : B → ℕ → Type 0} (o : Read A) (f : A → Reader B) → Given Q o → ((a : A) (next : ℕ) → Q a next → At (f a) next S) → Given S (r.go-on o f)
 unfolding r.go-on
 on (got a next) f q h = (h a next q) .run
-on (bad r) f q h = tt
+on (bad r) f q h = q
 
 first : {A B : Type 0} {m : Reader A} {at : ℕ} {f : A → Reader B} {Q : A → ℕ → Type 0} {S : B → ℕ → Type 0} → At m at Q → ((a : A) (next : ℕ) → Q a next → At (f a) next S) → At (r._>>=_ m f) at S
 unfolding r._>>=_
@@ -56,32 +57,32 @@ return : {A : Type 0} {at : ℕ} {Q : A → ℕ → Type 0} (a : A) → Q a at �
 unfolding r.return
 return a q = record { run = q }
 
-refuse : {A : Type 0} {at : ℕ} {Q : A → ℕ → Type 0} (fault : Refusal) → At (r.refuse fault) at Q
+refuse : {A : Type 0} {at : ℕ} {Q : A → ℕ → Type 0} (fault : Refusal) → Readers fault → At (r.refuse fault) at Q
 unfolding r.refuse
-refuse fault = record { run = tt }
+refuse fault o = record { run = o }
 
 so : {A : Type 0} {m : Reader A} {at : ℕ} {Q S : A → ℕ → Type 0} → At m at Q → ((a : A) (next : ℕ) → Q a next → S a next) → At m at S
 so {A} {m = m} {at = at} {Q = Q} {S = S} hm h = record { run = by-outcome (m at) (hm .run) }
   where
     by-outcome : (o : Read A) → Given Q o → Given S o
     by-outcome (got a next) q = h a next q
-    by-outcome (bad fault) q = tt
+    by-outcome (bad fault) q = q
 
-need : {at : ℕ} (b : Bool) (fault : Refusal) → At (r.need b fault) at (λ _ next. T b × (next ≡ at))
+need : {at : ℕ} (b : Bool) (fault : Refusal) → Readers fault → At (r.need b fault) at (λ _ next. T b × (next ≡ at))
 unfolding r.need
-need true fault = record { run = (tt, refl) }
-need false fault = record { run = tt }
+need true fault o = record { run = (tt, refl) }
+need false fault o = record { run = o }
 
 here : {at : ℕ} → At r.here at (λ a next. (a ≡ at) × (next ≡ at))
 unfolding r.here
 here = record { run = (refl, refl) }
 
-one-of : {A : Type 0} {at : ℕ} (fault : Refusal) (table : List (ℕ × A)) (n : ℕ) → At (r.one-of fault table n) at (λ _ next. next ≡ at)
+one-of : {A : Type 0} {at : ℕ} (fault : ℕ) (table : List (ℕ × A)) (n : ℕ) → At (r.one-of (TreeForm fault) table n) at (λ _ next. next ≡ at)
 unfolding r.one-of r.known
 one-of {A} {at = at} fault table n = by-row (lookup n table)
   where
-    by-row : (o : Option A) → At (r.known fault o) at (λ _ next. next ≡ at)
-    by-row none = refuse fault
+    by-row : (o : Option A) → At (r.known (TreeForm fault) o) at (λ _ next. next ≡ at)
+    by-row none = refuse (TreeForm fault) tt
     by-row (some a) = return a refl
 
 -- ## Fields
@@ -139,11 +140,11 @@ read-methods (suc count) g h at =
     first (h at) (λ m i q. first (read-methods count g h i) (λ ms j k. return (method (m .0) (m .1) ms) ((q .0 .0, q .0 .1, q .0 .2, q .0 .3, k .0), omega arith)))
 
 module _ (tree : List ℕ) (bytes : Bytes tree) where
-  u8 : (fault : Refusal) (at : ℕ) → At (r.u8 tree fault) at (Taken (λ (n : ℕ). n < 256) 1 at)
+  u8 : (fault : ℕ) (at : ℕ) → At (r.u8 tree (TreeForm fault)) at (Taken (λ (n : ℕ). n < 256) 1 at)
   unfolding r.u8
   u8 fault at = record { run = by-test (ltb at (length tree)) }
     where
-      by-test : (b : Bool) → Given (Taken (λ (n : ℕ). n < 256) 1 at) (if b then got (getD tree at 0) (at + 1) else bad fault)
+      by-test : (b : Bool) → Given (Taken (λ (n : ℕ). n < 256) 1 at) (if b then got (getD tree at 0) (at + 1) else bad (TreeForm fault))
       by-test true = (getD-small tree at bytes, refl)
       by-test false = tt
 
@@ -153,49 +154,49 @@ module _ (tree : List ℕ) (bytes : Bytes tree) where
       At (r._>>=_ m (λ a. r._>>=_ m (λ b. r.return (a + base * b)))) at (Taken (λ (n : ℕ). n < bound) (size + size) at)
   wider base size h bound w at = first (h at) (λ a i p. first (h i) (λ b j q. return (a + base * b) (w a b (p .0) (q .0), omega arith)))
 
-  u16 : (fault : Refusal) (at : ℕ) → At (r.u16 tree fault) at (Taken (λ (n : ℕ). n < 65_536) 2 at)
+  u16 : (fault : ℕ) (at : ℕ) → At (r.u16 tree (TreeForm fault)) at (Taken (λ (n : ℕ). n < 65_536) 2 at)
   unfolding r.u16
   u16 fault = wider 256 1 (u8 fault) 65_536 (λ a b p q. omega arith)
 
-  u32 : (fault : Refusal) (at : ℕ) → At (r.u32 tree fault) at (Taken (λ (n : ℕ). n < 4_294_967_296) 4 at)
+  u32 : (fault : ℕ) (at : ℕ) → At (r.u32 tree (TreeForm fault)) at (Taken (λ (n : ℕ). n < 4_294_967_296) 4 at)
   unfolding r.u32
   u32 fault = wider 65_536 2 (u16 fault) 4_294_967_296 (λ a b p q. omega arith)
 
-  u64 : (fault : Refusal) (at : ℕ) → At (r.u64 tree fault) at (Taken (λ (n : ℕ). n < 18_446_744_073_709_551_616) 8 at)
+  u64 : (fault : ℕ) (at : ℕ) → At (r.u64 tree (TreeForm fault)) at (Taken (λ (n : ℕ). n < 18_446_744_073_709_551_616) 8 at)
   unfolding r.u64
   u64 fault = wider 4_294_967_296 4 (u32 fault) 18_446_744_073_709_551_616 (λ a b p q. omega arith)
 
-  span : (fault : Refusal) (at : ℕ) → At (r.span tree fault) at (Taken Narrow 8 at)
+  span : (fault : ℕ) (at : ℕ) → At (r.span tree (TreeForm fault)) at (Taken Narrow 8 at)
   unfolding r.span
   span fault at =
       first (u32 fault at) (λ a i p. first (u32 fault i) (λ b j q. return _ (record { start = p .0; end = q .0 }, omega arith)))
 
-  mark : (fault : Refusal) (at : ℕ) → At (r.mark tree fault) at (λ _ next. next ≡ at + 2)
+  mark : (fault : ℕ) (at : ℕ) → At (r.mark tree (TreeForm fault)) at (λ _ next. next ≡ at + 2)
   unfolding r.mark
   mark fault at = first (u8 fault at) (λ a i p. first (u8 fault i) (λ b j q. return _ (omega arith)))
 
-  mark-is : (fault : Refusal) (letters at : ℕ) → At (r.mark-is tree fault letters) at (λ _ next. next ≡ at + 2)
+  mark-is : (fault : ℕ) (letters at : ℕ) → At (r.mark-is tree (TreeForm fault) letters) at (λ _ next. next ≡ at + 2)
   unfolding r.mark-is
-  mark-is fault letters at = first (mark fault at) (λ m i p. so (need (eqb m letters) fault) (λ _ next q. omega arith))
+  mark-is fault letters at = first (mark fault at) (λ m i p. so (need (eqb m letters) (TreeForm fault) tt) (λ _ next q. omega arith))
 
   -- a byte or a mark that a table has
-  kind : {A : Type 0} (table : List (ℕ × A)) (fault : Refusal) (at : ℕ) → At (r._>>=_ (r.u8 tree fault) (r.one-of fault table)) at (λ _ next. next ≡ at + 1)
+  kind : {A : Type 0} (table : List (ℕ × A)) (fault : ℕ) (at : ℕ) → At (r._>>=_ (r.u8 tree (TreeForm fault)) (r.one-of (TreeForm fault) table)) at (λ _ next. next ≡ at + 1)
   kind table fault at = first (u8 fault at) (λ n i p. so (one-of fault table n) (λ _ j q. omega arith))
 
-  marked : {A : Type 0} (table : List (ℕ × A)) (fault : Refusal) (at : ℕ) → At (r._>>=_ (r.mark tree fault) (r.one-of fault table)) at (λ _ next. next ≡ at + 2)
+  marked : {A : Type 0} (table : List (ℕ × A)) (fault : ℕ) (at : ℕ) → At (r._>>=_ (r.mark tree (TreeForm fault)) (r.one-of (TreeForm fault) table)) at (λ _ next. next ≡ at + 2)
   marked table fault at = first (mark fault at) (λ n i p. so (one-of fault table n) (λ _ j q. omega arith))
 
-  flag : (fault : Refusal) (at : ℕ) → At (t.flag tree fault) at (λ _ next. next ≡ at + 1)
+  flag : (fault : ℕ) (at : ℕ) → At (t.flag tree (TreeForm fault)) at (λ _ next. next ≡ at + 1)
   unfolding t.flag
   flag fault at = kind t.flags fault at
 
   module _ (names : ℕ) where
-    name : (fault : Refusal) (at : ℕ) → At (t.name tree names fault) at (Taken (λ (n : ℕ). n < 65_536) 2 at)
+    name : (fault : ℕ) (at : ℕ) → At (t.name tree names (TreeForm fault)) at (Taken (λ (n : ℕ). n < 65_536) 2 at)
     unfolding t.name
-    name fault at = first (u16 fault at) (λ n i p. next (need (ltb n (4 + names)) fault) (λ _ j q. return n (p .0, omega arith)))
+    name fault at = first (u16 fault at) (λ n i p. next (need (ltb n (4 + names)) (TreeForm fault) tt) (λ _ j q. return n (p .0, omega arith)))
 
-    many-names : (count : ℕ) (fault : Refusal) (at : ℕ) →
-        At (r.many count (t.name tree names fault)) at (λ (ns : List ℕ) next. All (λ (n : ℕ). n < 65_536) ns × (next ≡ at + 2 * length ns))
+    many-names : (count : ℕ) (fault : ℕ) (at : ℕ) →
+        At (r.many count (t.name tree names (TreeForm fault))) at (λ (ns : List ℕ) next. All (λ (n : ℕ). n < 65_536) ns × (next ≡ at + 2 * length ns))
     unfolding r.many
     many-names zero fault at = return [] (tt, omega arith)
     many-names (suc count) fault at =
@@ -206,17 +207,17 @@ module _ (tree : List ℕ) (bytes : Bytes tree) where
     abbrev Expr-at : (start : ℕ) → Expr → ℕ → Type 0
     Expr-at start e next = Of-expr fitting e × (next ≡ start + expr-size e)
 
-    literal-of : (fault : Refusal) (k : t.LiteralKind) (at : ℕ) → At (t.literal-of tree names fault k) at (λ (v : ExprLiteral) next. Of-literal fitting v × (next ≡ at + literal-size v))
+    literal-of : (fault : ℕ) (k : t.LiteralKind) (at : ℕ) → At (t.literal-of tree names (TreeForm fault) k) at (λ (v : ExprLiteral) next. Of-literal fitting v × (next ≡ at + literal-size v))
     unfolding t.literal-of
     literal-of fault t.a-false at = return _ (tt, omega arith)
     literal-of fault t.a-true at = return _ (tt, omega arith)
     literal-of fault t.a-nil at = return _ (tt, omega arith)
     literal-of fault t.a-number at =
-        first (u64 fault at) (λ bits i p. next (need (leb bits max-bits) fault) (λ _ j q. return (LitNumber bits) (leb→le bits max-bits (q .0), omega arith)))
+        first (u64 fault at) (λ bits i p. next (need (leb bits max-bits) (TreeForm fault) tt) (λ _ j q. return (LitNumber bits) (leb→le bits max-bits (q .0), omega arith)))
     literal-of fault t.a-string at = first (name fault at) (λ n i p. return (LitString n) (p .0, p .1))
 
-    expr-fields : (expr : Reader Expr) → Reads expr (Of-expr fitting) expr-size → (fault : Refusal) (k : t.ExprMark) (s : Span) → Narrow s → (start at : ℕ) → at ≡ start + 10 →
-        At (t.expr-fields tree names expr fault k s) at (Expr-at start)
+    expr-fields : (expr : Reader Expr) → Reads expr (Of-expr fitting) expr-size → (fault : ℕ) (k : t.ExprMark) (s : Span) → Narrow s → (start at : ℕ) → at ≡ start + 10 →
+        At (t.expr-fields tree names expr (TreeForm fault) k s) at (Expr-at start)
     unfolding t.expr-fields t.assign-fields t.call-fields t.get-fields t.infix-fields t.literal-fields t.prefix-fields t.set-fields t.super-fields t.var-fields
     expr-fields expr h fault t.EA s l start at e =
         first (name fault at) (λ n i p. first (h i) (λ v j q. return (ExprAssign s n v) ((l, p .0, q .0), omega arith)))
@@ -237,21 +238,21 @@ module _ (tree : List ℕ) (bytes : Bytes tree) where
 
     read-expr : (depth : ℕ) → Reads (t.read-expr tree names depth) (Of-expr fitting) expr-size
     unfolding t.read-expr t.expr-mark t.expr-record
-    read-expr zero at = first here (λ start i p. first (marked t.expr-marks (TreeForm start) i) (λ k j q. refuse _))
+    read-expr zero at = first here (λ start i p. first (marked t.expr-marks start i) (λ k j q. refuse _ tt))
     read-expr (suc depth) at =
         first here (λ start i p.
-        first (marked t.expr-marks (TreeForm start) i) (λ k j q.
-        first (span (TreeForm start) j) (λ s m o.
-        expr-fields (t.read-expr tree names depth) (read-expr depth) (TreeForm start) k s (o .0) at m (omega arith))))
+        first (marked t.expr-marks start i) (λ k j q.
+        first (span start j) (λ s m o.
+        expr-fields (t.read-expr tree names depth) (read-expr depth) start k s (o .0) at m (omega arith))))
 
     read-superclass : (depth : ℕ) → Reads (t.read-superclass tree names depth) (Of-superclass fitting) (λ _. 12)
     unfolding t.read-superclass
-    read-superclass zero at = first here (λ start i p. next (mark-is (TreeForm start) 0x4556 i) (λ _ j q. refuse _))
+    read-superclass zero at = first here (λ start i p. next (mark-is start 0x4556 i) (λ _ j q. refuse _ tt))
     read-superclass (suc depth) at =
         first here (λ start i p.
-        next (mark-is (TreeForm start) 0x4556 i) (λ _ j q.
-        first (span (TreeForm start) j) (λ s k o.
-        first (name (TreeForm start) k) (λ n m w. return _ (record { span = o .0; name = w .0 }, omega arith)))))
+        next (mark-is start 0x4556 i) (λ _ j q.
+        first (span start j) (λ s k o.
+        first (name start k) (λ n m w. return _ (record { span = o .0; name = w .0 }, omega arith)))))
 
     -- ## Statements
 
@@ -266,8 +267,8 @@ module _ (tree : List ℕ) (bytes : Bytes tree) where
       inner : Reads (read .inner) (λ s. Of-stmt fitting s (g - 1)) stmt-size
       one-method : Reads (read .one-method) (Of-method g) method-size
 
-    fun-fields : (inner : Reader Stmt) (g : ℕ) → Reads inner (λ s. Of-stmt fitting s g) stmt-size → (fault : Refusal) →
-        Reads (t.fun-fields tree names inner fault) (λ f. Of-fun fitting f g) fun-size
+    fun-fields : (inner : Reader Stmt) (g : ℕ) → Reads inner (λ s. Of-stmt fitting s g) stmt-size → (fault : ℕ) →
+        Reads (t.fun-fields tree names inner (TreeForm fault)) (λ f. Of-fun fitting f g) fun-size
     unfolding t.fun-fields
     fun-fields inner g h fault at =
         first (name fault at) (λ n i p.
@@ -276,8 +277,8 @@ module _ (tree : List ℕ) (bytes : Bytes tree) where
         first (u16 fault k) (λ count m w.
         first (read-stmts count g h m) (λ body u v. return (fun n ns body) ((p .0, o .0, v .0), omega arith))))))
 
-    stmt-fields : (read : t.Children) (g : ℕ) → Read-children read g → (fault : Refusal) (k : t.StmtMark) → T (t.may-open k g) → (s : Span) → Narrow s → (start at : ℕ) → at ≡ start + 10 →
-        At (t.stmt-fields tree names read fault k s) at (Stmt-at start g)
+    stmt-fields : (read : t.Children) (g : ℕ) → Read-children read g → (fault : ℕ) (k : t.StmtMark) → T (t.may-open k g) → (s : Span) → Narrow s → (start at : ℕ) → at ≡ start + 10 →
+        At (t.stmt-fields tree names read (TreeForm fault) k s) at (Stmt-at start g)
     unfolding t.stmt-fields t.block-fields t.class-fields t.expression-fields t.if-fields t.for-fields t.print-fields t.return-fields t.var-stmt-fields t.while-fields t.may-open
     stmt-fields read g h fault t.SB y s l start at e =
         first (u16 fault at) (λ n i p. first (read-stmts n g (h .stmt) i) (λ ss j q. return (StmtBlock s ss) ((l, q .0), omega arith)))
@@ -297,7 +298,7 @@ module _ (tree : List ℕ) (bytes : Bytes tree) where
         first (maybe-stmt b g (h .stmt) k) (λ z m w. return (StmtIf s v a z) ((l, q .0, o .0, w .0), omega arith)))))
     stmt-fields read g h fault t.SO y s l start at e =
         first (u8 fault at) (λ parts i p.
-        next (need (ltb parts 8) fault) (λ _ i′ p′.
+        next (need (ltb parts 8) (TreeForm fault) tt) (λ _ i′ p′.
         first (maybe-stmt (eqb (parts % 2) 1) g (h .stmt) i′) (λ a j q.
         first (maybe (eqb (parts / 2 % 2) 1) (Of-expr fitting) expr-size (h .expr) j) (λ b k o.
         first (h .stmt k) (λ z m w.
@@ -317,12 +318,12 @@ module _ (tree : List ℕ) (bytes : Bytes tree) where
       unfolding t.read-stmt t.stmt-mark t.stmt-record t.method-record
 
       read-stmt : (depth g : ℕ) → Reads (t.read-stmt tree names depth g) (λ s. Of-stmt fitting s g) stmt-size
-      read-stmt zero g at = first here (λ start i p. first (marked t.stmt-marks (TreeForm start) i) (λ k j q. refuse _))
+      read-stmt zero g at = first here (λ start i p. first (marked t.stmt-marks start i) (λ k j q. refuse _ tt))
       read-stmt (suc depth) g at =
           first here (λ start i p.
-          first (marked t.stmt-marks (TreeForm start) i) (λ k j q.
-          next (need (t.may-open k g) (TooManyOpen start)) (λ _ j′ q′.
-          first (span (TreeForm start) j′) (λ s m o.
+          first (marked t.stmt-marks start i) (λ k j q.
+          next (need (t.may-open k g) (TooManyOpen start) tt) (λ _ j′ q′.
+          first (span start j′) (λ s m o.
           stmt-fields _ g
           (record {
             expr = read-expr depth;
@@ -331,21 +332,21 @@ module _ (tree : List ℕ) (bytes : Bytes tree) where
             inner = λ at. read-stmt depth (g - 1) at;
             one-method = λ at. read-method depth g at;
           })
-          (TreeForm start) k (q′ .0) s (o .0) at m (omega arith)))))
+          start k (q′ .0) s (o .0) at m (omega arith)))))
 
       read-method : (depth g : ℕ) → Reads (t.read-method tree names depth g) (Of-method g) method-size
-      read-method zero g at = first here (λ start i p. next (mark-is (TreeForm start) 0x5346 i) (λ _ j q. refuse _))
+      read-method zero g at = first here (λ start i p. next (mark-is start 0x5346 i) (λ _ j q. refuse _ tt))
       read-method (suc depth) g at =
           first here (λ start i p.
-          next (mark-is (TreeForm start) 0x5346 i) (λ _ j q.
-          next (need (ltb 0 g) (TooManyOpen start)) (λ _ j′ q′.
-          first (span (TreeForm start) j′) (λ s m o.
-          first (fun-fields _ (g - 1) (λ at. read-stmt depth (g - 1) at) (TreeForm start) m) (λ f u v.
+          next (mark-is start 0x5346 i) (λ _ j q.
+          next (need (ltb 0 g) (TooManyOpen start) tt) (λ _ j′ q′.
+          first (span start j′) (λ s m o.
+          first (fun-fields _ (g - 1) (λ at. read-stmt depth (g - 1) at) start m) (λ f u v.
           return (s, f) ((o .0, (g - 1), omega (arith, ltb→lt 0 g (q′ .0)), v .0), omega arith))))))
 
   -- ## Names and the whole file
 
-  many-bytes : (count : ℕ) (fault : Refusal) (at : ℕ) → At (r.many count (r.u8 tree fault)) at (λ (bs : List ℕ) next. next ≡ at + length bs)
+  many-bytes : (count : ℕ) (fault : ℕ) (at : ℕ) → At (r.many count (r.u8 tree (TreeForm fault))) at (λ (bs : List ℕ) next. next ≡ at + length bs)
   unfolding r.many
   many-bytes zero fault at = return [] (omega arith)
   many-bytes (suc count) fault at = first (u8 fault at) (λ b i p. first (many-bytes count fault i) (λ bs j q. return (b ∷ bs) (omega arith)))
@@ -354,11 +355,11 @@ module _ (tree : List ℕ) (bytes : Bytes tree) where
   unfolding t.read-name
   read-name last at =
       first here (λ start i p.
-      next (mark-is (TreeForm start) 0x4E4D i) (λ _ j q.
-      first (u16 (TreeForm start) j) (λ size k o.
-      first (many-bytes size (TreeForm start) k) (λ text m w.
-      next (need (t.rises tree last text) (TreeForm start)) (λ _ u v.
-      next (need (all (t.differs tree text) t.fixed-names) (TreeForm start)) (λ _ y z. return text (omega arith)))))))
+      next (mark-is start 0x4E4D i) (λ _ j q.
+      first (u16 start j) (λ size k o.
+      first (many-bytes size start k) (λ text m w.
+      next (need (t.rises tree last text) (TreeForm start) tt) (λ _ u v.
+      next (need (all (t.differs tree text) t.fixed-names) (TreeForm start) tt) (λ _ y z. return text (omega arith)))))))
 
   read-names : (count : ℕ) (last : Option (List ℕ)) (at : ℕ) → At (t.read-names tree count last) at (λ _ next. at ≤ next)
   unfolding t.read-names
@@ -368,14 +369,14 @@ module _ (tree : List ℕ) (bytes : Bytes tree) where
   read-file : (depth funs at : ℕ) → At (t.read-file tree depth funs) at (λ (ts : Stmts) next. Of-stmts fitting ts funs × (at + 6 + stmts-size ts ≤ length tree))
   unfolding t.read-file
   read-file depth funs at =
-      next (mark-is (TreeForm 0) 0x5452 at) (λ _ i p.
-      first (u16 (TreeForm 0) i) (λ names j q.
-      first (u16 (TreeForm 0) j) (λ count k o.
-      next (need (leb names max-names) (TreeForm 0)) (λ _ m w.
+      next (mark-is 0 0x5452 at) (λ _ i p.
+      first (u16 0 i) (λ names j q.
+      first (u16 0 j) (λ count k o.
+      next (need (leb names max-names) (TreeForm 0) tt) (λ _ m w.
       next (read-names names none m) (λ _ u v.
       first (read-stmts count funs (λ at. read-stmt names depth funs at) u) (λ ts y z.
       first here (λ end e f.
-      next (need (eqb end (length tree)) (TreeForm end)) (λ _ x x′. return ts (z .0, omega (arith, eqb→eq end (length tree) (x′ .0)))))))))))
+      next (need (eqb end (length tree)) (TreeForm end) tt) (λ _ x x′. return ts (z .0, omega (arith, eqb→eq end (length tree) (x′ .0)))))))))))
 
 -- every tree that is read from bytes fits, and its records are no longer than the file less its header
 pub record Fitting (tree : List ℕ) (funs : ℕ) (ts : Stmts) : Type 0 where
@@ -391,3 +392,12 @@ tree-fits tree bytes depth funs ts next e = by-outcome (t.read-file tree depth f
         let z : us ≡ ts = cc in
         subst (λ (ts : Stmts). Fitting tree funs ts) z (record { parts = h .0; size = h .1 })
     by-outcome (bad fault) e h = let z : _≡_ {A = ℕ} 0 1 = cc in absurd (omega arith)
+
+-- and what it refuses by is 3, 4 or 5
+pub tree-refuses : (tree : List ℕ) → Bytes tree → (depth funs : ℕ) (fault : Refusal) → t.read-tree tree depth funs ≡ bad fault → Readers fault
+unfolding t.read-tree
+tree-refuses tree bytes depth funs fault e = by-outcome (t.read-file tree depth funs 0) e ((read-file tree bytes depth funs 0) .run)
+  where
+    by-outcome : (o : Read Stmts) → o ≡ bad fault → Given (λ (ts : Stmts) next. Of-stmts fitting ts funs × (0 + 6 + stmts-size ts ≤ length tree)) o → Readers fault
+    by-outcome (got us i) e h = let z : _≡_ {A = ℕ} 0 1 = cc in absurd (omega arith)
+    by-outcome (bad other) e h = let z : other ≡ fault = cc in subst Readers z h

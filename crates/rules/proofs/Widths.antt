@@ -24,7 +24,8 @@ use Rattle.rules.proofs.Facts.{All, all-end}
 use Rattle.rules.proofs.ReadBack.{Narrow}
 use Rattle.rules.proofs.Trees.{Of-stmts, stmts-size}
 use Rattle.rules.proofs.Steps as steps
-use Rattle.rules.proofs.Steps.{Laws, Not-full}
+use Rattle.rules.proofs.Steps.{Laws}
+use Rattle.rules.proofs.Refusals.{Compilers, rusts-compilers}
 use Rattle.rules.proofs.Spends as spends
 use Rattle.rules.proofs.Spends.{Spends, Ends}
 use Rattle.rules.proofs.TreeBytes.{fitting}
@@ -78,35 +79,32 @@ record Fit (g k : ℕ) (s : Compiler) : Type 0 where
 more : (g k k′ : ℕ) (s : Compiler) → k ≤ k′ → Fit g k s → Fit g k′ s
 more g k k′ s l i = record { ctx = i .ctx; parents = i .parents; functions = i .functions; count = omega arith }
 
-abbrev Any : Refusal → Type 0
-Any r = Unit {0}
-
 module _ (limit top : ℕ) where
   abbrev Does : {A : Type 0} → (g h n : ℕ) → Compile A → Type 0
-  Does g h n m = Spends Fit Any top g h n m
+  Does g h n m = Spends Fit Compilers top g h n m
 
   infixl 10 _>>=_
   _>>=_ : {A B : Type 0} {g h i n n′ : ℕ} {m : Compile A} {f : A → Compile B} → Does g h n m → ((a : A) → Does h i n′ (f a)) → Does g i (n + n′) (c._>>=_ m f)
-  hm >>= hf = spends.bind Fit Any top more hm hf
+  hm >>= hf = spends.bind Fit Compilers top more hm hf
 
   infixl 10 _>>_
   _>>_ : {A B : Type 0} {g h i n n′ : ℕ} {m : Compile A} {p : Compile B} → Does g h n m → Does h i n′ p → Does g i (n + n′) (c._>>_ m p)
-  hm >> hp = spends.follow Fit Any top more hm hp
+  hm >> hp = spends.follow Fit Compilers top more hm hp
 
   -- a step that writes may cost something; here only a finished function does
   costs : {A : Type 0} {g h : ℕ} {m : Compile A} (n : ℕ) → Does g h 0 m → Does g h n m
-  costs n h = spends.enough Fit Any top more h (omega arith)
+  costs n h = spends.enough Fit Compilers top more h (omega arith)
 
   -- a change of the current context that leaves it wide
   update : {g : ℕ} (f : CompilerCtx → CompilerCtx) → ((x : CompilerCtx) → Wide-ctx x → Wide-ctx (f x)) → Does g g 0 (c.update-ctx f)
   unfolding c.update-ctx
-  update f h = spends.free Fit Any top more (λ s k i. record { ctx = h (s .ctx) (i .ctx); parents = i .parents; functions = i .functions; count = i .count })
+  update f h = spends.free Fit Compilers top more (λ s k i. record { ctx = h (s .ctx) (i .ctx); parents = i .parents; functions = i .functions; count = i .count })
 
   emit-u8 : {g : ℕ} (b : ℕ) (span : Span) → Narrow span → Does g g 0 (c.emit-u8 limit b span)
   unfolding c.emit-u8
   emit-u8 b span n = do
-    used ← spends.the Fit Any top more _
-    spends.need Fit Any top more _ _ tt
+    used ← spends.the Fit Compilers top more _
+    spends.need Fit Compilers top more _ _ tt
     update _ (λ x h. write (x .name) (x .arity) (x .chunk) b span n h)
 
   -- what is written for a constant keeps the chunk wide
@@ -127,7 +125,7 @@ module _ (limit top : ℕ) where
       found none = added (ltb (length (ch .constants)) 256)
 
   emit-place : {g : ℕ} (s : Compiler) (k : ℕ) (w : Written) (span : Span) → Narrow span → Fit g k s → k + 0 ≤ top → Placed (s .ctx .name) (s .ctx .arity) w →
-      Ends Fit Any top g (k + 0) (c.emit-place limit w span s)
+      Ends Fit Compilers top g (k + 0) (c.emit-place limit w span s)
   unfolding c.emit-place Placed c._>>_ go-on c.update-ctx c.refuse
   emit-place s k (at-place place ch) span n i l h =
       (emit-u8 place span n) .run (c.with-ctx s (c.with-chunk (s .ctx) ch)) k l (record { ctx = h; parents = i .parents; functions = i .functions; count = i .count })
@@ -145,36 +143,36 @@ module _ (limit top : ℕ) where
 
   pop-locals : {g : ℕ} (ls : List Local) (span : Span) → Narrow span → Does g g 0 (c.pop-locals limit ls span)
   unfolding c.pop-locals c.emit-op
-  pop-locals [] span n = spends.done Fit Any top more
+  pop-locals [] span n = spends.done Fit Compilers top more
   pop-locals (x ∷ xs) span n = do
-    depth ← spends.the Fit Any top more _
-    spends.either Fit Any top more (ltb depth (x .depth))
+    depth ← spends.the Fit Compilers top more _
+    spends.either Fit Compilers top more (ltb depth (x .depth))
         (do
           emit-u8 _ _ n
           update _ (λ x h. h)
           pop-locals xs span n)
-        (spends.done Fit Any top more)
+        (spends.done Fit Compilers top more)
 
   end-scope : {g : ℕ} (span : Span) → Narrow span → Does g g 0 (c.end-scope limit span)
   unfolding c.end-scope
   end-scope span n = do
     update _ (λ x h. h)
-    locals ← spends.the Fit Any top more _
+    locals ← spends.the Fit Compilers top more _
     pop-locals locals span n
 
   declare-local : {g : ℕ} (name : ℕ) (span : Span) → Does g g 0 (c.declare-local name span)
   unfolding c.declare-local
   declare-local name span = do
-    ctx ← spends.the Fit Any top more _
-    spends.need Fit Any top more _ _ tt
-    spends.need Fit Any top more _ _ tt
+    ctx ← spends.the Fit Compilers top more _
+    spends.need Fit Compilers top more _ _ tt
+    spends.need Fit Compilers top more _ _ tt
     update _ (λ x h. h)
 
   -- captured variables change neither name nor chunk
   abbrev Wide-if : Resolved → Type 0
   Wide-if (captured idx ctx parents) = Wide-ctx ctx × All Wide-ctx parents
   Wide-if nowhere = Unit {0}
-  Wide-if (failed r) = Unit {0}
+  Wide-if (failed r) = Compilers r
 
   added : (p : Option ℕ) (u : Upvalue) (span : Span) (ctx : CompilerCtx) (parents : List CompilerCtx) → Wide-ctx ctx → All Wide-ctx parents → Wide-if (c.added p u span ctx parents)
   unfolding c.added
@@ -193,7 +191,7 @@ module _ (limit top : ℕ) where
   through uninitialized outer name span ctx parent above h p ps o = tt
   through missing (captured idx q qs) name span ctx parent above h p ps o = added _ (record { idx = idx; is-local = false }) span ctx (q ∷ qs) h o
   through missing nowhere name span ctx parent above h p ps o = tt
-  through missing (failed r) name span ctx parent above h p ps o = tt
+  through missing (failed r) name span ctx parent above h p ps o = o
 
   resolve-upvalue : (name : ℕ) (span : Span) (ctx : CompilerCtx) (parents : List CompilerCtx) → Wide-ctx ctx → All Wide-ctx parents → Wide-if (c.resolve-upvalue name span ctx parents)
   unfolding c.resolve-upvalue
@@ -201,18 +199,18 @@ module _ (limit top : ℕ) where
   resolve-upvalue name span ctx (p ∷ ps) h hs =
       through (c.find-local name (p .locals)) (c.resolve-upvalue name span p ps) name span ctx p ps h (hs .0) (hs .1) (resolve-upvalue name span p ps (hs .0) (hs .1))
 
-  resolved : {g : ℕ} (f : Found) (outer : Resolved) (name : ℕ) (span : Span) (s : Compiler) (k : ℕ) → Fit g k s → Wide-if outer → Ends Fit Any top g k (c.resolved f outer name span s)
+  resolved : {g : ℕ} (f : Found) (outer : Resolved) (name : ℕ) (span : Span) (s : Compiler) (k : ℕ) → Fit g k s → Wide-if outer → Ends Fit Compilers top g k (c.resolved f outer name span s)
   unfolding c.resolved c._>>_ go-on c.put-ctxs c.return c.refuse
   resolved (at-slot slot) outer name span s k i o = i
   resolved uninitialized outer name span s k i o = tt
   resolved missing (captured idx ctx parents) name span s k i o = record { ctx = o .0; parents = o .1; functions = i .functions; count = i .count }
   resolved missing nowhere name span s k i o = i
-  resolved missing (failed r) name span s k i o = tt
+  resolved missing (failed r) name span s k i o = o
 
   resolve : {g : ℕ} (name : ℕ) (span : Span) → Does g g 0 (c.resolve name span)
   unfolding c.resolve c._>>=_ go-on c.get
   resolve name span =
-      spends.free Fit Any top more
+      spends.free Fit Compilers top more
       (λ s k i. resolved (c.find-local name (s .ctx .locals)) (c.resolve-upvalue name span (s .ctx) (s .parents)) name span s k i
       (resolve-upvalue name span (s .ctx) (s .parents) (i .ctx) (i .parents)))
 
@@ -221,7 +219,7 @@ module _ (limit top : ℕ) where
   begin-ctx : {g h : ℕ} (name arity depth : ℕ) (type : FunctionType) → name < 65_536 → arity ≤ 255 → Does g h 0 (c.begin-ctx (c.new-ctx name arity type depth))
   unfolding c.begin-ctx
   begin-ctx name arity depth type n a =
-      spends.free Fit Any top more
+      spends.free Fit Compilers top more
       (λ s k i. record {
         ctx = record { named = n; few = a; constants = tt; runs = tt };
         parents = (i .ctx, i .parents);
@@ -229,7 +227,7 @@ module _ (limit top : ℕ) where
         count = i .count;
       })
 
-  back-to : {g : ℕ} (h : ℕ) (s : Compiler) (k : ℕ) (ps : List CompilerCtx) → Fit g k s → All Wide-ctx ps → Ends Fit Any top h (k + 1) (c.back-to ps s)
+  back-to : {g : ℕ} (h : ℕ) (s : Compiler) (k : ℕ) (ps : List CompilerCtx) → Fit g k s → All Wide-ctx ps → Ends Fit Compilers top h (k + 1) (c.back-to ps s)
   unfolding c.back-to c.finish
   back-to h s k [] i hs = record { ctx = i .ctx; parents = i .parents; functions = i .functions; count = omega (arith, i .count) }
   back-to h s k (p ∷ ps) i hs =
@@ -246,7 +244,7 @@ module _ (limit top : ℕ) where
 
   emit-upvalues : {g : ℕ} (us : List Upvalue) (span : Span) → Narrow span → Does g g 0 (c.emit-upvalues limit us span)
   unfolding c.emit-upvalues
-  emit-upvalues [] span n = spends.done Fit Any top more
+  emit-upvalues [] span n = spends.done Fit Compilers top more
   emit-upvalues (u ∷ us) span n = do
     emit-u8 _ _ n
     emit-u8 _ _ n
@@ -273,8 +271,8 @@ module _ (limit top : ℕ) where
   patch-jump : {g : ℕ} (at : ℕ) (span : Span) → Does g g 0 (c.patch-jump at span)
   unfolding c.patch-jump c.code-length
   patch-jump at span = do
-    size ← spends.the Fit Any top more _
-    spends.need Fit Any top more _ _ tt
+    size ← spends.the Fit Compilers top more _
+    spends.need Fit Compilers top more _ _ tt
     update _ (λ x h. record { named = h .named; few = h .few; constants = h .constants; runs = h .runs })
 
   laws : Laws fitting limit limit (λ A g h n m m′. Does {A = A} g h n m)
@@ -286,24 +284,24 @@ module _ (limit top : ℕ) where
         super-name = omega arith;
         _>>=_ = λ hm hf. hm >>= hf;
         _>>_ = λ hm hp. hm >> hp;
-        enough = λ hm b. spends.enough Fit Any top more hm b;
-        needs = λ b r o f. spends.needs Fit Any top more b r tt f;
-        return = λ a. spends.return Fit Any top more a;
-        the = λ f. spends.the Fit Any top more f;
-        need = λ b r o. spends.need Fit Any top more b r tt;
-        refuse = λ r o. spends.refuse Fit Any top more r tt;
+        enough = λ hm b. spends.enough Fit Compilers top more hm b;
+        needs = λ b r o f. spends.needs Fit Compilers top more b r (rusts-compilers r o) f;
+        return = λ a. spends.return Fit Compilers top more a;
+        the = λ f. spends.the Fit Compilers top more f;
+        need = λ b r o. spends.need Fit Compilers top more b r (rusts-compilers r o);
+        refuse = λ r o. spends.refuse Fit Compilers top more r (rusts-compilers r o);
         resolve = λ name span. costs 32 (resolve name span);
         patch-jump = λ at span. patch-jump at span;
         declare-local = λ name span. costs 1 (declare-local name span);
         define-local = update _ (λ x h. h);
         begin-scope = update _ (λ x h. h);
-        push-class-ctx = λ b. spends.free Fit Any top more (λ s k i. record { ctx = i .ctx; parents = i .parents; functions = i .functions; count = i .count });
-        pop-class-ctx = spends.free Fit Any top more (λ s k i. record { ctx = i .ctx; parents = i .parents; functions = i .functions; count = i .count });
+        push-class-ctx = λ b. spends.free Fit Compilers top more (λ s k i. record { ctx = i .ctx; parents = i .parents; functions = i .functions; count = i .count });
+        pop-class-ctx = spends.free Fit Compilers top more (λ s k i. record { ctx = i .ctx; parents = i .parents; functions = i .functions; count = i .count });
         begin-ctx = λ name arity depth type up n a. begin-ctx name arity depth type n a;
         emit-u8 = λ b span n. costs 1 (emit-u8 b span n);
         emit-constant = λ v span o n. costs 1 (emit-constant v span (constant-small v o) n);
         end-scope = λ span n. end-scope span n;
-        end-function = λ span up n. spends.enough Fit Any top more (end-function span n) (omega arith);
+        end-function = λ span up n. spends.enough Fit Compilers top more (end-function span n) (omega arith);
       }
 
 -- ## Every function of the image
@@ -313,24 +311,36 @@ pub record Widths (size : ℕ) (fs : List ObjectFunction) : Type 0 where
   pub some : 0 < length fs
   pub count : length fs ≤ 6 * size + 3
 
-pub widths : (limit funs : ℕ) (stmts : Stmts) → Of-stmts fitting stmts funs → After (λ fs _. Widths (stmts-size stmts) fs) (c.compile-functions limit stmts)
-unfolding c.compile-functions c._>>_ c.the c.finish go-on
-widths limit funs stmts o = by-outcome (c.compile-script limit stmts c.new) compiled
-  where
-    top : ℕ
-    top = 6 * stmts-size stmts + 2
+module _ (limit funs : ℕ) (stmts : Stmts) (o : Of-stmts fitting stmts funs) where
+  top : ℕ
+  top = 6 * stmts-size stmts + 2
 
-    compiled : Ends Fit Any top funs (0 + top) (c.compile-script limit stmts c.new)
-    compiled =
-        (steps.compile-script fitting limit limit (λ A g h n m m′. Does limit top {A = A} g h n m) (laws limit top) stmts funs o) .run c.new 0 (omega arith)
-        (record { ctx = record { named = omega arith; few = omega arith; constants = tt; runs = tt }; parents = tt; functions = tt; count = omega arith })
+  compiled : Ends Fit Compilers top funs (0 + top) (c.compile-script limit stmts c.new)
+  unfolding top
+  compiled =
+      (steps.compile-script fitting limit limit (λ A g h n m m′. Does limit top {A = A} g h n m) (laws limit top) stmts funs o) .run c.new 0 (omega arith)
+      (record { ctx = record { named = omega arith; few = omega arith; constants = tt; runs = tt }; parents = tt; functions = tt; count = omega arith })
 
-    by-outcome : (r : Outcome (Unit {0})) → Ends Fit Any top funs (0 + top) r →
-        After (λ fs _. Widths (stmts-size stmts) fs) (go-on r (λ _. c.the (λ (s : Compiler). s .functions ++ (c.finish (s .ctx) ∷ []))))
-    by-outcome (ok a s) i =
-        record {
-          each = all-end Wide-function (s .functions) (c.finish (s .ctx)) (i .functions) (i .ctx);
-          some = omega (arith, length-append (s .functions) (c.finish (s .ctx) ∷ []));
-          count = omega (arith, i .count, length-append (s .functions) (c.finish (s .ctx) ∷ []));
-        }
-    by-outcome (err r) i = tt
+  pub widths : After (λ fs _. Widths (stmts-size stmts) fs) (c.compile-functions limit stmts)
+  unfolding c.compile-functions c._>>_ c.the c.finish go-on top
+  widths = by-outcome (c.compile-script limit stmts c.new) compiled
+    where
+      by-outcome : (r : Outcome (Unit {0})) → Ends Fit Compilers top funs (0 + top) r →
+          After (λ fs _. Widths (stmts-size stmts) fs) (go-on r (λ _. c.the (λ (s : Compiler). s .functions ++ (c.finish (s .ctx) ∷ []))))
+      by-outcome (ok a s) i =
+          record {
+            each = all-end Wide-function (s .functions) (c.finish (s .ctx)) (i .functions) (i .ctx);
+            some = omega (arith, length-append (s .functions) (c.finish (s .ctx) ∷ []));
+            count = omega (arith, i .count, length-append (s .functions) (c.finish (s .ctx) ∷ []));
+          }
+      by-outcome (err r) i = tt
+
+  -- and what it refuses by is 10 to 23 or 30
+  pub refuses : (r : Refusal) → c.compile-functions limit stmts ≡ err r → Compilers r
+  unfolding c.compile-functions c._>>_ c.the go-on
+  refuses r e = by-outcome (c.compile-script limit stmts c.new) compiled e
+    where
+      by-outcome : (x : Outcome (Unit {0})) → Ends Fit Compilers top funs (0 + top) x →
+          go-on x (λ _. c.the (λ (s : Compiler). s .functions ++ (c.finish (s .ctx) ∷ []))) ≡ err r → Compilers r
+      by-outcome (ok a s) i e = let z : _≡_ {A = ℕ} 0 1 = cc in absurd (omega arith)
+      by-outcome (err x) i e = let z : x ≡ r = cc in subst Compilers z i
