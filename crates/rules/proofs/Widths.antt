@@ -263,10 +263,10 @@ module _ (limit top : ℕ) where
     (number, upvalues) ← end-ctx
     emit-closure number upvalues span n
 
-  constant-small : (v : Constant) → steps.Of-constant fitting v → Small-constant v
-  constant-small (CN bits) o = o
-  constant-small (CS name) o = o
-  constant-small (CF number) o = tt
+  constant-small : (most : ℕ) (v : Constant) → steps.Of-constant (fitting most) v → Small-constant v
+  constant-small most (CN bits) o = o
+  constant-small most (CS name) o = o
+  constant-small most (CF number) o = tt
 
   patch-jump : {g : ℕ} (at : ℕ) (span : Span) → Does g g 0 (c.patch-jump at span)
   unfolding c.patch-jump c.code-length
@@ -275,9 +275,9 @@ module _ (limit top : ℕ) where
     spends.need Fit Compilers top more _ _ tt
     update _ (λ x h. record { named = h .named; few = h .few; constants = h .constants; runs = h .runs })
 
-  laws : Laws fitting limit limit (λ A g h n m m′. Does {A = A} g h n m)
+  laws : (most : ℕ) → Laws (fitting most) limit limit (λ A g h n m m′. Does {A = A} g h n m)
   unfolding c.define-local c.begin-scope c.push-class-ctx c.pop-class-ctx
-  laws =
+  laws most =
       record {
         no-span = record { start = omega arith; end = omega arith };
         this-name = omega arith;
@@ -299,7 +299,7 @@ module _ (limit top : ℕ) where
         pop-class-ctx = spends.free Fit Compilers top more (λ s k i. record { ctx = i .ctx; parents = i .parents; functions = i .functions; count = i .count });
         begin-ctx = λ name arity depth type up n a. begin-ctx name arity depth type n a;
         emit-u8 = λ b span n. costs 1 (emit-u8 b span n);
-        emit-constant = λ v span o n. costs 1 (emit-constant v span (constant-small v o) n);
+        emit-constant = λ v span o n. costs 1 (emit-constant v span (constant-small most v o) n);
         end-scope = λ span n. end-scope span n;
         end-function = λ span up n. spends.enough Fit Compilers top more (end-function span n) (omega arith);
       }
@@ -311,14 +311,14 @@ pub record Widths (size : ℕ) (fs : List ObjectFunction) : Type 0 where
   pub some : 0 < length fs
   pub count : length fs ≤ 6 * size + 3
 
-module _ (limit funs : ℕ) (stmts : Stmts) (o : Of-stmts fitting stmts funs) where
+module _ (limit funs : ℕ) (stmts : Stmts) (o : Of-stmts (fitting funs) stmts funs) where
   top : ℕ
   top = 6 * stmts-size stmts + 2
 
   compiled : Ends Fit Compilers top funs (0 + top) (c.compile-script limit stmts c.new)
   unfolding top
   compiled =
-      (steps.compile-script fitting limit limit (λ A g h n m m′. Does limit top {A = A} g h n m) (laws limit top) stmts funs o) .run c.new 0 (omega arith)
+      (steps.compile-script (fitting funs) limit limit (λ A g h n m m′. Does limit top {A = A} g h n m) (laws limit top funs) stmts funs o) .run c.new 0 (omega arith)
       (record { ctx = record { named = omega arith; few = omega arith; constants = tt; runs = tt }; parents = tt; functions = tt; count = omega arith })
 
   pub widths : After (λ fs _. Widths (stmts-size stmts) fs) (c.compile-functions limit stmts)
