@@ -21,3 +21,4 @@ pub mod Widths
 pub mod Accepted
 pub mod Agrees
 pub mod Room
+pub mod Sizes
