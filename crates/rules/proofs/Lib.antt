@@ -22,3 +22,4 @@ pub mod Accepted
 pub mod Agrees
 pub mod Room
 pub mod Sizes
+pub mod CodeNeed
