@@ -23,3 +23,4 @@ pub mod Agrees
 pub mod Room
 pub mod Sizes
 pub mod CodeNeed
+pub mod Exactly
