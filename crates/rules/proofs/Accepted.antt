@@ -104,7 +104,7 @@ unfolding sound checker.facts
 earlier fs t =
     all-and (λ fact. fact) _ _ (all-and (λ fact. fact) _ _ (all-and (λ fact. fact) _ _ (all-and (λ fact. fact) _ _ t .1) .1) .1) .0
 
-few-runs : (runs : List Run) → All Counts runs → length runs ≤ total runs
+pub few-runs : (runs : List Run) → All Counts runs → length runs ≤ total runs
 unfolding total
 few-runs [] h = omega arith
 few-runs (run ∷ runs) h = omega (arith, h .0 .least, few-runs runs (h .1))

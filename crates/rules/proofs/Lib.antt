@@ -24,3 +24,4 @@ pub mod Room
 pub mod Sizes
 pub mod CodeNeed
 pub mod Exactly
+pub mod Bounds

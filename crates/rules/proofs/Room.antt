@@ -72,8 +72,8 @@ pub record Same (lent lent′ : Lent) (r r′ : Left) : Type 0 where
   pub answer : r′ .answer ≡ r .answer
   pub output : r′ .output ≡ r .output ++ replicate (lent′ .output-bytes - lent .output-bytes) 0
 
-zeros : (m n : ℕ) → m ≤ n → replicate {A = ℕ} n 0 ≡ replicate m 0 ++ replicate (n - m) 0
-zeros m n l = let e : m + (n - m) ≡ n = omega arith in sym (replicate-append-replicate {A = ℕ} m (n - m) 0 ∙ ap (λ (k : ℕ). replicate {A = ℕ} k 0) e)
+zeros : (n m k : ℕ) → m + k ≡ n → replicate {A = ℕ} n 0 ≡ replicate m 0 ++ replicate k 0
+zeros n m k e = rw (replicate-append-replicate {A = ℕ} m k 0, e)
 
 module _ (lent lent′ : Lent) (larger : Larger lent lent′) where
   abbrev Enough : Answer → Type 0
@@ -92,9 +92,8 @@ module _ (lent lent′ : Lent) (larger : Larger lent lent′) where
       padded : length image ≤ lent .output-bytes →
           image ++ replicate (lent′ .output-bytes - length image) 0 ≡ (image ++ replicate (lent .output-bytes - length image) 0) ++ replicate (lent′ .output-bytes - lent .output-bytes) 0
       padded l =
-          let e : lent′ .output-bytes - length image - (lent .output-bytes - length image) ≡ lent′ .output-bytes - lent .output-bytes = omega (arith, larger .output-bytes) in
-          ap (λ (zs : List ℕ). image ++ zs) (zeros (lent .output-bytes - length image) (lent′ .output-bytes - length image) (omega (arith, larger .output-bytes)) ∙ ap (λ (k : ℕ). replicate (lent .output-bytes - length image) 0 ++ replicate k 0) e)
-          ∙ sym (append-assoc image (replicate (lent .output-bytes - length image) 0) (replicate (lent′ .output-bytes - lent .output-bytes) 0))
+          rw (zeros (lent′ .output-bytes - length image) (lent .output-bytes - length image) (lent′ .output-bytes - lent .output-bytes) (omega (arith, larger .output-bytes)))
+          (sym (append-assoc image (replicate (lent .output-bytes - length image) 0) (replicate (lent′ .output-bytes - lent .output-bytes) 0)))
 
       by-larger : length image ≤ lent .output-bytes → (b : Bool) → T b → Same lent lent′ (room lent true) (room lent′ b)
       by-larger l true t = record { answer = refl; output = padded l }
@@ -108,7 +107,7 @@ module _ (lent lent′ : Lent) (larger : Larger lent lent′) where
 
   out-same : (x : Compiled) → entry.write-out lent x .answer .number ≢ 31 → Same lent lent′ (entry.write-out lent x) (entry.write-out lent′ x)
   unfolding entry.write-out entry.leaves
-  out-same (refused r) n = record { answer = refl; output = zeros (lent .output-bytes) (lent′ .output-bytes) (larger .output-bytes) }
+  out-same (refused r) n = record { answer = refl; output = zeros (lent′ .output-bytes) (lent .output-bytes) (lent′ .output-bytes - lent .output-bytes) (omega (arith, larger .output-bytes)) }
   out-same (functions-are fs) n = image-same (image-bytes fs) n
 
   out-agrees : (x x′ : Compiled) → Under-compiled x x′ → Enough (entry.write-out lent x .answer) → Same lent lent′ (entry.write-out lent x) (entry.write-out lent′ x′)
