@@ -1,7 +1,7 @@
 -- "Given exactly when": how each answer of the compiler comes about, for every tree file of bytes and all lent sizes, and that no other way leads to
 -- its number. The order of the ways is the order of the answers: 1, 2, then 3, 4, 5, then 10 to 30, then 31.
 use mathlib.Core.Path.{_≡_, refl, sym, ap, _∙_, subst, subst⁻¹}
-use mathlib.Core.Logic.{_↔_}
+use mathlib.Core.Logic.{_↔_, _≢_}
 use mathlib.Core.Bool.{Bool, true, false}
 use mathlib.Core.List.{List, [], _∷_, _++_}
 use Prim.Native.Nat.{ℕ, suc, _+_, _-_, _*_, _≤_, _<_}
@@ -281,3 +281,32 @@ module _ (limits : Limits) (tree : List ℕ) (bytes : Bytes tree) (lent : Lent) 
 
   pub accepted-then : (fs : List ObjectFunction) → Was-compiled limits tree lent fs → length (image-bytes fs) ≤ lent .output-bytes → answered ≡ accepted (length (image-bytes fs))
   accepted-then fs w l = leads limits tree lent (all-fits fs w l)
+
+  -- the least rooms: the table's published need, the code limit that the tree needs, the image's length
+  pub record Room-enough : Type 0 where
+    pub table : limits .table-bytes ≤ 8 * lent .table-words
+    pub code : (stmts : Stmts) → Was-read limits tree lent stmts → code-needed stmts ≤ code-limit lent
+    pub output : (fs : List ObjectFunction) → Was-compiled limits tree lent fs → length (image-bytes fs) ≤ lent .output-bytes
+
+  -- "Room enough means none of 1, 30, 31"
+  pub room-enough-exactly : limits .funs ≤ 16 → ((answered .number ≢ 1) × (answered .number ≢ 30) × (answered .number ≢ 31)) ↔ Room-enough
+  unfolding refusal
+  room-enough-exactly nested = (
+    λ n. record {
+      table = at-least (limits .table-bytes) (8 * lent .table-words) (λ l. n .0 (work-short-exactly .1 l));
+      code = λ stmts w. at-least (code-needed stmts) (code-limit lent) (λ l. n .1 (code-full-exactly nested .1 (stmts, w, l)));
+      output = λ fs w. at-least (length (image-bytes fs)) (lent .output-bytes) (λ l. n .2 (ap (λ (a : Answer). a .number) (out-full-then fs w l)));
+    },
+    λ e. (
+      λ n. omega (arith, e .table, work-short-exactly .0 n),
+      λ n. let (stmts, w, l) = code-full-exactly nested .0 n in omega (arith, l, e .code stmts w),
+      λ n. let (fs, w, l) = out-full-only n in omega (arith, l, e .output fs w),
+    ),
+  )
+    where
+      at-least : (m n : ℕ) → (n < m → ⊥) → m ≤ n
+      at-least m n h = by-test (leb m n) refl
+        where
+          by-test : (b : Bool) → leb m n ≡ b → m ≤ n
+          by-test true e = leb→le m n (rw e tt)
+          by-test false e = absurd (h (nleb→lt m n (rw e tt)))

@@ -25,3 +25,4 @@ pub mod Sizes
 pub mod CodeNeed
 pub mod Exactly
 pub mod Bounds
+pub mod OneResult
