@@ -260,8 +260,7 @@ module _ (limits : Limits) (tree : List ℕ) (bytes : Bytes tree) (lent : Lent) 
     where
       only : answered .number ≡ 30 → (stmts : Stmts) × Was-read limits tree lent stmts × (code-limit lent < code-needed stmts)
       only e =
-          let (stmts, w, d) = full-only-then limits tree lent (way limits tree lent bytes) e in
-          (
+          let (stmts, w, d) = full-only-then limits tree lent (way limits tree lent bytes) e in (
             stmts,
             w,
             full-only (limits .funs) nested stmts (tree-fits tree bytes (limits .depth) (limits .funs) stmts (w .next) (w .read) .parts) (code-limit lent) d,
