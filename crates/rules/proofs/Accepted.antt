@@ -47,18 +47,29 @@ pub record From (limits : Limits) (tree : List ℕ) (limit : ℕ) (fs : List Obj
   pub read : read-tree tree (limits .depth) (limits .funs) ≡ got stmts next
   pub compiled : c.compile-functions limit stmts ≡ ok fs state
 
-pub from-tree : (limits : Limits) (tree : List ℕ) (limit : ℕ) (fs : List ObjectFunction) → compile-tree limits tree limit ≡ functions-are fs → From limits tree limit fs
+pub from-tree : (limits : Limits) (tree : List ℕ) (limit : ℕ) (fs : List ObjectFunction) → compile-tree limits tree limit ≡ functions-are fs →
+    From limits tree limit fs
 unfolding compile-tree entry.from-read entry.from-outcome
 from-tree limits tree limit fs e = by-length (leb (length tree) max-tree) refl (read-tree tree (limits .depth) (limits .funs)) refl e
   where
     by-outcome : (stmts : Stmts) (next : ℕ) → length tree ≤ max-tree → read-tree tree (limits .depth) (limits .funs) ≡ got stmts next →
-        (o : Outcome (List ObjectFunction)) → c.compile-functions limit stmts ≡ o → entry.from-outcome o ≡ functions-are fs → From limits tree limit fs
+        (o : Outcome (List ObjectFunction)) → c.compile-functions limit stmts ≡ o → entry.from-outcome o ≡ functions-are fs →
+        From limits tree limit fs
     by-outcome stmts next l r (ok gs s) e₁ e₂ =
         let z : gs ≡ fs = cc in
-        record { stmts = stmts; next = next; state = s; short = l; read = r; compiled = subst (λ (gs : List ObjectFunction). c.compile-functions limit stmts ≡ ok gs s) z e₁ }
+        record {
+          stmts = stmts;
+          next = next;
+          state = s;
+          short = l;
+          read = r;
+          compiled = subst
+              (λ (gs : List ObjectFunction). c.compile-functions limit stmts ≡ ok gs s) z e₁;
+        }
     by-outcome stmts next l r (err x) e₁ e₂ = let z : _≡_ {A = ℕ} 0 1 = cc in absurd (omega arith)
 
-    by-read : length tree ≤ max-tree → (r : Read Stmts) → read-tree tree (limits .depth) (limits .funs) ≡ r → entry.from-read r limit ≡ functions-are fs → From limits tree limit fs
+    by-read : length tree ≤ max-tree → (r : Read Stmts) → read-tree tree (limits .depth) (limits .funs) ≡ r →
+        entry.from-read r limit ≡ functions-are fs → From limits tree limit fs
     by-read l (got stmts next) r e = by-outcome stmts next l r (c.compile-functions limit stmts) refl e
     by-read l (bad x) r e = let z : _≡_ {A = ℕ} 0 1 = cc in absurd (omega arith)
 
@@ -90,11 +101,13 @@ constants-below number bound l (v ∷ cs) t =
     one (CS name) t = tt
     one (CF named) t = omega (arith, ltb→lt named number t)
 
-functions-below : (number bound : ℕ) (fs : List ObjectFunction) → number + length fs ≤ bound → T (all-earlier number fs) → All (λ (f : ObjectFunction). All (Below bound) (f .chunk .constants)) fs
+functions-below : (number bound : ℕ) (fs : List ObjectFunction) → number + length fs ≤ bound → T (all-earlier number fs) →
+    All (λ (f : ObjectFunction). All (Below bound) (f .chunk .constants)) fs
 unfolding all-earlier
 functions-below number bound [] l t = tt
 functions-below number bound (f ∷ fs) l t = (
-  constants-below number bound (omega arith) (f .chunk .constants) (left (all (names-earlier number) (f .chunk .constants)) (all-earlier (number + 1) fs) t),
+  constants-below number bound (omega arith) (f .chunk .constants)
+      (left (all (names-earlier number) (f .chunk .constants)) (all-earlier (number + 1) fs) t),
   functions-below (number + 1) bound fs (omega arith) (right (all (names-earlier number) (f .chunk .constants)) (all-earlier (number + 1) fs) t),
 )
 
@@ -114,7 +127,8 @@ constant-fits bound l (CN bits) h = h .0
 constant-fits bound l (CS name) h = h .0
 constant-fits bound l (CF number) h = omega (arith, h .1)
 
-form : (limit bound : ℕ) → limit ≤ max-code → bound < 4_294_967_296 → (f : ObjectFunction) → Wide-function f → Sound limit (f .upvalue-count) (f .chunk) → Counted (f .chunk) →
+form : (limit bound : ℕ) → limit ≤ max-code → bound < 4_294_967_296 → (f : ObjectFunction) → Wide-function f →
+    Sound limit (f .upvalue-count) (f .chunk) → Counted (f .chunk) →
     All (Below bound) (f .chunk .constants) → Fits-form f
 form limit bound l b f w s r e =
     record {
@@ -128,21 +142,25 @@ form limit bound l b f w s r e =
           all-map (λ (v : Constant). Small-constant v × Below bound v) Fits-constant (constant-fits bound b) (f .chunk .constants)
           (zip Small-constant (Below bound) (f .chunk .constants) (w .constants) e);
       each-run =
-          all-map (λ (run : Run). Small-run run × Counts run) Fits-run (λ run h. record { span = h .0; count = omega (arith, h .1 .most) }) (f .chunk .spans)
+          all-map (λ (run : Run). Small-run run × Counts run) Fits-run (λ run h. record { span = h .0; count = omega (arith, h .1 .most) })
+          (f .chunk .spans)
           (zip Small-run Counts (f .chunk .spans) (w .runs) (r .each));
       each-byte = s .bytes;
     }
 
 forms : (limit bound : ℕ) → limit ≤ max-code → bound < 4_294_967_296 → (fs : List ObjectFunction) → All Wide-function fs → AllSound limit fs →
-    All (λ (f : ObjectFunction). List ObjectFunction × Counted (f .chunk)) fs → All (λ (f : ObjectFunction). All (Below bound) (f .chunk .constants)) fs → All Fits-form fs
+    All (λ (f : ObjectFunction). List ObjectFunction × Counted (f .chunk)) fs → All
+    (λ (f : ObjectFunction). All (Below bound) (f .chunk .constants)) fs → All Fits-form fs
 forms limit bound l b [] w s r e = tt
-forms limit bound l b (f ∷ fs) w s r e = (form limit bound l b f (w .0) (s .0 .1) (r .0 .1) (e .0), forms limit bound l b fs (w .1) (s .1) (r .1) (e .1))
+forms limit bound l b (f ∷ fs) w s r e =
+    (form limit bound l b f (w .0) (s .0 .1) (r .0 .1) (e .0), forms limit bound l b fs (w .1) (s .1) (r .1) (e .1))
 
 code-limit-most : (lent : Lent) → code-limit lent ≤ max-code
 unfolding code-limit
 code-limit-most lent = omega arith
 
-module _ (limits : Limits) (tree : List ℕ) (bytes : Bytes tree) (lent : Lent) (fs : List ObjectFunction) (e : compile-lent limits tree lent ≡ functions-are fs) where
+module _ (limits : Limits) (tree : List ℕ) (bytes : Bytes tree) (lent : Lent) (fs : List ObjectFunction)
+    (e : compile-lent limits tree lent ≡ functions-are fs) where
   -- every number of the image is below what its field holds
   pub image-fits : Fits-image fs
   image-fits =
@@ -151,7 +169,8 @@ module _ (limits : Limits) (tree : List ℕ) (bytes : Bytes tree) (lent : Lent) 
         few = few;
         each =
             forms (code-limit lent) (length fs) (code-limit-most lent) few fs (w .each) (lent-sound limits tree lent fs e)
-            (from-ok (λ fs. All (λ (f : ObjectFunction). List ObjectFunction × Counted (f .chunk)) fs) (c.compile-functions (code-limit lent) (from .stmts)) fs (from .state) (from .compiled)
+            (from-ok (λ fs. All (λ (f : ObjectFunction). List ObjectFunction × Counted (f .chunk)) fs)
+            (c.compile-functions (code-limit lent) (from .stmts)) fs (from .state) (from .compiled)
             (counted (code-limit lent) (from .stmts)))
             (functions-below 0 (length fs) fs (omega arith) (earlier fs (lent-checked limits tree lent fs e)));
       }
@@ -203,11 +222,13 @@ module _ (limits : Limits) (tree : List ℕ) (bytes : Bytes tree) (lent : Lent) 
           then entry.leaves lent (accepted (length image)) (image ++ replicate (lent .output-bytes - length image) 0)
           else entry.leaves lent (answer.refusal (refusal.OutFull (length image))) (replicate (lent .output-bytes) 0)
 
-      by-room : (fs : List ObjectFunction) → compile-lent limits tree lent ≡ functions-are fs → (b : Bool) → room (image-bytes fs) b .answer .number ≡ 0 → Good lent (room (image-bytes fs) b)
+      by-room : (fs : List ObjectFunction) → compile-lent limits tree lent ≡ functions-are fs → (b : Bool) →
+          room (image-bytes fs) b .answer .number ≡ 0 → Good lent (room (image-bytes fs) b)
       by-room fs e₁ true e₂ = record { functions = fs; says = refl; holds = refl; checks = image-accepted limits tree bytes lent fs e₁ }
       by-room fs e₁ false e₂ = absurd (omega (arith, refusal-number (refusal.OutFull (length (image-bytes fs)))))
 
-      by-compiled : (x : Compiled) → compile-lent limits tree lent ≡ x → entry.write-out lent x .answer .number ≡ 0 → Good lent (entry.write-out lent x)
+      by-compiled : (x : Compiled) → compile-lent limits tree lent ≡ x → entry.write-out lent x .answer .number ≡ 0 →
+          Good lent (entry.write-out lent x)
       by-compiled (functions-are fs) e₁ e₂ = by-room fs e₁ (leb (length (image-bytes fs)) (lent .output-bytes)) e₂
       by-compiled (refused r) e₁ e₂ = absurd (omega (arith, refusal-number r))
 

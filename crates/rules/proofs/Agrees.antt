@@ -1,7 +1,6 @@
 -- More code room changes no answer but 30: under a larger code limit the compiler comes to the same, unless it met the smaller one.
-use mathlib.Core.Path.{_≡_, refl, subst, subst⁻¹, ap}
+use mathlib.Core.Path.{_≡_, refl, subst⁻¹}
 use mathlib.Core.Bool.{Bool, true, false}
-use mathlib.Core.Option.{Option, none, some}
 use mathlib.Core.List.{List, [], _∷_, _++_}
 use Prim.Native.Nat.{ℕ, _+_, _≤_, _<_}
 use native.Mathlib.Omega.{arith}
@@ -10,17 +9,13 @@ use Rattle.rules.specs.Base.{if_then_else_}
 use Rattle.rules.specs.declared.Span.{Span}
 use Rattle.rules.specs.declared.Refusal.{Refusal}
 use Rattle.rules.specs.declared.Refusal.the-variants.{CodeFull}
-use Rattle.rules.specs.Tree.{Expr, Exprs, ExprAssign, ExprCall, ExprGet, ExprInfix, Literal, ExprPrefix, ExprSet, ExprSuper, ExprVar, []ᵉ, _∷ᵉ_}
-use Rattle.rules.specs.Tree.{ExprLiteral, LitBool, LitNil, LitNumber, LitString, Superclass}
-use Rattle.rules.specs.Tree.{Stmt, Stmts, StmtBlock, StmtClass, StmtExpr, StmtFor, StmtFun, StmtIf, StmtPrint, StmtReturn, StmtVar, StmtWhile, []ˢ, _∷ˢ_}
-use Rattle.rules.specs.Tree.{Fun, fun, Methods, []ᵐ, method}
+use Rattle.rules.specs.Tree.{Stmts}
 use Rattle.rules.specs.Chunk.{Constant, CF, Written, at-place, no-room, write-u8, write-constant, ObjectFunction}
 use Rattle.rules.specs.Compiler as c
 use Rattle.rules.specs.Compiler.{Compiler, Compile, Outcome, ok, err, go-on, Upvalue, Local}
-use Rattle.rules.proofs.Facts.{All}
 use Rattle.rules.proofs.Steps as steps
 use Rattle.rules.proofs.Steps.{Laws}
-use Rattle.rules.proofs.Trees.{anything, If-some, Of-literal, Of-expr, Of-exprs, Of-superclass, Of-stmt, Of-stmts, Of-fun, Of-methods}
+use Rattle.rules.proofs.Trees.{anything, stmts-any}
 
 -- under the smaller limit 30, or the same under both
 pub data Under {A : Type 0} (o o′ : Outcome A) : Type 0 where
@@ -42,7 +37,8 @@ on {A} {B} o o′ f f′ (same e) h = subst⁻¹ (λ (o : Outcome A). Under (go-
     by-outcome (err r) = same refl
 
 infixl 10 _>>=_
-_>>=_ : {A B : Type 0} {m m′ : Compile A} {f f′ : A → Compile B} → Agrees m m′ → ((a : A) → Agrees (f a) (f′ a)) → Agrees (c._>>=_ m f) (c._>>=_ m′ f′)
+_>>=_ : {A B : Type 0} {m m′ : Compile A} {f f′ : A → Compile B} → Agrees m m′ → ((a : A) → Agrees (f a) (f′ a)) →
+    Agrees (c._>>=_ m f) (c._>>=_ m′ f′)
 unfolding c._>>=_
 _>>=_ {m = m} {m′ = m′} {f = f} {f′ = f′} hm hf = record { run = λ s. on (m s) (m′ s) f f′ (hm .run s) hf }
 
@@ -161,68 +157,9 @@ module _ (limit limit′ : ℕ) (larger : limit ≤ limit′) where
         end-function = λ span up n. end-function span;
       }
 
--- ## Every tree is one of which nothing is asked
-
-abbrev all-names : (ns : List ℕ) → All (anything .name) ns
-all-names [] = tt
-all-names (n ∷ ns) = (tt, all-names ns)
-
-literals : (k : ExprLiteral) → Of-literal anything k
-literals (LitBool b) = tt
-literals LitNil = tt
-literals (LitNumber bits) = tt
-literals (LitString name) = tt
-
-mutual
-  exprs-any : (es : Exprs) → Of-exprs anything es
-  exprs-any []ᵉ = tt
-  exprs-any (e ∷ᵉ es) = (expr-any e, exprs-any es)
-
-  expr-any : (e : Expr) → Of-expr anything e
-  expr-any (ExprAssign span name value) = (tt, tt, expr-any value)
-  expr-any (ExprCall span callee args) = (tt, expr-any callee, exprs-any args)
-  expr-any (ExprGet span name object) = (tt, tt, expr-any object)
-  expr-any (ExprInfix span op lt rt) = (tt, expr-any lt, expr-any rt)
-  expr-any (Literal span literal) = (tt, literals literal)
-  expr-any (ExprPrefix span op rt) = (tt, expr-any rt)
-  expr-any (ExprSet span name value object) = (tt, tt, expr-any value, expr-any object)
-  expr-any (ExprSuper span name) = (tt, tt)
-  expr-any (ExprVar span name) = (tt, tt)
-
-option-any : (v : Option Expr) → If-some (Of-expr anything) v
-option-any none = tt
-option-any (some e) = expr-any e
-
-super-any : (v : Option Superclass) → If-some (Of-superclass anything) v
-super-any none = tt
-super-any (some e) = record { span = tt; name = tt }
-
-mutual
-  stmt-any : (t : Stmt) → Of-stmt anything t tt
-  stmt-any (StmtBlock span stmts) = (tt, stmts-any stmts)
-  stmt-any (StmtClass span name sup methods) = (tt, tt, super-any sup, methods-any methods)
-  stmt-any (StmtExpr span value) = (tt, expr-any value)
-  stmt-any (StmtFor span init cond body incr) = (tt, stmts-any init, option-any cond, stmt-any body, option-any incr)
-  stmt-any (StmtFun span f) = (tt, tt, tt, fun-any f)
-  stmt-any (StmtIf span cond yes-part no-part) = (tt, expr-any cond, stmt-any yes-part, stmts-any no-part)
-  stmt-any (StmtPrint span value) = (tt, expr-any value)
-  stmt-any (StmtReturn span value) = (tt, option-any value)
-  stmt-any (StmtVar span name value) = (tt, tt, option-any value)
-  stmt-any (StmtWhile span cond body) = (tt, expr-any cond, stmt-any body)
-
-  pub stmts-any : (ts : Stmts) → Of-stmts anything ts tt
-  stmts-any []ˢ = tt
-  stmts-any (t ∷ˢ ts) = (stmt-any t, stmts-any ts)
-
-  fun-any : (f : Fun) → Of-fun anything f tt
-  fun-any (fun name params body) = (tt, all-names params, stmts-any body)
-
-  methods-any : (ms : Methods) → Of-methods anything ms tt
-  methods-any []ᵐ = tt
-  methods-any (method span f methods) = (tt, tt, tt, fun-any f, methods-any methods)
-
 -- for all statements and two limits
 pub agrees : (limit limit′ : ℕ) → limit ≤ limit′ → (stmts : Stmts) → Under (c.compile-functions limit stmts) (c.compile-functions limit′ stmts)
 unfolding c.compile-functions
 agrees limit limit′ l stmts =
-    (steps.compile-script anything limit limit′ (λ A g h n m m′. Agrees {A = A} m m′) (laws limit limit′ l) stmts tt (stmts-any stmts) >> any) .run c.new
+    (steps.compile-script anything limit limit′ (λ A g h n m m′. Agrees {A = A} m m′) (laws limit limit′ l) stmts tt
+    (stmts-any stmts) >> any) .run c.new

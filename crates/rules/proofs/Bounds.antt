@@ -50,9 +50,13 @@ write-length ch [] span = omega arith
 write-length ch (b ∷ bs) span = omega (arith, write-length (write-u8 ch b span) bs span, length-append (ch .ops) (b ∷ []))
 
 -- an instruction of at least a byte, with at most one constant more
-wrote : (ch : Chunk) {Q : Constant → Type 0} {cs : List Constant} (b : ℕ) (bs : List ℕ) (span : Span) → Grown Q (ch .constants) cs → Few ch → Few (write-all (with-constants ch cs) (b ∷ bs) span)
+wrote : (ch : Chunk) {Q : Constant → Type 0} {cs : List Constant} (b : ℕ) (bs : List ℕ) (span : Span) → Grown Q (ch .constants) cs → Few ch →
+    Few (write-all (with-constants ch cs) (b ∷ bs) span)
 wrote ch {cs = cs} b bs span g h =
-    record { few = rw (write-constants (with-constants ch cs) (b ∷ bs) span) (omega (arith, h .few, grown-one g, write-length (with-constants ch cs) (b ∷ bs) span)) }
+    record {
+      few = rw (write-constants (with-constants ch cs) (b ∷ bs) span)
+          (omega (arith, h .few, grown-one g, write-length (with-constants ch cs) (b ∷ bs) span));
+    }
 
 unchanged : {cs : List Constant} → Grown (λ _. Unit {0}) cs cs
 unchanged = as-before
@@ -68,13 +72,16 @@ laws limit =
       jumps = λ k opened fs n ch b span e r h. wrote ch b (255 ∷ 255 ∷ []) span unchanged h;
       patches = λ k opened fs n ch at l h. record { few = simp length-set (h .few) };
       marks = λ k opened fs n ch h. h;
-      loops = λ k opened fs n ch at span l r h. wrote ch op.LOOP ((length (ch .ops) + 3 - at) % 256 ∷ (length (ch .ops) + 3 - at) / 256 ∷ []) span unchanged h;
+      loops = λ k opened fs n ch at span l r h. wrote ch op.LOOP
+          ((length (ch .ops) + 3 - at) % 256 ∷ (length (ch .ops) + 3 - at) / 256 ∷ []) span unchanged h;
       swap-waits = λ i j k opened fs n ch h. h;
       swap-backs = λ i j k opened fs n ch h. h;
     }
 
-few-constants : (limit : ℕ) (stmts : Stmts) → After (λ fs _. All (λ (f : ObjectFunction). List ObjectFunction × Few (f .chunk)) fs) (c.compile-functions limit stmts)
-few-constants limit stmts = layer.functions (Unit {0}) (λ _ _ _ _ ch. Few ch) tt (λ _ k. k) (λ _ k. k) limit (laws limit) (λ opened fs gs n ch h. h) stmts
+few-constants : (limit : ℕ) (stmts : Stmts) →
+    After (λ fs _. All (λ (f : ObjectFunction). List ObjectFunction × Few (f .chunk)) fs) (c.compile-functions limit stmts)
+few-constants limit stmts =
+    layer.functions (Unit {0}) (λ _ _ _ _ ch. Few ch) tt (λ _ k. k) (λ _ k. k) limit (laws limit) (λ opened fs gs n ch h. h) stmts
 
 -- ## How long records are
 
@@ -93,7 +100,8 @@ run-length : (run : Run) → length (image.run-bytes run) ≤ 11
 unfolding image.run-bytes
 run-length run = simp (length-append, le-length) (omega arith)
 
-join-length : {A : Type 0} (f : A → List ℕ) (most : ℕ) → ((x : A) → length (f x) ≤ most) → (xs : List A) → length (image.join f xs) ≤ most * length xs
+join-length : {A : Type 0} (f : A → List ℕ) (most : ℕ) → ((x : A) → length (f x) ≤ most) → (xs : List A) →
+    length (image.join f xs) ≤ most * length xs
 unfolding image.join
 join-length f most h [] = omega arith
 join-length f most h (x ∷ xs) = omega (arith, h x, join-length f most h xs, length-append (f x) (image.join f xs), mul-suc most (length xs))
@@ -111,7 +119,8 @@ function-length f h k =
       join-length image.run-bytes 11 run-length (f .chunk .spans),
     ))
 
-functions-length : (fs : List ObjectFunction) → All (λ (f : ObjectFunction). List ObjectFunction × Few (f .chunk)) fs → All (λ (f : ObjectFunction). List ObjectFunction × Counted (f .chunk)) fs →
+functions-length : (fs : List ObjectFunction) → All (λ (f : ObjectFunction). List ObjectFunction × Few (f .chunk)) fs →
+    All (λ (f : ObjectFunction). List ObjectFunction × Counted (f .chunk)) fs →
     length (image.join image.function-bytes fs) ≤ 22 * finished fs
 unfolding image.join
 functions-length [] h k = omega arith
@@ -123,10 +132,12 @@ functions-length (f ∷ fs) h k =
       length-append (image.function-bytes f) (image.join image.function-bytes fs),
     )
 
-image-length : (fs : List ObjectFunction) → All (λ (f : ObjectFunction). List ObjectFunction × Few (f .chunk)) fs → All (λ (f : ObjectFunction). List ObjectFunction × Counted (f .chunk)) fs →
+image-length : (fs : List ObjectFunction) → All (λ (f : ObjectFunction). List ObjectFunction × Few (f .chunk)) fs →
+    All (λ (f : ObjectFunction). List ObjectFunction × Counted (f .chunk)) fs →
     length (image-bytes fs) ≤ 6 + 22 * finished fs
 unfolding image-bytes
-image-length fs h k = omega (arith, functions-length fs h k, length-append (le 4 (length fs)) (image.join image.function-bytes fs), le-length 4 (length fs))
+image-length fs h k =
+    omega (arith, functions-length fs h k, length-append (le 4 (length fs)) (image.join image.function-bytes fs), le-length 4 (length fs))
 
 -- ## By the tree file's length
 
@@ -166,12 +177,14 @@ module _ (limits : Limits) (nested : limits .funs ≤ 16) (tree : List ℕ) (byt
 
       few : All (λ (f : ObjectFunction). List ObjectFunction × Few (f .chunk)) fs
       few =
-          from-ok (λ fs. All (λ (f : ObjectFunction). List ObjectFunction × Few (f .chunk)) fs) (c.compile-functions (code-limit lent) (from .stmts)) fs (from .state) (from .compiled)
+          from-ok (λ fs. All (λ (f : ObjectFunction). List ObjectFunction × Few (f .chunk)) fs)
+          (c.compile-functions (code-limit lent) (from .stmts)) fs (from .state) (from .compiled)
           (few-constants (code-limit lent) (from .stmts))
 
       runs : All (λ (f : ObjectFunction). List ObjectFunction × Counted (f .chunk)) fs
       runs =
-          from-ok (λ fs. All (λ (f : ObjectFunction). List ObjectFunction × Counted (f .chunk)) fs) (c.compile-functions (code-limit lent) (from .stmts)) fs (from .state) (from .compiled)
+          from-ok (λ fs. All (λ (f : ObjectFunction). List ObjectFunction × Counted (f .chunk)) fs)
+          (c.compile-functions (code-limit lent) (from .stmts)) fs (from .state) (from .compiled)
           (counted (code-limit lent) (from .stmts))
 
   -- a room in which no tree of this length is refused by 1, 30 or 31

@@ -30,7 +30,8 @@ unfolding c.emit-u8 c._>>=_ c._>>_ go-on c.the c.need c.update-ctx
 byte-fits limit s b span l = by-test (ltb (c.open-code s) limit) (lt→ltb (c.open-code s) limit (omega arith))
   where
     by-test : (t : Bool) → T t →
-        go-on (c.need t CodeFull s) (λ _. c.update-ctx (λ x. c.with-chunk x (write-u8 (x .chunk) b span))) ≡ ok tt (c.with-ctx s (c.with-chunk (s .ctx) (write-u8 (s .ctx .chunk) b span)))
+        go-on (c.need t CodeFull s) (λ _. c.update-ctx (λ x. c.with-chunk x (write-u8 (x .chunk) b span))) ≡ ok tt
+        (c.with-ctx s (c.with-chunk (s .ctx) (write-u8 (s .ctx .chunk) b span)))
     by-test true t = refl
     by-test false t = absurd t
 
@@ -38,7 +39,8 @@ pub byte-full : (limit : ℕ) (s : Compiler) (b : ℕ) (span : Span) → limit <
 unfolding c.emit-u8 c._>>=_ c._>>_ go-on c.the c.need
 byte-full limit s b span l = by-test (ltb (c.open-code s) limit) (λ t. omega (arith, ltb→lt (c.open-code s) limit t))
   where
-    by-test : (t : Bool) → (T t → ⊥) → go-on (c.need t CodeFull s) (λ _. c.update-ctx (λ x. c.with-chunk x (write-u8 (x .chunk) b span))) ≡ err CodeFull
+    by-test : (t : Bool) → (T t → ⊥) →
+        go-on (c.need t CodeFull s) (λ _. c.update-ctx (λ x. c.with-chunk x (write-u8 (x .chunk) b span))) ≡ err CodeFull
     by-test true t = absurd (t tt)
     by-test false t = refl
 
@@ -109,9 +111,11 @@ suffices-upward stmts m n l t = by-agreement (agrees m n l stmts)
 -- 30 under every smaller limit
 pub full-below : (stmts : Stmts) (limit : ℕ) → limit < code-needed stmts → c.compile-functions limit stmts ≡ err CodeFull
 unfolding code-needed suffices
-full-below stmts limit l = by-test (met (c.compile-functions limit stmts)) refl (least-least (6 * stmts-size stmts + 2) (suffices stmts) (suffices-upward stmts) limit l)
+full-below stmts limit l =
+    by-test (met (c.compile-functions limit stmts)) refl (least-least (6 * stmts-size stmts + 2) (suffices stmts) (suffices-upward stmts) limit l)
   where
-    by-test : (b : Bool) → met (c.compile-functions limit stmts) ≡ b → (T (not (met (c.compile-functions limit stmts))) → ⊥) → c.compile-functions limit stmts ≡ err CodeFull
+    by-test : (b : Bool) → met (c.compile-functions limit stmts) ≡ b → (T (not (met (c.compile-functions limit stmts))) → ⊥) →
+        c.compile-functions limit stmts ≡ err CodeFull
     by-test true e n = met-full (c.compile-functions limit stmts) e
     by-test false e n = absurd (n (rw e tt))
 
@@ -122,7 +126,8 @@ needed-most stmts = least-bound (6 * stmts-size stmts + 2) (suffices stmts)
 module _ (most : ℕ) (nested : most ≤ 16) (stmts : Stmts) (o : Of-stmts (fitting most) stmts most) where
   enough-suffices : T (suffices stmts (6 * stmts-size stmts + 2))
   unfolding suffices
-  enough-suffices = by-outcome (c.compile-functions (6 * stmts-size stmts + 2) stmts) (within (6 * stmts-size stmts + 2) most stmts nested o (omega arith))
+  enough-suffices =
+      by-outcome (c.compile-functions (6 * stmts-size stmts + 2) stmts) (within (6 * stmts-size stmts + 2) most stmts nested o (omega arith))
     where
       by-number : (r : Refusal) (b : Bool) → eqb (number-of r) 30 ≡ b → Rusts r → T (not b)
       by-number r true e h = omega (arith, eqb→eq (number-of r) 30 (rw e tt), rusts-number r h)
@@ -141,4 +146,5 @@ module _ (most : ℕ) (nested : most ≤ 16) (stmts : Stmts) (o : Of-stmts (fitt
       by-test true l = ltb→lt limit (code-needed stmts) (rw l tt)
       by-test false l =
           absurd (not-met (c.compile-functions limit stmts)
-          (suffices-upward stmts (code-needed stmts) limit (nltb→le limit (code-needed stmts) (rw l tt)) (least-suffices (6 * stmts-size stmts + 2) (suffices stmts) enough-suffices)) e)
+          (suffices-upward stmts (code-needed stmts) limit (nltb→le limit (code-needed stmts) (rw l tt))
+          (least-suffices (6 * stmts-size stmts + 2) (suffices stmts) enough-suffices)) e)

@@ -60,8 +60,10 @@ module _ (limits : Limits) (tree : List ℕ) (lent : Lent) where
     not-read : (r : Refusal) → Readers r → Started → reading ≡ bad r → Way (refusal r)
     against-a-rule : (r : Refusal) → Rusts r → (stmts : Stmts) → Was-read stmts → compiling stmts ≡ err r → Way (refusal r)
     code-full : (stmts : Stmts) → Was-read stmts → compiling stmts ≡ err CodeFull → Way (refusal CodeFull)
-    out-full : (fs : List ObjectFunction) → Was-compiled fs → lent .output-bytes < length (image-bytes fs) → Way (refusal (OutFull (length (image-bytes fs))))
-    all-fits : (fs : List ObjectFunction) → Was-compiled fs → length (image-bytes fs) ≤ lent .output-bytes → Way (accepted (length (image-bytes fs)))
+    out-full : (fs : List ObjectFunction) → Was-compiled fs → lent .output-bytes < length (image-bytes fs) →
+        Way (refusal (OutFull (length (image-bytes fs))))
+    all-fits : (fs : List ObjectFunction) → Was-compiled fs → length (image-bytes fs) ≤ lent .output-bytes →
+        Way (accepted (length (image-bytes fs)))
 
   -- every answer comes about in one of these ways
   pub way : Bytes tree → Way (compile-within limits tree lent .answer)
@@ -74,7 +76,8 @@ module _ (limits : Limits) (tree : List ℕ) (lent : Lent) where
           then entry.leaves lent (accepted (length (image-bytes fs))) (image-bytes fs ++ replicate (lent .output-bytes - length (image-bytes fs)) 0)
           else entry.leaves lent (refusal (OutFull (length (image-bytes fs)))) (replicate (lent .output-bytes) 0)
 
-      by-output : (fs : List ObjectFunction) → Was-compiled fs → (b : Bool) → leb (length (image-bytes fs)) (lent .output-bytes) ≡ b → Way (image fs b .answer)
+      by-output : (fs : List ObjectFunction) → Was-compiled fs → (b : Bool) → leb (length (image-bytes fs)) (lent .output-bytes) ≡ b →
+          Way (image fs b .answer)
       by-output fs w true e = all-fits fs w (leb→le (length (image-bytes fs)) (lent .output-bytes) (rw e tt))
       by-output fs w false e = out-full fs w (nleb→lt (length (image-bytes fs)) (lent .output-bytes) (rw e tt))
 
@@ -85,9 +88,12 @@ module _ (limits : Limits) (tree : List ℕ) (lent : Lent) where
       fits : (stmts : Stmts) (w : Was-read stmts) → Fitting tree (limits .funs) stmts
       fits stmts w = tree-fits tree bytes (limits .depth) (limits .funs) stmts (w .next) (w .read)
 
-      by-outcome : (stmts : Stmts) → Was-read stmts → (o : Outcome (List ObjectFunction)) → compiling stmts ≡ o → Way (entry.write-out lent (entry.from-outcome o) .answer)
-      by-outcome stmts w (ok fs s) e = by-output fs (record { stmts = stmts; was-read = w; state = s; compiled = e }) (leb (length (image-bytes fs)) (lent .output-bytes)) refl
-      by-outcome stmts w (err r) e = by-refusal r (compiled-by r (refuses (code-limit lent) (limits .funs) stmts (fits stmts w .parts) r e)) stmts w e
+      by-outcome : (stmts : Stmts) → Was-read stmts → (o : Outcome (List ObjectFunction)) → compiling stmts ≡ o →
+          Way (entry.write-out lent (entry.from-outcome o) .answer)
+      by-outcome stmts w (ok fs s) e =
+          by-output fs (record { stmts = stmts; was-read = w; state = s; compiled = e }) (leb (length (image-bytes fs)) (lent .output-bytes)) refl
+      by-outcome stmts w (err r) e =
+          by-refusal r (compiled-by r (refuses (code-limit lent) (limits .funs) stmts (fits stmts w .parts) r e)) stmts w e
 
       by-read : Started → (o : Read Stmts) → reading ≡ o → Way (entry.write-out lent (entry.from-read o (code-limit lent)) .answer)
       by-read st (got stmts next) e = by-outcome stmts (record { started = st; next = next; read = e }) (compiling stmts) refl
@@ -99,7 +105,9 @@ module _ (limits : Limits) (tree : List ℕ) (lent : Lent) where
       by-length l false e = too-long l (nleb→lt (length tree) max-tree (rw e tt))
 
       by-table : (b : Bool) → leb (limits .table-bytes) (8 * lent .table-words) ≡ b →
-          Way (entry.write-out lent (if b then (if leb (length tree) max-tree then entry.from-read reading (code-limit lent) else refused TreeTooLong) else refused WorkShort) .answer)
+          Way (entry.write-out lent
+          (if b then (if leb (length tree) max-tree then entry.from-read reading
+          (code-limit lent) else refused TreeTooLong) else refused WorkShort) .answer)
       by-table true e = by-length (leb→le (limits .table-bytes) (8 * lent .table-words) (rw e tt)) (leb (length tree) max-tree) refl
       by-table false e = work-short (nleb→lt (limits .table-bytes) (8 * lent .table-words) (rw e tt))
 
@@ -135,7 +143,8 @@ module _ (limits : Limits) (tree : List ℕ) (lent : Lent) where
   unfolding compile-within entry.write-out entry.leaves
   refused-so r e = ap (λ (x : Compiled). entry.write-out lent x .answer) e
 
-  given-so : (fs : List ObjectFunction) → compile-lent limits tree lent ≡ functions-are fs → compile-within limits tree lent .answer ≡ entry.write-image lent (image-bytes fs) .answer
+  given-so : (fs : List ObjectFunction) → compile-lent limits tree lent ≡ functions-are fs →
+      compile-within limits tree lent .answer ≡ entry.write-image lent (image-bytes fs) .answer
   unfolding compile-within entry.write-out
   given-so fs e = ap (λ (x : Compiled). entry.write-out lent x .answer) e
 
@@ -212,7 +221,8 @@ module _ (limits : Limits) (tree : List ℕ) (lent : Lent) where
   unread-only (out-full fs w l) b e = absurd (omega arith)
   unread-only (all-fits fs w l) b e = absurd (omega arith)
 
-  rule-only : {a : Answer} → Way a → 10 ≤ a .number → a .number ≤ 23 → (r : Refusal) × Rusts r × (stmts : Stmts) × Was-read stmts × (compiling stmts ≡ err r)
+  rule-only : {a : Answer} → Way a → 10 ≤ a .number → a .number ≤ 23 →
+      (r : Refusal) × Rusts r × (stmts : Stmts) × Was-read stmts × (compiling stmts ≡ err r)
   unfolding refusal
   rule-only (work-short l) b e = absurd (omega arith)
   rule-only (too-long t l) b e = absurd (omega arith)
@@ -231,15 +241,21 @@ module _ (limits : Limits) (tree : List ℕ) (bytes : Bytes tree) (lent : Lent) 
   -- 1 WorkShort: table area below its published need
   pub work-short-exactly : (answered .number ≡ 1) ↔ (8 * lent .table-words < limits .table-bytes)
   unfolding refusal
-  work-short-exactly = (short-only limits tree lent (way limits tree lent bytes), λ l. ap (λ (a : Answer). a .number) (leads limits tree lent (work-short l)))
+  work-short-exactly =
+      (short-only limits tree lent (way limits tree lent bytes), λ l. ap (λ (a : Answer). a .number) (leads limits tree lent (work-short l)))
 
   -- 2 TreeTooLong: over 1,048,576 bytes
   pub too-long-exactly : (answered .number ≡ 2) ↔ ((limits .table-bytes ≤ 8 * lent .table-words) × (max-tree < length tree))
   unfolding refusal
-  too-long-exactly = (long-tree-only limits tree lent (way limits tree lent bytes), λ p. ap (λ (a : Answer). a .number) (leads limits tree lent (too-long (p .0) (p .1))))
+  too-long-exactly = (
+    long-tree-only limits tree lent (way limits tree lent bytes),
+    λ p. ap (λ (a : Answer). a .number)
+        (leads limits tree lent (too-long (p .0) (p .1))),
+  )
 
   -- 3, 4, 5: what the reader says
-  pub not-read-only : 3 ≤ answered .number → answered .number ≤ 5 → (r : Refusal) × Readers r × Started limits tree lent × (reading limits tree lent ≡ bad r)
+  pub not-read-only : 3 ≤ answered .number → answered .number ≤ 5 →
+      (r : Refusal) × Readers r × Started limits tree lent × (reading limits tree lent ≡ bad r)
   not-read-only b e = unread-only limits tree lent (way limits tree lent bytes) b e
 
   pub not-read-then : (r : Refusal) → Started limits tree lent → reading limits tree lent ≡ bad r → answered ≡ refusal r
@@ -250,35 +266,43 @@ module _ (limits : Limits) (tree : List ℕ) (bytes : Bytes tree) (lent : Lent) 
       (r : Refusal) × Rusts r × (stmts : Stmts) × Was-read limits tree lent stmts × (compiling limits tree lent stmts ≡ err r)
   against-a-rule-only b e = rule-only limits tree lent (way limits tree lent bytes) b e
 
-  pub against-a-rule-then : (r : Refusal) → Rusts r → (stmts : Stmts) → Was-read limits tree lent stmts → compiling limits tree lent stmts ≡ err r → answered ≡ refusal r
+  pub against-a-rule-then : (r : Refusal) → Rusts r → (stmts : Stmts) → Was-read limits tree lent stmts →
+      compiling limits tree lent stmts ≡ err r → answered ≡ refusal r
   against-a-rule-then r h stmts w e = leads limits tree lent (against-a-rule r h stmts w e)
 
   -- 30 CodeFull: the compiler meets the code limit, which is below what the tree needs
-  pub code-full-exactly : limits .funs ≤ 16 → (answered .number ≡ 30) ↔ ((stmts : Stmts) × Was-read limits tree lent stmts × (code-limit lent < code-needed stmts))
+  pub code-full-exactly : limits .funs ≤ 16 →
+      (answered .number ≡ 30) ↔ ((stmts : Stmts) × Was-read limits tree lent stmts × (code-limit lent < code-needed stmts))
   unfolding refusal
-  code-full-exactly nested = (only, λ p. ap (λ (a : Answer). a .number) (leads limits tree lent (code-full (p .0) (p .1) (full-below (p .0) (code-limit lent) (p .2)))))
+  code-full-exactly nested =
+      (only, λ p. ap (λ (a : Answer). a .number) (leads limits tree lent (code-full (p .0) (p .1) (full-below (p .0) (code-limit lent) (p .2)))))
     where
       only : answered .number ≡ 30 → (stmts : Stmts) × Was-read limits tree lent stmts × (code-limit lent < code-needed stmts)
       only e =
           let (stmts, w, d) = full-only-then limits tree lent (way limits tree lent bytes) e in (
             stmts,
             w,
-            full-only (limits .funs) nested stmts (tree-fits tree bytes (limits .depth) (limits .funs) stmts (w .next) (w .read) .parts) (code-limit lent) d,
+            full-only (limits .funs) nested stmts (tree-fits tree bytes (limits .depth) (limits .funs) stmts (w .next) (w .read) .parts)
+                (code-limit lent) d,
           )
 
   -- 31 OutFull: all else accepted, image longer than the output; carries the length needed
-  pub out-full-only : answered .number ≡ 31 → (fs : List ObjectFunction) × Was-compiled limits tree lent fs × (lent .output-bytes < length (image-bytes fs))
+  pub out-full-only : answered .number ≡ 31 →
+      (fs : List ObjectFunction) × Was-compiled limits tree lent fs × (lent .output-bytes < length (image-bytes fs))
   out-full-only e = long-only limits tree lent (way limits tree lent bytes) e
 
-  pub out-full-then : (fs : List ObjectFunction) → Was-compiled limits tree lent fs → lent .output-bytes < length (image-bytes fs) → answered ≡ with-length 31 (length (image-bytes fs))
+  pub out-full-then : (fs : List ObjectFunction) → Was-compiled limits tree lent fs → lent .output-bytes < length (image-bytes fs) →
+      answered ≡ with-length 31 (length (image-bytes fs))
   unfolding refusal
   out-full-then fs w l = leads limits tree lent (out-full fs w l)
 
   -- 0: accepted; carries the length of the image
-  pub accepted-only : answered .number ≡ 0 → (fs : List ObjectFunction) × Was-compiled limits tree lent fs × (length (image-bytes fs) ≤ lent .output-bytes)
+  pub accepted-only : answered .number ≡ 0 →
+      (fs : List ObjectFunction) × Was-compiled limits tree lent fs × (length (image-bytes fs) ≤ lent .output-bytes)
   accepted-only e = fits-only limits tree lent (way limits tree lent bytes) e
 
-  pub accepted-then : (fs : List ObjectFunction) → Was-compiled limits tree lent fs → length (image-bytes fs) ≤ lent .output-bytes → answered ≡ accepted (length (image-bytes fs))
+  pub accepted-then : (fs : List ObjectFunction) → Was-compiled limits tree lent fs → length (image-bytes fs) ≤ lent .output-bytes →
+      answered ≡ accepted (length (image-bytes fs))
   accepted-then fs w l = leads limits tree lent (all-fits fs w l)
 
   -- the least rooms: the table's published need, the code limit that the tree needs, the image's length

@@ -178,7 +178,8 @@ module _ (bytes : List ℕ) where
   -- twice as wide: the low half, and then the high one
   wider : (m : Reader ℕ) (width : ℕ) → Field m width (base width) →
       Field (r._>>=_ m (λ a. r._>>=_ m (λ b. r.return (a + base width * b)))) (width + width) (base width * base width)
-  wider m width f n xs l = subst (λ (v : ℕ). Reads twice (le (width + width) n ++ xs) xs v) whole (subst (λ (ys : List ℕ). Reads twice (ys ++ xs) xs (low + base width * high)) parts both)
+  wider m width f n xs l = subst (λ (v : ℕ). Reads twice (le (width + width) n ++ xs) xs v) whole
+      (subst (λ (ys : List ℕ). Reads twice (ys ++ xs) xs (low + base width * high)) parts both)
     where
       twice : Reader ℕ
       twice = r._>>=_ m (λ a. r._>>=_ m (λ b. r.return (a + base width * b)))
@@ -232,9 +233,11 @@ module _ (bytes : List ℕ) where
       first _ (first _ (mark ImageRefused 0x43 0x4E (le 8 bits ++ xs)) (return file.number-mark))
       (first _ (u64 ImageRefused bits xs (omega arith)) (need (leb bits max-bits) ImageRefused (le→leb bits max-bits l) ⟫ return (CN bits)))
   constant (CS name) l xs =
-      first _ (first _ (mark ImageRefused 0x43 0x53 (le 2 name ++ xs)) (return file.string-mark)) (first _ (u16 ImageRefused name xs l) (return (CS name)))
+      first _ (first _ (mark ImageRefused 0x43 0x53 (le 2 name ++ xs)) (return file.string-mark))
+      (first _ (u16 ImageRefused name xs l) (return (CS name)))
   constant (CF number) l xs =
-      first _ (first _ (mark ImageRefused 0x43 0x46 (le 4 number ++ xs)) (return file.function-mark)) (first _ (u32 ImageRefused number xs l) (return (CF number)))
+      first _ (first _ (mark ImageRefused 0x43 0x46 (le 4 number ++ xs)) (return file.function-mark))
+      (first _ (u32 ImageRefused number xs l) (return (CF number)))
 
   a-run : (run : Run) → Fits-run run → (xs : List ℕ) → Reads (file.read-run bytes) (image.run-bytes run ++ xs) xs run
   unfolding file.read-run image.run-bytes
@@ -259,7 +262,8 @@ module _ (bytes : List ℕ) where
       (first _ (u16 ImageRefused (length (f .chunk .constants)) _ (h .constants))
       (first _ (u32 ImageRefused (length (f .chunk .spans)) _ (h .runs))
       (first _ (u32 ImageRefused (length (f .chunk .ops)) _ (h .code))
-      (first _ (many (file.read-constant bytes) image.constant-bytes (f .chunk .constants) _ (all-map Fits-constant _ constant (f .chunk .constants) (h .each-constant)))
+      (first _ (many (file.read-constant bytes) image.constant-bytes (f .chunk .constants) _
+      (all-map Fits-constant _ constant (f .chunk .constants) (h .each-constant)))
       (first _ (many (file.read-run bytes) image.run-bytes (f .chunk .spans) _ (all-map Fits-run _ a-run (f .chunk .spans) (h .each-run)))
       (mark-is ImageRefused 0x43 0x44 _ ⟫
       first _ (code (f .chunk .ops) xs (h .each-byte)) (return f))))))))))
@@ -280,7 +284,8 @@ module _ (bytes : List ℕ) where
 -- the image file loses nothing
 pub read-back : (fs : List ObjectFunction) → Fits-image fs → file.read-image (image.image-bytes fs) ≡ got fs (length (image.image-bytes fs))
 unfolding file.read-image
-read-back fs h = come .gives ∙ ap (got fs) (omega (arith, come .leaves .place, ap length (come .leaves .all-of), ap length (append-nil (come .leaves .passed))))
+read-back fs h =
+    come .gives ∙ ap (got fs) (omega (arith, come .leaves .place, ap length (come .leaves .all-of), ap length (append-nil (come .leaves .passed))))
   where
     come : Comes (image.image-bytes fs) (file.read-functions (image.image-bytes fs) 0) [] fs
     come = (functions (image.image-bytes fs) fs h) .run 0 (record { passed = []; all-of = refl; place = refl })

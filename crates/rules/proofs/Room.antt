@@ -61,7 +61,9 @@ module _ (limits : Limits) (tree : List ℕ) where
       read : Read Stmts
       read = read-tree tree (limits .depth) (limits .funs)
 
-      by-length : (b : Bool) → Under-compiled (if b then entry.from-read read limit else refused TreeTooLong) (if b then entry.from-read read limit′ else refused TreeTooLong)
+      by-length : (b : Bool) →
+          Under-compiled (if b then entry.from-read read limit else refused TreeTooLong)
+          (if b then entry.from-read read limit′ else refused TreeTooLong)
       by-length true = from-read read limit limit′ l
       by-length false = same refl
 
@@ -79,7 +81,8 @@ module _ (lent lent′ : Lent) (larger : Larger lent lent′) where
   abbrev Enough : Answer → Type 0
   Enough a = (a .number ≢ 1) × (a .number ≢ 30) × (a .number ≢ 31)
 
-  image-same : (image : List ℕ) → entry.write-image lent image .answer .number ≢ 31 → Same lent lent′ (entry.write-image lent image) (entry.write-image lent′ image)
+  image-same : (image : List ℕ) → entry.write-image lent image .answer .number ≢ 31 →
+      Same lent lent′ (entry.write-image lent image) (entry.write-image lent′ image)
   unfolding entry.write-image entry.leaves refusal
   image-same image n = by-room (leb (length image) (lent .output-bytes)) refl n
     where
@@ -90,16 +93,19 @@ module _ (lent lent′ : Lent) (larger : Larger lent lent′) where
           else entry.leaves lent (refusal (OutFull (length image))) (replicate (lent .output-bytes) 0)
 
       padded : length image ≤ lent .output-bytes →
-          image ++ replicate (lent′ .output-bytes - length image) 0 ≡ (image ++ replicate (lent .output-bytes - length image) 0) ++ replicate (lent′ .output-bytes - lent .output-bytes) 0
+          image ++ replicate (lent′ .output-bytes - length image) 0 ≡ (image ++ replicate (lent .output-bytes - length image) 0) ++ replicate
+          (lent′ .output-bytes - lent .output-bytes) 0
       padded l =
-          rw (zeros (lent′ .output-bytes - length image) (lent .output-bytes - length image) (lent′ .output-bytes - lent .output-bytes) (omega (arith, larger .output-bytes)))
+          rw (zeros (lent′ .output-bytes - length image) (lent .output-bytes - length image) (lent′ .output-bytes - lent .output-bytes)
+          (omega (arith, larger .output-bytes)))
           (sym (append-assoc image (replicate (lent .output-bytes - length image) 0) (replicate (lent′ .output-bytes - lent .output-bytes) 0)))
 
       by-larger : length image ≤ lent .output-bytes → (b : Bool) → T b → Same lent lent′ (room lent true) (room lent′ b)
       by-larger l true t = record { answer = refl; output = padded l }
       by-larger l false t = absurd t
 
-      by-room : (b : Bool) → leb (length image) (lent .output-bytes) ≡ b → room lent b .answer .number ≢ 31 → Same lent lent′ (room lent b) (room lent′ (leb (length image) (lent′ .output-bytes)))
+      by-room : (b : Bool) → leb (length image) (lent .output-bytes) ≡ b → room lent b .answer .number ≢ 31 →
+          Same lent lent′ (room lent b) (room lent′ (leb (length image) (lent′ .output-bytes)))
       by-room true e n =
           let l : length image ≤ lent .output-bytes = leb→le (length image) (lent .output-bytes) (rw e tt) in
           by-larger l (leb (length image) (lent′ .output-bytes)) (le→leb (length image) (lent′ .output-bytes) (omega (arith, larger .output-bytes)))
@@ -107,31 +113,42 @@ module _ (lent lent′ : Lent) (larger : Larger lent lent′) where
 
   out-same : (x : Compiled) → entry.write-out lent x .answer .number ≢ 31 → Same lent lent′ (entry.write-out lent x) (entry.write-out lent′ x)
   unfolding entry.write-out entry.leaves
-  out-same (refused r) n = record { answer = refl; output = zeros (lent′ .output-bytes) (lent .output-bytes) (lent′ .output-bytes - lent .output-bytes) (omega (arith, larger .output-bytes)) }
+  out-same (refused r) n =
+      record {
+        answer = refl;
+        output = zeros (lent′ .output-bytes) (lent .output-bytes) (lent′ .output-bytes - lent .output-bytes)
+            (omega (arith, larger .output-bytes));
+      }
   out-same (functions-are fs) n = image-same (image-bytes fs) n
 
-  out-agrees : (x x′ : Compiled) → Under-compiled x x′ → Enough (entry.write-out lent x .answer) → Same lent lent′ (entry.write-out lent x) (entry.write-out lent′ x′)
+  out-agrees : (x x′ : Compiled) → Under-compiled x x′ → Enough (entry.write-out lent x .answer) →
+      Same lent lent′ (entry.write-out lent x) (entry.write-out lent′ x′)
   unfolding entry.write-out entry.leaves refusal
   out-agrees x x′ (full e) n = absurd (n .1 (ap (λ (x : Compiled). entry.write-out lent x .answer .number) e))
   out-agrees x x′ (same e) n = subst (λ (x′ : Compiled). Same lent lent′ (entry.write-out lent x) (entry.write-out lent′ x′)) e (out-same x (n .2))
 
   -- room enough is room enough where there is more
-  pub more-room-within : (limits : Limits) (tree : List ℕ) → Enough (compile-within limits tree lent .answer) → Same lent lent′ (compile-within limits tree lent) (compile-within limits tree lent′)
+  pub more-room-within : (limits : Limits) (tree : List ℕ) → Enough (compile-within limits tree lent .answer) →
+      Same lent lent′ (compile-within limits tree lent) (compile-within limits tree lent′)
   unfolding compile-within compile-lent entry.write-out entry.leaves refusal
   more-room-within limits tree n = by-table (leb (limits .table-bytes) (8 * lent .table-words)) refl n
     where
       table : Lent → Bool → Compiled
       table lent b = if b then compile-tree limits tree (code-limit lent) else refused WorkShort
 
-      by-larger : (b : Bool) → T b → Enough (entry.write-out lent (table lent true) .answer) → Same lent lent′ (entry.write-out lent (table lent true)) (entry.write-out lent′ (table lent′ b))
-      by-larger true t n = out-agrees (compile-tree limits tree (code-limit lent)) (compile-tree limits tree (code-limit lent′)) (tree-agrees limits tree (code-limit lent) (code-limit lent′) (larger-limit lent lent′ larger)) n
+      by-larger : (b : Bool) → T b → Enough (entry.write-out lent (table lent true) .answer) →
+          Same lent lent′ (entry.write-out lent (table lent true)) (entry.write-out lent′ (table lent′ b))
+      by-larger true t n = out-agrees (compile-tree limits tree (code-limit lent)) (compile-tree limits tree (code-limit lent′))
+          (tree-agrees limits tree (code-limit lent) (code-limit lent′) (larger-limit lent lent′ larger)) n
       by-larger false t n = absurd t
 
       by-table : (b : Bool) → leb (limits .table-bytes) (8 * lent .table-words) ≡ b → Enough (entry.write-out lent (table lent b) .answer) →
-          Same lent lent′ (entry.write-out lent (table lent b)) (entry.write-out lent′ (table lent′ (leb (limits .table-bytes) (8 * lent′ .table-words))))
+          Same lent lent′ (entry.write-out lent (table lent b))
+          (entry.write-out lent′ (table lent′ (leb (limits .table-bytes) (8 * lent′ .table-words))))
       by-table true e n =
           by-larger (leb (limits .table-bytes) (8 * lent′ .table-words))
-          (le→leb (limits .table-bytes) (8 * lent′ .table-words) (omega (arith, larger .table-words, leb→le (limits .table-bytes) (8 * lent .table-words) (rw e tt)))) n
+          (le→leb (limits .table-bytes) (8 * lent′ .table-words)
+          (omega (arith, larger .table-words, leb→le (limits .table-bytes) (8 * lent .table-words) (rw e tt)))) n
       by-table false e n = absurd (n .0 refl)
 
   pub more-room : (tree : List ℕ) → Enough (compile tree lent .answer) → Same lent lent′ (compile tree lent) (compile tree lent′)

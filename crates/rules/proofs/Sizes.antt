@@ -48,11 +48,13 @@ finished-end [] f = omega arith
 finished-end (g ∷ fs) f = omega (arith, finished-end fs f)
 
 -- the open functions' code, summed, is part of it
-open-code-step : (s : Compiler) (x p : CompilerCtx) (ps : List CompilerCtx) → c.open-code (c.with-ctxs s x (p ∷ ps)) ≡ length (x .chunk .ops) + c.open-code (c.with-ctxs s p ps)
+open-code-step : (s : Compiler) (x p : CompilerCtx) (ps : List CompilerCtx) →
+    c.open-code (c.with-ctxs s x (p ∷ ps)) ≡ length (x .chunk .ops) + c.open-code (c.with-ctxs s p ps)
 unfolding c.open-code
 open-code-step s x p ps = refl
 
-open-code-of : (s : Compiler) (x : CompilerCtx) (ps : List CompilerCtx) → c.open-code (c.with-ctxs s x ps) + length (x .locals) ≤ held x + held-all ps
+open-code-of : (s : Compiler) (x : CompilerCtx) (ps : List CompilerCtx) →
+    c.open-code (c.with-ctxs s x ps) + length (x .locals) ≤ held x + held-all ps
 unfolding c.open-code
 open-code-of s x [] = omega arith
 open-code-of s x (p ∷ ps) = omega (arith, open-code-of s p ps, open-code-step s x p ps)
@@ -76,7 +78,8 @@ module _ (limit most top : ℕ) (nested : most ≤ 16) (room : top ≤ limit) wh
   Does g h n m = Spends J Rusts top g h n m
 
   infixl 10 _>>=_
-  _>>=_ : {A B : Type 0} {g h i n n′ : ℕ} {m : Compile A} {f : A → Compile B} → Does g h n m → ((a : A) → Does h i n′ (f a)) → Does g i (n + n′) (c._>>=_ m f)
+  _>>=_ : {A B : Type 0} {g h i n n′ : ℕ} {m : Compile A} {f : A → Compile B} → Does g h n m → ((a : A) → Does h i n′ (f a)) →
+      Does g i (n + n′) (c._>>=_ m f)
   hm >>= hf = spends.bind J Rusts top (more most) hm hf
 
   infixl 10 _>>_
@@ -100,7 +103,8 @@ module _ (limit most top : ℕ) (nested : most ≤ 16) (room : top ≤ limit) wh
   unfolding c.emit-u8 c._>>=_ c._>>_ go-on c.the c.need c.update-ctx
   emits s b span l = by-test (ltb (c.open-code s) limit) (lt→ltb (c.open-code s) limit l)
     where
-      by-test : (t : Bool) → T t → go-on (c.need t CodeFull s) (λ _. c.update-ctx (λ x. c.with-chunk x (write-u8 (x .chunk) b span))) ≡ ok tt (emitted s b span)
+      by-test : (t : Bool) → T t →
+          go-on (c.need t CodeFull s) (λ _. c.update-ctx (λ x. c.with-chunk x (write-u8 (x .chunk) b span))) ≡ ok tt (emitted s b span)
       by-test true t = refl
       by-test false t = absurd t
 
@@ -112,7 +116,8 @@ module _ (limit most top : ℕ) (nested : most ≤ 16) (room : top ≤ limit) wh
   emit-u8 {g} b span =
       record {
         run =
-            λ s k l i. subst⁻¹ (λ (o : Outcome (Unit {0})). Ends J Rusts top g (k + 1) o) (emits s b span (omega (arith, open-code-held s, i .spent)))
+            λ s k l i. subst⁻¹ (λ (o : Outcome (Unit {0})). Ends J Rusts top g (k + 1) o)
+            (emits s b span (omega (arith, open-code-held s, i .spent)))
             (record { levels = i .levels; spent = omega (arith, i .spent, one-more (s .ctx .chunk) b span) });
       }
 
@@ -124,7 +129,9 @@ module _ (limit most top : ℕ) (nested : most ≤ 16) (room : top ≤ limit) wh
   unfolding Placed write-constant written
   placed ch v = found (position (same-constant v) (ch .constants))
     where
-      added : (b : Bool) → Placed ch (if b then at-place (length (ch .constants)) (record { ops = ch .ops; constants = ch .constants ++ (v ∷ []); spans = ch .spans }) else no-room)
+      added : (b : Bool) →
+          Placed ch (if b then at-place (length (ch .constants))
+          (record { ops = ch .ops; constants = ch .constants ++ (v ∷ []); spans = ch .spans }) else no-room)
       added true = refl
       added false = tt
 
@@ -132,10 +139,12 @@ module _ (limit most top : ℕ) (nested : most ≤ 16) (room : top ≤ limit) wh
       found (some place) = refl
       found none = added (ltb (length (ch .constants)) 256)
 
-  emit-place : {g : ℕ} (s : Compiler) (k : ℕ) (w : Written) (span : Span) → J g k s → k + 1 ≤ top → Placed (s .ctx .chunk) w → Ends J Rusts top g (k + 1) (c.emit-place limit w span s)
+  emit-place : {g : ℕ} (s : Compiler) (k : ℕ) (w : Written) (span : Span) → J g k s → k + 1 ≤ top → Placed (s .ctx .chunk) w →
+      Ends J Rusts top g (k + 1) (c.emit-place limit w span s)
   unfolding c.emit-place Placed c._>>_ go-on c.update-ctx c.refuse
   emit-place s k (at-place place ch) span i l e =
-      (emit-u8 place span) .run (c.with-ctx s (c.with-chunk (s .ctx) ch)) k l (record { levels = i .levels; spent = omega (arith, i .spent, ap length e) })
+      (emit-u8 place span) .run (c.with-ctx s (c.with-chunk (s .ctx) ch)) k l
+      (record { levels = i .levels; spent = omega (arith, i .spent, ap length e) })
   emit-place s k no-room span i l e = tt
 
   emit-constant : {g : ℕ} (v : Constant) (span : Span) → Does g g 1 (c.emit-constant limit v span)
@@ -160,7 +169,8 @@ module _ (limit most top : ℕ) (nested : most ≤ 16) (room : top ≤ limit) wh
     update 0 _ (λ x. simp length-set (omega arith))
 
   -- a byte for each local that goes
-  pop-locals : {g : ℕ} (ls : List Local) (span : Span) (s : Compiler) (k : ℕ) → s .ctx .locals ≡ ls → k ≤ top → J g k s → Ends J Rusts top g k (c.pop-locals limit ls span s)
+  pop-locals : {g : ℕ} (ls : List Local) (span : Span) (s : Compiler) (k : ℕ) → s .ctx .locals ≡ ls → k ≤ top → J g k s →
+      Ends J Rusts top g k (c.pop-locals limit ls span s)
   unfolding c.pop-locals c._>>=_ c._>>_ go-on c.the c.done c.return c.emit-op c.update-ctx
   pop-locals [] span s k e l i = i
   pop-locals {g} (x ∷ xs) span s k e l i = by-depth (ltb (s .ctx .scope-depth) (x .depth)) (λ t e h. pop-locals xs span t k e l h)
@@ -175,9 +185,12 @@ module _ (limit most top : ℕ) (nested : most ≤ 16) (room : top ≤ limit) wh
       fits = record { levels = i .levels; spent = omega (arith, i .spent, one-more (s .ctx .chunk) b span, ap length e) }
 
       by-depth : (d : Bool) → ((t : Compiler) → t .ctx .locals ≡ xs → J g k t → Ends J Rusts top g k (c.pop-locals limit xs span t)) →
-          Ends J Rusts top g k ((if d then c._>>_ (c.emit-op limit b span) (c._>>_ (c.update-ctx (λ y. c.with-locals y xs)) (c.pop-locals limit xs span)) else c.done) s)
+          Ends J Rusts top g k
+          ((if d then c._>>_ (c.emit-op limit b span)
+          (c._>>_ (c.update-ctx (λ y. c.with-locals y xs)) (c.pop-locals limit xs span)) else c.done) s)
       by-depth true rest =
-          subst⁻¹ (λ (o : Outcome (Unit {0})). Ends J Rusts top g k (go-on o (λ _. c._>>_ (c.update-ctx (λ y. c.with-locals y xs)) (c.pop-locals limit xs span))))
+          subst⁻¹ (λ (o : Outcome (Unit {0})). Ends J Rusts top g k
+          (go-on o (λ _. c._>>_ (c.update-ctx (λ y. c.with-locals y xs)) (c.pop-locals limit xs span))))
           (emits s b span (omega (arith, open-code-held s, i .spent, ap length e))) (rest popped refl fits)
       by-depth false rest = i
 
@@ -189,9 +202,11 @@ module _ (limit most top : ℕ) (nested : most ≤ 16) (room : top ≤ limit) wh
       lower : CompilerCtx → CompilerCtx
       lower x = c.with-scope-depth x (x .scope-depth - 1)
 
-      ended : (s : Compiler) (k : ℕ) → k + 0 ≤ top → J g k s → Ends J Rusts top g (k + 0) (c.pop-locals limit (s .ctx .locals) span (c.with-ctx s (lower (s .ctx))))
+      ended : (s : Compiler) (k : ℕ) → k + 0 ≤ top → J g k s →
+          Ends J Rusts top g (k + 0) (c.pop-locals limit (s .ctx .locals) span (c.with-ctx s (lower (s .ctx))))
       ended s k l i =
-          spends.ends-more J Rusts top (more most) g k (k + 0) (c.pop-locals limit (s .ctx .locals) span (c.with-ctx s (lower (s .ctx)))) (omega arith)
+          spends.ends-more J Rusts top (more most) g k (k + 0) (c.pop-locals limit (s .ctx .locals) span (c.with-ctx s (lower (s .ctx))))
+          (omega arith)
           (pop-locals (s .ctx .locals) span (c.with-ctx s (lower (s .ctx))) k refl (omega arith) (record { levels = i .levels; spent = i .spent }))
 
   -- a captured variable may be new in each open function but the script
@@ -205,32 +220,40 @@ module _ (limit most top : ℕ) (nested : most ≤ 16) (room : top ≤ limit) wh
   Grown-if ctx parents (failed r) = Rusts r
 
   added : (p : Option ℕ) (u : Upvalue) (span : Span) (ctx parent : CompilerCtx) (above : List CompilerCtx) (parents : List CompilerCtx) →
-      length parents ≡ suc (length above) → held-all parents ≤ held parent + held-all above + 2 * length above → Grown-if ctx (parent ∷ above) (c.added p u span ctx parents)
+      length parents ≡ suc (length above) → held-all parents ≤ held parent + held-all above + 2 * length above → Grown-if ctx (parent ∷ above)
+      (c.added p u span ctx parents)
   unfolding c.added
   added (some place) u span ctx parent above parents e l = record { levels = e; spent = omega arith }
   added none u span ctx parent above parents e l = by-room (ltb (length (ctx .upvalues)) 256)
     where
-      by-room : (b : Bool) → Grown-if ctx (parent ∷ above) (if b then captured (length (ctx .upvalues)) (c.with-upvalues ctx (ctx .upvalues ++ (u ∷ []))) parents else failed (TooManyUpvalues span))
+      by-room : (b : Bool) →
+          Grown-if ctx (parent ∷ above)
+          (if b then captured (length (ctx .upvalues)) (c.with-upvalues ctx (ctx .upvalues ++ (u ∷ []))) parents else failed (TooManyUpvalues span))
       by-room true = record { levels = e; spent = omega (arith, length-append (ctx .upvalues) (u ∷ [])) }
       by-room false = tt
 
-  through : (f : Found) (outer : Resolved) (name : ℕ) (span : Span) (ctx parent : CompilerCtx) (above : List CompilerCtx) → Grown-if parent above outer →
+  through : (f : Found) (outer : Resolved) (name : ℕ) (span : Span) (ctx parent : CompilerCtx) (above : List CompilerCtx) →
+      Grown-if parent above outer →
       Grown-if ctx (parent ∷ above) (c.through f outer name span ctx parent above)
   unfolding c.through c.add-upvalue
   through (at-slot slot) outer name span ctx parent above o =
       added _ (record { idx = slot; is-local = true }) span ctx parent above (c.with-locals parent (c.capture name (parent .locals)) ∷ above) refl
       (omega (arith, capture-length name (parent .locals)))
   through uninitialized outer name span ctx parent above o = tt
-  through missing (captured idx q qs) name span ctx parent above o = added _ (record { idx = idx; is-local = false }) span ctx parent above (q ∷ qs) (ap suc (o .levels)) (o .spent)
+  through missing (captured idx q qs) name span ctx parent above o =
+      added _ (record { idx = idx; is-local = false }) span ctx parent above (q ∷ qs) (ap suc (o .levels)) (o .spent)
   through missing nowhere name span ctx parent above o = tt
   through missing (failed r) name span ctx parent above o = o
 
-  resolve-upvalue : (name : ℕ) (span : Span) (ctx : CompilerCtx) (parents : List CompilerCtx) → Grown-if ctx parents (c.resolve-upvalue name span ctx parents)
+  resolve-upvalue : (name : ℕ) (span : Span) (ctx : CompilerCtx) (parents : List CompilerCtx) →
+      Grown-if ctx parents (c.resolve-upvalue name span ctx parents)
   unfolding c.resolve-upvalue
   resolve-upvalue name span ctx [] = tt
-  resolve-upvalue name span ctx (p ∷ ps) = through (c.find-local name (p .locals)) (c.resolve-upvalue name span p ps) name span ctx p ps (resolve-upvalue name span p ps)
+  resolve-upvalue name span ctx (p ∷ ps) =
+      through (c.find-local name (p .locals)) (c.resolve-upvalue name span p ps) name span ctx p ps (resolve-upvalue name span p ps)
 
-  resolved : {g : ℕ} (f : Found) (outer : Resolved) (name : ℕ) (span : Span) (s : Compiler) (k : ℕ) → J g k s → Grown-if (s .ctx) (s .parents) outer →
+  resolved : {g : ℕ} (f : Found) (outer : Resolved) (name : ℕ) (span : Span) (s : Compiler) (k : ℕ) → J g k s →
+      Grown-if (s .ctx) (s .parents) outer →
       Ends J Rusts top g (k + 32) (c.resolved f outer name span s)
   unfolding c.resolved c._>>_ go-on c.put-ctxs c.return c.refuse
   resolved (at-slot slot) outer name span s k i o = record { levels = i .levels; spent = omega (arith, i .spent) }
@@ -277,15 +300,18 @@ module _ (limit most top : ℕ) (nested : most ≤ 16) (room : top ≤ limit) wh
       (omega arith)
 
   -- the closure is made in the function around, which has one finished function more and the captured variables' pairs less to pay for
-  back-to : {h : ℕ} (g : ℕ) (s : Compiler) (k : ℕ) (ps : List CompilerCtx) (span : Span) → s .parents ≡ ps → g ≡ suc h → g ≤ most → k + 3 ≤ top → J h k s →
+  back-to : {h : ℕ} (g : ℕ) (s : Compiler) (k : ℕ) (ps : List CompilerCtx) (span : Span) → s .parents ≡ ps → g ≡ suc h → g ≤ most → k + 3 ≤ top →
+      J h k s →
       Ends J Rusts top g (k + 3) (go-on (c.back-to ps s) (λ (r : ℕ × List Upvalue). c.emit-closure limit (r .0) (r .1) span))
   unfolding c.back-to c.finish go-on
   back-to g s k [] span e up b l i =
       spends.ends-more J Rusts top (more most) g (k + 2) (k + 3) (c.emit-closure limit 0 [] span s) (omega arith)
       ((emit-closure 0 [] span) .run s k (omega arith) (record { levels = omega (arith, ap length e); spent = i .spent }))
   back-to g s k (p ∷ ps) span e up b l i =
-      spends.ends-more J Rusts top (more most) g (spent t + (2 + 2 * length us)) (k + 3) (c.emit-closure limit (length (s .functions)) us span t) paid
-      ((emit-closure (length (s .functions)) us span) .run t (spent t) (omega (arith, paid)) (record { levels = omega (arith, i .levels, ap length e); spent = omega arith }))
+      spends.ends-more J Rusts top (more most) g (spent t + (2 + 2 * length us)) (k + 3)
+      (c.emit-closure limit (length (s .functions)) us span t) paid
+      ((emit-closure (length (s .functions)) us span) .run t (spent t) (omega (arith, paid))
+      (record { levels = omega (arith, i .levels, ap length e); spent = omega arith }))
     where
       us : List Upvalue
       us = s .ctx .upvalues
@@ -336,7 +362,8 @@ abbrev pub Within : (size : ℕ) → Outcome (List ObjectFunction) → Type 0
 Within size (ok fs s) = finished fs ≤ 6 * size + 3
 Within size (err r) = Rusts r
 
-pub within : (limit most : ℕ) (stmts : Stmts) → most ≤ 16 → Of-stmts (fitting most) stmts most → 6 * stmts-size stmts + 2 ≤ limit → Within (stmts-size stmts) (c.compile-functions limit stmts)
+pub within : (limit most : ℕ) (stmts : Stmts) → most ≤ 16 → Of-stmts (fitting most) stmts most → 6 * stmts-size stmts + 2 ≤ limit →
+    Within (stmts-size stmts) (c.compile-functions limit stmts)
 unfolding c.compile-functions c._>>_ c.the c.finish go-on
 within limit most stmts nested o room = by-outcome (c.compile-script limit stmts c.new) compiled
   where
@@ -345,7 +372,8 @@ within limit most stmts nested o room = by-outcome (c.compile-script limit stmts
 
     compiled : Ends (λ g k s. Spent most g k s) Rusts top most (0 + top) (c.compile-script limit stmts c.new)
     compiled =
-        (steps.compile-script (fitting most) limit limit (λ A g h n m m′. Does limit most top nested room {A = A} g h n m) (laws limit most top nested room) stmts most o) .run c.new 0 (omega arith)
+        (steps.compile-script (fitting most) limit limit (λ A g h n m m′. Does limit most top nested room {A = A} g h n m)
+        (laws limit most top nested room) stmts most o) .run c.new 0 (omega arith)
         (record { levels = omega arith; spent = omega arith })
 
     by-outcome : (r : Outcome (Unit {0})) → Ends (λ g k s. Spent most g k s) Rusts top most (0 + top) r →

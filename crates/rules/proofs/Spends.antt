@@ -24,23 +24,27 @@ module _ {level : Type 0} (J : level → ℕ → Compiler → Type 0) (Allowed :
     ends-more g k k′ (ok a s) l h = more g k k′ s l h
     ends-more g k k′ (err r) l h = h
 
-    on : {A B : Type 0} (h i : level) (n n′ k : ℕ) (o : Outcome A) (f : A → Compile B) → k + (n + n′) ≤ top → Ends h (k + n) o → ((a : A) → Spends h i n′ (f a)) → Ends i (k + (n + n′)) (go-on o f)
+    on : {A B : Type 0} (h i : level) (n n′ k : ℕ) (o : Outcome A) (f : A → Compile B) → k + (n + n′) ≤ top → Ends h (k + n) o →
+        ((a : A) → Spends h i n′ (f a)) → Ends i (k + (n + n′)) (go-on o f)
     unfolding go-on
     on h i n n′ k (ok a t) f l e hf = ends-more i (k + n + n′) (k + (n + n′)) (f a t) (omega arith) ((hf a) .run t (k + n) (omega arith) e)
     on h i n n′ k (err r) f l e hf = e
 
-    pub bind : {A B : Type 0} {g h i : level} {n n′ : ℕ} {m : Compile A} {f : A → Compile B} → Spends g h n m → ((a : A) → Spends h i n′ (f a)) → Spends g i (n + n′) (c._>>=_ m f)
+    pub bind : {A B : Type 0} {g h i : level} {n n′ : ℕ} {m : Compile A} {f : A → Compile B} → Spends g h n m → ((a : A) → Spends h i n′ (f a)) →
+        Spends g i (n + n′) (c._>>=_ m f)
     unfolding c._>>=_
     bind {h = h} {i = i} {n = n} {n′ = n′} {m = m} {f = f} hm hf =
         record { run = λ s k l j. on h i n n′ k (m s) f l (hm .run s k (omega arith) j) hf }
 
-    pub follow : {A B : Type 0} {g h i : level} {n n′ : ℕ} {m : Compile A} {p : Compile B} → Spends g h n m → Spends h i n′ p → Spends g i (n + n′) (c._>>_ m p)
+    pub follow : {A B : Type 0} {g h i : level} {n n′ : ℕ} {m : Compile A} {p : Compile B} → Spends g h n m → Spends h i n′ p →
+        Spends g i (n + n′) (c._>>_ m p)
     unfolding c._>>_
     follow {h = h} {i = i} {n = n} {n′ = n′} {m = m} {p = p} hm hp =
         record { run = λ s k l j. on h i n n′ k (m s) (λ _. p) l (hm .run s k (omega arith) j) (λ _. hp) }
 
     pub enough : {A : Type 0} {g h : level} {n n′ : ℕ} {m : Compile A} → Spends g h n m → n ≤ n′ → Spends g h n′ m
-    enough {h = h} {n = n} {n′ = n′} {m = m} hm b = record { run = λ s k l j. ends-more h (k + n) (k + n′) (m s) (omega arith) (hm .run s k (omega arith) j) }
+    enough {h = h} {n = n} {n′ = n′} {m = m} hm b =
+        record { run = λ s k l j. ends-more h (k + n) (k + n′) (m s) (omega arith) (hm .run s k (omega arith) j) }
 
     -- a step that spends nothing, and one that spends
     pub free : {A : Type 0} {g h : level} {m : Compile A} → ((s : Compiler) (k : ℕ) → J g k s → Ends h k (m s)) → Spends g h 0 m
@@ -63,7 +67,8 @@ module _ {level : Type 0} (J : level → ℕ → Compiler → Type 0) (Allowed :
     unfolding c.refuse
     refuse r a = free (λ s k j. a)
 
-    pub needs : {A : Type 0} {g h : level} {n : ℕ} {m : Compile A} (b : Bool) (r : Refusal) → Allowed r → (T b → Spends g h n m) → Spends g h n (c._>>_ (c.need b r) m)
+    pub needs : {A : Type 0} {g h : level} {n : ℕ} {m : Compile A} (b : Bool) (r : Refusal) → Allowed r → (T b → Spends g h n m) →
+        Spends g h n (c._>>_ (c.need b r) m)
     unfolding c._>>_ c.need go-on
     needs true r a f = record { run = λ s k l j. (f tt) .run s k l j }
     needs false r a f = record { run = λ s k l j. a }
@@ -72,6 +77,7 @@ module _ {level : Type 0} (J : level → ℕ → Compiler → Type 0) (Allowed :
     unfolding c.done
     done = return tt
 
-    pub either : {A : Type 0} {g h : level} {n : ℕ} {m p : Compile A} (b : Bool) → Spends g h n m → Spends g h n p → Spends g h n (if b then m else p)
+    pub either : {A : Type 0} {g h : level} {n : ℕ} {m p : Compile A} (b : Bool) → Spends g h n m → Spends g h n p →
+        Spends g h n (if b then m else p)
     either true hm hp = hm
     either false hm hp = hp

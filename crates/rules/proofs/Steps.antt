@@ -68,7 +68,8 @@ module _ (l : Leaf) (limit limit′ : ℕ) (R : (A : Type 0) → (from to : l .l
     pub emit-constant : {g : l .level} (v : Constant) (span : Span) → Of-constant l v → l .span span →
         R _ g g 1 (c.emit-constant limit v span) (c.emit-constant limit′ v span)
     pub end-scope : {g : l .level} (span : Span) → l .span span → R _ g g 0 (c.end-scope limit span) (c.end-scope limit′ span)
-    pub end-function : {g h : l .level} (span : Span) → l .opens g h → l .span span → R _ h g 3 (c.end-function limit span) (c.end-function limit′ span)
+    pub end-function : {g h : l .level} (span : Span) → l .opens g h → l .span span →
+        R _ h g 3 (c.end-function limit span) (c.end-function limit′ span)
 
   module _ (laws : Laws) where
     infixl 10 _>>=_
@@ -83,7 +84,8 @@ module _ (l : Leaf) (limit limit′ : ℕ) (R : (A : Type 0) → (from to : l .l
     unfolding c.done
     done = return tt
 
-    either : {g h : l .level} {n : ℕ} {m m′ p p′ : Compile (Unit {0})} (b : Bool) → R _ g h n m m′ → R _ g h n p p′ → R _ g h n (if b then m else p) (if b then m′ else p′)
+    either : {g h : l .level} {n : ℕ} {m m′ p p′ : Compile (Unit {0})} (b : Bool) → R _ g h n m m′ → R _ g h n p p′ →
+        R _ g h n (if b then m else p) (if b then m′ else p′)
     either true hm hp = hm
     either false hm hp = hp
 
@@ -99,13 +101,15 @@ module _ (l : Leaf) (limit limit′ : ℕ) (R : (A : Type 0) → (from to : l .l
       emit-u8 _ _ s
       emit-u8 _ _ s
 
-    emit-op-constant : {g : l .level} (b : ℕ) (v : Constant) (span : Span) → Of-constant l v → l .span span → Has g g 2 (λ limit. c.emit-op-constant limit b v span)
+    emit-op-constant : {g : l .level} (b : ℕ) (v : Constant) (span : Span) → Of-constant l v → l .span span →
+        Has g g 2 (λ limit. c.emit-op-constant limit b v span)
     unfolding c.emit-op-constant
     emit-op-constant b v span o s = do
       emit-u8 _ _ s
       emit-constant _ _ o s
 
-    emit-invoke : {g : l .level} (b name n : ℕ) (span : Span) → l .name name → l .span span → Has g g 3 (λ limit. c.emit-invoke limit b (CS name) n span)
+    emit-invoke : {g : l .level} (b name n : ℕ) (span : Span) → l .name name → l .span span →
+        Has g g 3 (λ limit. c.emit-invoke limit b (CS name) n span)
     unfolding c.emit-invoke
     emit-invoke b name n span o s = do
       emit-u8 _ _ s
@@ -134,7 +138,8 @@ module _ (l : Leaf) (limit limit′ : ℕ) (R : (A : Type 0) → (from to : l .l
       emit-u8 _ _ s
       emit-u8 _ _ s
 
-    get-place : {g : l .level} (p : c.Place) (name : ℕ) (span : Span) → l .name name → l .span span → Has g g 2 (λ limit. c.get-place limit p name span)
+    get-place : {g : l .level} (p : c.Place) (name : ℕ) (span : Span) → l .name name → l .span span →
+        Has g g 2 (λ limit. c.get-place limit p name span)
     unfolding c.get-place
     get-place (c.local-at slot) name span n s = emit-op-u8 _ _ _ s
     get-place (c.upvalue-at idx) name span n s = emit-op-u8 _ _ _ s
@@ -148,7 +153,8 @@ module _ (l : Leaf) (limit limit′ : ℕ) (R : (A : Type 0) → (from to : l .l
       place ← resolve _ _
       get-place place _ _ n s
 
-    set-place : {g : l .level} (p : c.Place) (name : ℕ) (span : Span) → l .name name → l .span span → Has g g 2 (λ limit. c.set-place limit p name span)
+    set-place : {g : l .level} (p : c.Place) (name : ℕ) (span : Span) → l .name name → l .span span →
+        Has g g 2 (λ limit. c.set-place limit p name span)
     unfolding c.set-place
     set-place (c.local-at slot) name span n s = emit-op-u8 _ _ _ s
     set-place (c.upvalue-at idx) name span n s = emit-op-u8 _ _ _ s
@@ -162,7 +168,8 @@ module _ (l : Leaf) (limit limit′ : ℕ) (R : (A : Type 0) → (from to : l .l
 
     -- ## Expressions
 
-    compile-literal : {g : l .level} (k : ExprLiteral) (span : Span) → Of-literal l k → l .span span → Has g g 2 (λ limit. c.compile-literal limit k span)
+    compile-literal : {g : l .level} (k : ExprLiteral) (span : Span) → Of-literal l k → l .span span →
+        Has g g 2 (λ limit. c.compile-literal limit k span)
     unfolding c.compile-literal
     compile-literal (LitBool true) span o s = enough (emit-op _ _ s) (omega arith)
     compile-literal (LitBool false) span o s = enough (emit-op _ _ s) (omega arith)
@@ -171,7 +178,8 @@ module _ (l : Leaf) (limit limit′ : ℕ) (R : (A : Type 0) → (from to : l .l
     compile-literal (LitString name) span o s = emit-op-constant _ (CS name) _ o s
 
     -- the right side, and what stands around it
-    after : {g : l .level} {n k : ℕ} {rt rt′ m m′ : Compile (Unit {0})} → R _ g g n rt rt′ → R _ g g k m m′ → k ≤ 7 → R _ g g (n + 7) (c._>>_ rt m) (c._>>_ rt′ m′)
+    after : {g : l .level} {n k : ℕ} {rt rt′ m m′ : Compile (Unit {0})} → R _ g g n rt rt′ → R _ g g k m m′ → k ≤ 7 →
+        R _ g g (n + 7) (c._>>_ rt m) (c._>>_ rt′ m′)
     after hr hm b = enough (hr >> hm) (omega arith)
 
     compile-infix : {g : l .level} {n : ℕ} (o : OpInfix) (rt rt′ : Compile (Unit {0})) (span : Span) → R _ g g n rt rt′ → l .span span →
@@ -206,7 +214,8 @@ module _ (l : Leaf) (limit limit′ : ℕ) (R : (A : Type 0) → (from to : l .l
           patch-jump _ _)
         (omega arith)
 
-    innermost-has-super : {g : l .level} (classes : List Bool) (span : Span) → R _ g g 0 (c.innermost-has-super classes span) (c.innermost-has-super classes span)
+    innermost-has-super : {g : l .level} (classes : List Bool) (span : Span) →
+        R _ g g 0 (c.innermost-has-super classes span) (c.innermost-has-super classes span)
     unfolding c.innermost-has-super
     innermost-has-super [] span = refuse _ tt
     innermost-has-super (b ∷ _) span = need b _ tt
@@ -225,7 +234,8 @@ module _ (l : Leaf) (limit limit′ : ℕ) (R : (A : Type 0) → (from to : l .l
       get-variable _ _ super-name s
       emit-op-constant _ (CS name) _ n s
 
-    call-method : {g : l .level} {n k : ℕ} {object object′ args args′ : Compile (Unit {0})} (name count : ℕ) (span : Span) → R _ g g n object object′ → R _ g g k args args′ → l .name name → l .span span →
+    call-method : {g : l .level} {n k : ℕ} {object object′ args args′ : Compile (Unit {0})} (name count : ℕ) (span : Span) →
+        R _ g g n object object′ → R _ g g k args args′ → l .name name → l .span span →
         R _ g g (n + k + 3) (c.call-method limit object args name count span) (c.call-method limit′ object′ args′ name count span)
     unfolding c.call-method
     call-method name count span ho ha n s =
@@ -236,7 +246,8 @@ module _ (l : Leaf) (limit limit′ : ℕ) (R : (A : Type 0) → (from to : l .l
           emit-invoke _ name _ _ n s)
         (omega arith)
 
-    call-super : {g : l .level} {k : ℕ} {args args′ : Compile (Unit {0})} (name count : ℕ) (span : Span) → R _ g g k args args′ → l .name name → l .span span →
+    call-super : {g : l .level} {k : ℕ} {args args′ : Compile (Unit {0})} (name count : ℕ) (span : Span) → R _ g g k args args′ → l .name name →
+        l .span span →
         R _ g g (k + 71) (c.call-super limit args name count span) (c.call-super limit′ args′ name count span)
     unfolding c.call-super
     call-super name count span ha n s =
@@ -249,7 +260,8 @@ module _ (l : Leaf) (limit limit′ : ℕ) (R : (A : Type 0) → (from to : l .l
           emit-invoke _ name _ _ n s)
         (omega arith)
 
-    call-value : {g : l .level} {n k : ℕ} {callee callee′ args args′ : Compile (Unit {0})} (count : ℕ) (span : Span) → R _ g g n callee callee′ → R _ g g k args args′ → l .span span →
+    call-value : {g : l .level} {n k : ℕ} {callee callee′ args args′ : Compile (Unit {0})} (count : ℕ) (span : Span) → R _ g g n callee callee′ →
+        R _ g g k args args′ → l .span span →
         R _ g g (n + k + 72) (c.call-value limit callee args count span) (c.call-value limit′ callee′ args′ count span)
     unfolding c.call-value
     call-value count span hc ha s =
@@ -305,9 +317,12 @@ module _ (l : Leaf) (limit limit′ : ℕ) (R : (A : Type 0) → (from to : l .l
       compile-expr (ExprSuper span name) o = enough (compile-super name span (o .1) (o .0)) (omega arith)
       compile-expr (ExprVar span name) o = enough (get-variable name span (o .1) (o .0)) (omega arith)
 
-      pub compile-call : (e : Expr) (n : ℕ) (span : Span) {g : l .level} {k : ℕ} {callee callee′ args args′ : Compile (Unit {0})} → R _ g g (6 * expr-size e) callee callee′ → R _ g g k args args′ →
-          Of-expr l e → l .span span → R _ g g (6 * expr-size e + k + 72) (c.compile-call limit e callee args n span) (c.compile-call limit′ e callee′ args′ n span)
-      compile-call (ExprGet _ name object) n span hc ha o s = enough (call-method name n span (compile-expr object (o .2)) ha (o .1) s) (omega arith)
+      pub compile-call : (e : Expr) (n : ℕ) (span : Span) {g : l .level} {k : ℕ} {callee callee′ args args′ : Compile (Unit {0})} →
+          R _ g g (6 * expr-size e) callee callee′ → R _ g g k args args′ →
+          Of-expr l e → l .span span → R _ g g (6 * expr-size e + k + 72) (c.compile-call limit e callee args n span)
+          (c.compile-call limit′ e callee′ args′ n span)
+      compile-call (ExprGet _ name object) n span hc ha o s =
+          enough (call-method name n span (compile-expr object (o .2)) ha (o .1) s) (omega arith)
       compile-call (ExprSuper _ name) n span hc ha o s = enough (call-super name n span ha (o .1) s) (omega arith)
       compile-call (ExprAssign _ _ _) n span hc ha o s = call-value n span hc ha s
       compile-call (ExprCall _ _ _) n span hc ha o s = call-value n span hc ha s
@@ -328,7 +343,8 @@ module _ (l : Leaf) (limit limit′ : ℕ) (R : (A : Type 0) → (from to : l .l
 
     -- ## Statements
 
-    compile-value : {g : l .level} (v : Option Expr) (span : Span) → If-some (Of-expr l) v → l .span span → Has g g (6 * option-size expr-size v + 1) (λ limit. c.compile-value limit v span)
+    compile-value : {g : l .level} (v : Option Expr) (span : Span) → If-some (Of-expr l) v → l .span span →
+        Has g g (6 * option-size expr-size v + 1) (λ limit. c.compile-value limit v span)
     unfolding c.compile-value
     compile-value none span o s = emit-op _ _ s
     compile-value (some value) span o s = enough (compile-expr value o) (omega arith)
@@ -342,7 +358,8 @@ module _ (l : Leaf) (limit limit′ : ℕ) (R : (A : Type 0) → (from to : l .l
     return-value Function v span o s = enough (compile-value v span o s) (omega arith)
     return-value Method v span o s = enough (compile-value v span o s) (omega arith)
 
-    compile-return : {g : l .level} (v : Option Expr) (span : Span) → If-some (Of-expr l) v → l .span span → Has g g (6 * option-size expr-size v + 3) (λ limit. c.compile-return limit v span)
+    compile-return : {g : l .level} (v : Option Expr) (span : Span) → If-some (Of-expr l) v → l .span span →
+        Has g g (6 * option-size expr-size v + 3) (λ limit. c.compile-return limit v span)
     unfolding c.compile-return
     compile-return v span o s =
         enough
@@ -385,7 +402,8 @@ module _ (l : Leaf) (limit limit′ : ℕ) (R : (A : Type 0) → (from to : l .l
       global ← is-global
       either global (define-global _ _ n s) (enough (declare-local _ _ >> define-local) (omega arith))
 
-    compile-superclass : {g : l .level} (class : ℕ) (sup : Option Superclass) (span : Span) → If-some (Of-superclass l) sup → l .name class → l .span span →
+    compile-superclass : {g : l .level} (class : ℕ) (sup : Option Superclass) (span : Span) → If-some (Of-superclass l) sup → l .name class →
+        l .span span →
         Has g g (6 * option-size (λ _. 12) sup) (λ limit. c.compile-superclass limit class sup span)
     unfolding c.compile-superclass
     compile-superclass class none span o n s = done
@@ -419,7 +437,8 @@ module _ (l : Leaf) (limit limit′ : ℕ) (R : (A : Type 0) → (from to : l .l
           return (some j))
         (omega arith)
 
-    for-incr : {g : l .level} (incr : Option Expr) (span : Span) → If-some (Of-expr l) incr → l .span span → Has g g (6 * option-size expr-size incr + 1) (λ limit. c.for-incr limit incr span)
+    for-incr : {g : l .level} (incr : Option Expr) (span : Span) → If-some (Of-expr l) incr → l .span span →
+        Has g g (6 * option-size expr-size incr + 1) (λ limit. c.for-incr limit incr span)
     unfolding c.for-incr
     for-incr none span o s = enough done (omega arith)
     for-incr (some incr) span o s =
@@ -453,9 +472,11 @@ module _ (l : Leaf) (limit limit′ : ℕ) (R : (A : Type 0) → (from to : l .l
       ops ← the _
       either (c.ends-in-return ops) (enough done (omega arith)) (compile-return none NO-SPAN tt no-span)
 
-    compile-function-with : {g h : l .level} {n : ℕ} (type : FunctionType) (name : ℕ) (params : List ℕ) {body body′ : Compile (Unit {0})} (span : Span) → l .opens g h → R _ h h n body body′ →
+    compile-function-with : {g h : l .level} {n : ℕ} (type : FunctionType) (name : ℕ) (params : List ℕ) {body body′ : Compile (Unit {0})}
+        (span : Span) → l .opens g h → R _ h h n body body′ →
         l .name name → l .span span →
-        R _ g g (length params + n + 7) (c.compile-function-with limit type name params body span) (c.compile-function-with limit′ type name params body′ span)
+        R _ g g (length params + n + 7) (c.compile-function-with limit type name params body span)
+        (c.compile-function-with limit′ type name params body′ span)
     unfolding c.compile-function-with
     compile-function-with type name params span up hb n s =
         needs (leb (length params) 255) _ tt
@@ -572,7 +593,8 @@ module _ (l : Leaf) (limit limit′ : ℕ) (R : (A : Type 0) → (from to : l .l
 
       pub compile-function : (f : Fun) (h g : l .level) (type : FunctionType) (span : Span) → Of-fun l f h → l .opens g h → l .span span →
           Has g g (6 * fun-size f) (λ limit. c.compile-function limit f type span)
-      compile-function (fun name params body) h g type span o up s = enough (compile-function-with type name params span up (compile-stmts body h (o .2)) (o .0) s) (omega arith)
+      compile-function (fun name params body) h g type span o up s =
+          enough (compile-function-with type name params span up (compile-stmts body h (o .2)) (o .0) s) (omega arith)
 
       pub compile-methods : (ms : Methods) (g : l .level) → Of-methods l ms g → Has g g (6 * methods-size ms) (λ limit. c.compile-methods limit ms)
       compile-methods []ᵐ g o = done

@@ -40,16 +40,19 @@ Given Q (bad r) = Readers r
 record At {A : Type 0} (m : Reader A) (at : ℕ) (Q : A → ℕ → Type 0) : Type 0 where
   run : Given Q (m at)
 
-on : {A B : Type 0} {Q : A → ℕ → Type 0} {S : B → ℕ → Type 0} (o : Read A) (f : A → Reader B) → Given Q o → ((a : A) (next : ℕ) → Q a next → At (f a) next S) → Given S (r.go-on o f)
+on : {A B : Type 0} {Q : A → ℕ → Type 0} {S : B → ℕ → Type 0} (o : Read A) (f : A → Reader B) → Given Q o →
+    ((a : A) (next : ℕ) → Q a next → At (f a) next S) → Given S (r.go-on o f)
 unfolding r.go-on
 on (got a next) f q h = (h a next q) .run
 on (bad r) f q h = q
 
-first : {A B : Type 0} {m : Reader A} {at : ℕ} {f : A → Reader B} {Q : A → ℕ → Type 0} {S : B → ℕ → Type 0} → At m at Q → ((a : A) (next : ℕ) → Q a next → At (f a) next S) → At (r._>>=_ m f) at S
+first : {A B : Type 0} {m : Reader A} {at : ℕ} {f : A → Reader B} {Q : A → ℕ → Type 0} {S : B → ℕ → Type 0} → At m at Q →
+    ((a : A) (next : ℕ) → Q a next → At (f a) next S) → At (r._>>=_ m f) at S
 unfolding r._>>=_
 first {m = m} {at = at} {f = f} hm hf = record { run = on (m at) f (hm .run) hf }
 
-next : {A B : Type 0} {m : Reader A} {at : ℕ} {n : Reader B} {Q : A → ℕ → Type 0} {S : B → ℕ → Type 0} → At m at Q → ((a : A) (next : ℕ) → Q a next → At n next S) → At (r._>>_ m n) at S
+next : {A B : Type 0} {m : Reader A} {at : ℕ} {n : Reader B} {Q : A → ℕ → Type 0} {S : B → ℕ → Type 0} → At m at Q →
+    ((a : A) (next : ℕ) → Q a next → At n next S) → At (r._>>_ m n) at S
 unfolding r._>>_
 next {m = m} {at = at} {n = n} hm hn = record { run = on (m at) (λ _. n) (hm .run) hn }
 
@@ -105,23 +108,27 @@ module _ (most : ℕ) where
   abbrev Reads : {A : Type 0} → Reader A → (A → Type 0) → (A → ℕ) → Type 0
   Reads {A} m P size = (at : ℕ) → At m at (λ (a : A) next. P a × (next ≡ at + size a))
 
-  read-exprs : (count : ℕ) (expr : Reader Expr) → Reads expr (Of-expr (fitting most)) expr-size → Reads (t.read-exprs count expr) (Of-exprs (fitting most)) exprs-size
+  read-exprs : (count : ℕ) (expr : Reader Expr) → Reads expr (Of-expr (fitting most)) expr-size →
+      Reads (t.read-exprs count expr) (Of-exprs (fitting most)) exprs-size
   unfolding t.read-exprs
   read-exprs zero expr h at = return []ᵉ (tt, omega arith)
   read-exprs (suc count) expr h at =
       first (h at) (λ e i q. first (read-exprs count expr h i) (λ es j k. return (e ∷ᵉ es) ((q .0, k .0), omega arith)))
 
-  maybe : {A : Type 0} (b : Bool) {one : Reader A} (P : A → Type 0) (size : A → ℕ) → Reads one P size → Reads (t.maybe b one) (If-some P) (option-size size)
+  maybe : {A : Type 0} (b : Bool) {one : Reader A} (P : A → Type 0) (size : A → ℕ) → Reads one P size →
+      Reads (t.maybe b one) (If-some P) (option-size size)
   unfolding t.maybe
   maybe false P size h at = return none (tt, omega arith)
   maybe true P size h at = first (h at) (λ a i q. return (some a) q)
 
-  maybe-stmt : (b : Bool) {one : Reader Stmt} (g : ℕ) → Reads one (λ s. Of-stmt (fitting most) s g) stmt-size → Reads (t.maybe-stmt b one) (λ s. Of-stmts (fitting most) s g) stmts-size
+  maybe-stmt : (b : Bool) {one : Reader Stmt} (g : ℕ) → Reads one (λ s. Of-stmt (fitting most) s g) stmt-size →
+      Reads (t.maybe-stmt b one) (λ s. Of-stmts (fitting most) s g) stmts-size
   unfolding t.maybe-stmt
   maybe-stmt false g h at = return []ˢ (tt, omega arith)
   maybe-stmt true g h at = first (h at) (λ s i q. return (s ∷ˢ []ˢ) ((q .0, tt), omega arith))
 
-  read-stmts : (count : ℕ) {one : Reader Stmt} (g : ℕ) → Reads one (λ s. Of-stmt (fitting most) s g) stmt-size → Reads (t.read-stmts count one) (λ s. Of-stmts (fitting most) s g) stmts-size
+  read-stmts : (count : ℕ) {one : Reader Stmt} (g : ℕ) → Reads one (λ s. Of-stmt (fitting most) s g) stmt-size →
+      Reads (t.read-stmts count one) (λ s. Of-stmts (fitting most) s g) stmts-size
   unfolding t.read-stmts
   read-stmts zero g h at = return []ˢ (tt, omega arith)
   read-stmts (suc count) g h at =
@@ -134,11 +141,13 @@ module _ (most : ℕ) where
   abbrev method-size : Span × Fun → ℕ
   method-size m = 10 + fun-size (m .1)
 
-  read-methods : (count : ℕ) {one : Reader (Span × Fun)} (g : ℕ) → Reads one (Of-method g) method-size → Reads (t.read-methods count one) (λ ms. Of-methods (fitting most) ms g) methods-size
+  read-methods : (count : ℕ) {one : Reader (Span × Fun)} (g : ℕ) → Reads one (Of-method g) method-size →
+      Reads (t.read-methods count one) (λ ms. Of-methods (fitting most) ms g) methods-size
   unfolding t.read-methods
   read-methods zero g h at = return []ᵐ (tt, omega arith)
   read-methods (suc count) g h at =
-      first (h at) (λ m i q. first (read-methods count g h i) (λ ms j k. return (method (m .0) (m .1) ms) ((q .0 .0, q .0 .1, q .0 .2, q .0 .3, k .0), omega arith)))
+      first (h at) (λ m i q. first (read-methods count g h i)
+      (λ ms j k. return (method (m .0) (m .1) ms) ((q .0 .0, q .0 .1, q .0 .2, q .0 .3, k .0), omega arith)))
 
   module _ (tree : List ℕ) (bytes : Bytes tree) where
     u8 : (fault : ℕ) (at : ℕ) → At (r.u8 tree (TreeForm fault)) at (Taken (λ (n : ℕ). n < 256) 1 at)
@@ -181,10 +190,12 @@ module _ (most : ℕ) where
     mark-is fault letters at = first (mark fault at) (λ m i p. so (need (eqb m letters) (TreeForm fault) tt) (λ _ next q. omega arith))
 
     -- a byte or a mark that a table has
-    kind : {A : Type 0} (table : List (ℕ × A)) (fault : ℕ) (at : ℕ) → At (r._>>=_ (r.u8 tree (TreeForm fault)) (r.one-of (TreeForm fault) table)) at (λ _ next. next ≡ at + 1)
+    kind : {A : Type 0} (table : List (ℕ × A)) (fault : ℕ) (at : ℕ) →
+        At (r._>>=_ (r.u8 tree (TreeForm fault)) (r.one-of (TreeForm fault) table)) at (λ _ next. next ≡ at + 1)
     kind table fault at = first (u8 fault at) (λ n i p. so (one-of fault table n) (λ _ j q. omega arith))
 
-    marked : {A : Type 0} (table : List (ℕ × A)) (fault : ℕ) (at : ℕ) → At (r._>>=_ (r.mark tree (TreeForm fault)) (r.one-of (TreeForm fault) table)) at (λ _ next. next ≡ at + 2)
+    marked : {A : Type 0} (table : List (ℕ × A)) (fault : ℕ) (at : ℕ) →
+        At (r._>>=_ (r.mark tree (TreeForm fault)) (r.one-of (TreeForm fault) table)) at (λ _ next. next ≡ at + 2)
     marked table fault at = first (mark fault at) (λ n i p. so (one-of fault table n) (λ _ j q. omega arith))
 
     flag : (fault : ℕ) (at : ℕ) → At (t.flag tree (TreeForm fault)) at (λ _ next. next ≡ at + 1)
@@ -197,7 +208,8 @@ module _ (most : ℕ) where
       name fault at = first (u16 fault at) (λ n i p. next (need (ltb n (4 + names)) (TreeForm fault) tt) (λ _ j q. return n (p .0, omega arith)))
 
       many-names : (count : ℕ) (fault : ℕ) (at : ℕ) →
-          At (r.many count (t.name tree names (TreeForm fault))) at (λ (ns : List ℕ) next. All (λ (n : ℕ). n < 65_536) ns × (next ≡ at + 2 * length ns))
+          At (r.many count (t.name tree names (TreeForm fault))) at
+          (λ (ns : List ℕ) next. All (λ (n : ℕ). n < 65_536) ns × (next ≡ at + 2 * length ns))
       unfolding r.many
       many-names zero fault at = return [] (tt, omega arith)
       many-names (suc count) fault at =
@@ -208,32 +220,39 @@ module _ (most : ℕ) where
       abbrev Expr-at : (start : ℕ) → Expr → ℕ → Type 0
       Expr-at start e next = Of-expr (fitting most) e × (next ≡ start + expr-size e)
 
-      literal-of : (fault : ℕ) (k : t.LiteralKind) (at : ℕ) → At (t.literal-of tree names (TreeForm fault) k) at (λ (v : ExprLiteral) next. Of-literal (fitting most) v × (next ≡ at + literal-size v))
+      literal-of : (fault : ℕ) (k : t.LiteralKind) (at : ℕ) →
+          At (t.literal-of tree names (TreeForm fault) k) at (λ (v : ExprLiteral) next. Of-literal (fitting most) v × (next ≡ at + literal-size v))
       unfolding t.literal-of
       literal-of fault t.a-false at = return _ (tt, omega arith)
       literal-of fault t.a-true at = return _ (tt, omega arith)
       literal-of fault t.a-nil at = return _ (tt, omega arith)
       literal-of fault t.a-number at =
-          first (u64 fault at) (λ bits i p. next (need (leb bits max-bits) (TreeForm fault) tt) (λ _ j q. return (LitNumber bits) (leb→le bits max-bits (q .0), omega arith)))
+          first (u64 fault at)
+          (λ bits i p. next (need (leb bits max-bits) (TreeForm fault) tt)
+          (λ _ j q. return (LitNumber bits) (leb→le bits max-bits (q .0), omega arith)))
       literal-of fault t.a-string at = first (name fault at) (λ n i p. return (LitString n) (p .0, p .1))
 
-      expr-fields : (expr : Reader Expr) → Reads expr (Of-expr (fitting most)) expr-size → (fault : ℕ) (k : t.ExprMark) (s : Span) → Narrow s → (start at : ℕ) → at ≡ start + 10 →
+      expr-fields : (expr : Reader Expr) → Reads expr (Of-expr (fitting most)) expr-size → (fault : ℕ) (k : t.ExprMark) (s : Span) → Narrow s →
+          (start at : ℕ) → at ≡ start + 10 →
           At (t.expr-fields tree names expr (TreeForm fault) k s) at (Expr-at start)
       unfolding t.expr-fields t.assign-fields t.call-fields t.get-fields t.infix-fields t.literal-fields t.prefix-fields t.set-fields t.super-fields t.var-fields
       expr-fields expr h fault t.EA s l start at e =
           first (name fault at) (λ n i p. first (h i) (λ v j q. return (ExprAssign s n v) ((l, p .0, q .0), omega arith)))
       expr-fields expr h fault t.EC s l start at e =
-          first (u16 fault at) (λ n i p. first (h i) (λ f j q. first (read-exprs n expr h j) (λ es k o. return (ExprCall s f es) ((l, q .0, o .0), omega arith))))
+          first (u16 fault at)
+          (λ n i p. first (h i) (λ f j q. first (read-exprs n expr h j) (λ es k o. return (ExprCall s f es) ((l, q .0, o .0), omega arith))))
       expr-fields expr h fault t.EG s l start at e =
           first (name fault at) (λ n i p. first (h i) (λ v j q. return (ExprGet s n v) ((l, p .0, q .0), omega arith)))
       expr-fields expr h fault t.EI s l start at e =
-          first (kind t.infix-ops fault at) (λ op i p. first (h i) (λ a j q. first (h j) (λ b k o. return (ExprInfix s op a b) ((l, q .0, o .0), omega arith))))
+          first (kind t.infix-ops fault at)
+          (λ op i p. first (h i) (λ a j q. first (h j) (λ b k o. return (ExprInfix s op a b) ((l, q .0, o .0), omega arith))))
       expr-fields expr h fault t.EL s l start at e =
           first (kind t.literal-kinds fault at) (λ k i p. first (literal-of fault k i) (λ v j q. return (Literal s v) ((l, q .0), omega arith)))
       expr-fields expr h fault t.EP s l start at e =
           first (kind t.prefix-ops fault at) (λ op i p. first (h i) (λ a j q. return (ExprPrefix s op a) ((l, q .0), omega arith)))
       expr-fields expr h fault t.ES s l start at e =
-          first (name fault at) (λ n i p. first (h i) (λ v j q. first (h j) (λ o k w. return (ExprSet s n v o) ((l, p .0, q .0, w .0), omega arith))))
+          first (name fault at)
+          (λ n i p. first (h i) (λ v j q. first (h j) (λ o k w. return (ExprSet s n v o) ((l, p .0, q .0, w .0), omega arith))))
       expr-fields expr h fault t.EU s l start at e = first (name fault at) (λ n i p. return (ExprSuper s n) ((l, p .0), omega arith))
       expr-fields expr h fault t.EV s l start at e = first (name fault at) (λ n i p. return (ExprVar s n) ((l, p .0), omega arith))
 
@@ -278,7 +297,8 @@ module _ (most : ℕ) where
           first (u16 fault k) (λ count m w.
           first (read-stmts count g h m) (λ body u v. return (fun n ns body) ((p .0, o .0, v .0), omega arith))))))
 
-      stmt-fields : (read : t.Children) (g : ℕ) → Read-children read g → g ≤ most → (fault : ℕ) (k : t.StmtMark) → T (t.may-open k g) → (s : Span) → Narrow s → (start at : ℕ) → at ≡ start + 10 →
+      stmt-fields : (read : t.Children) (g : ℕ) → Read-children read g → g ≤ most → (fault : ℕ) (k : t.StmtMark) → T (t.may-open k g) →
+          (s : Span) → Narrow s → (start at : ℕ) → at ≡ start + 10 →
           At (t.stmt-fields tree names read (TreeForm fault) k s) at (Stmt-at start g)
       unfolding t.stmt-fields t.block-fields t.class-fields t.expression-fields t.if-fields t.for-fields t.print-fields t.return-fields t.var-stmt-fields t.while-fields t.may-open
       stmt-fields read g h b fault t.SB y s l start at e =
@@ -291,7 +311,8 @@ module _ (most : ℕ) where
           first (read-methods count g (h .one-method) m) (λ ms u v. return (StmtClass s n sup ms) ((l, p .0, w .0, v .0), omega arith))))))
       stmt-fields read g h b fault t.SE y s l start at e = first (h .expr at) (λ v i p. return (StmtExpr s v) ((l, p .0), omega arith))
       stmt-fields read g h b fault t.SF y s l start at e =
-          first (fun-fields (read .inner) (g - 1) (h .inner) fault at) (λ f i p. return (StmtFun s f) ((l, (g - 1), (omega (arith, ltb→lt 0 g y), b), p .0), omega arith))
+          first (fun-fields (read .inner) (g - 1) (h .inner) fault at)
+          (λ f i p. return (StmtFun s f) ((l, (g - 1), (omega (arith, ltb→lt 0 g y), b), p .0), omega arith))
       stmt-fields read g h b fault t.SI y s l start at e =
           first (flag fault at) (λ has i p.
           first (h .expr i) (λ v j q.
@@ -307,7 +328,9 @@ module _ (most : ℕ) where
           return (StmtFor s a b z d) ((l, q .0, o .0, w .0, v .0), omega arith)))))))
       stmt-fields read g h b fault t.SP y s l start at e = first (h .expr at) (λ v i p. return (StmtPrint s v) ((l, p .0), omega arith))
       stmt-fields read g h b fault t.SR y s l start at e =
-          first (flag fault at) (λ has i p. first (maybe has (Of-expr (fitting most)) expr-size (h .expr) i) (λ v j q. return (StmtReturn s v) ((l, q .0), omega arith)))
+          first (flag fault at)
+          (λ has i p. first (maybe has (Of-expr (fitting most)) expr-size (h .expr) i)
+          (λ v j q. return (StmtReturn s v) ((l, q .0), omega arith)))
       stmt-fields read g h b fault t.SV y s l start at e =
           first (name fault at) (λ n i p.
           first (flag fault i) (λ has j q.
@@ -367,7 +390,8 @@ module _ (most : ℕ) where
     read-names zero last at = return tt (omega arith)
     read-names (suc count) last at = first (read-name last at) (λ text i p. so (read-names count (some text) i) (λ _ j q. omega arith))
 
-    read-file : (depth funs : ℕ) → funs ≤ most → (at : ℕ) → At (t.read-file tree depth funs) at (λ (ts : Stmts) next. Of-stmts (fitting most) ts funs × (at + 6 + stmts-size ts ≤ length tree))
+    read-file : (depth funs : ℕ) → funs ≤ most → (at : ℕ) →
+        At (t.read-file tree depth funs) at (λ (ts : Stmts) next. Of-stmts (fitting most) ts funs × (at + 6 + stmts-size ts ≤ length tree))
     unfolding t.read-file
     read-file depth funs b at =
         next (mark-is 0 0x5452 at) (λ _ i p.
@@ -384,11 +408,14 @@ pub record Fitting (tree : List ℕ) (funs : ℕ) (ts : Stmts) : Type 0 where
   pub parts : Of-stmts (fitting funs) ts funs
   pub size : 6 + stmts-size ts ≤ length tree
 
-pub tree-fits : (tree : List ℕ) → Bytes tree → (depth funs : ℕ) (ts : Stmts) (next : ℕ) → t.read-tree tree depth funs ≡ got ts next → Fitting tree funs ts
+pub tree-fits : (tree : List ℕ) → Bytes tree → (depth funs : ℕ) (ts : Stmts) (next : ℕ) → t.read-tree tree depth funs ≡ got ts next →
+    Fitting tree funs ts
 unfolding t.read-tree
-tree-fits tree bytes depth funs ts next e = by-outcome (t.read-file tree depth funs 0) e ((read-file funs tree bytes depth funs (omega arith) 0) .run)
+tree-fits tree bytes depth funs ts next e =
+    by-outcome (t.read-file tree depth funs 0) e ((read-file funs tree bytes depth funs (omega arith) 0) .run)
   where
-    by-outcome : (o : Read Stmts) → o ≡ got ts next → Given (λ (ts : Stmts) next. Of-stmts (fitting funs) ts funs × (0 + 6 + stmts-size ts ≤ length tree)) o → Fitting tree funs ts
+    by-outcome : (o : Read Stmts) → o ≡ got ts next →
+        Given (λ (ts : Stmts) next. Of-stmts (fitting funs) ts funs × (0 + 6 + stmts-size ts ≤ length tree)) o → Fitting tree funs ts
     by-outcome (got us i) e h =
         let z : us ≡ ts = cc in
         subst (λ (ts : Stmts). Fitting tree funs ts) z (record { parts = h .0; size = h .1 })
@@ -397,8 +424,10 @@ tree-fits tree bytes depth funs ts next e = by-outcome (t.read-file tree depth f
 -- and what it refuses by is 3, 4 or 5
 pub tree-refuses : (tree : List ℕ) → Bytes tree → (depth funs : ℕ) (fault : Refusal) → t.read-tree tree depth funs ≡ bad fault → Readers fault
 unfolding t.read-tree
-tree-refuses tree bytes depth funs fault e = by-outcome (t.read-file tree depth funs 0) e ((read-file funs tree bytes depth funs (omega arith) 0) .run)
+tree-refuses tree bytes depth funs fault e =
+    by-outcome (t.read-file tree depth funs 0) e ((read-file funs tree bytes depth funs (omega arith) 0) .run)
   where
-    by-outcome : (o : Read Stmts) → o ≡ bad fault → Given (λ (ts : Stmts) next. Of-stmts (fitting funs) ts funs × (0 + 6 + stmts-size ts ≤ length tree)) o → Readers fault
+    by-outcome : (o : Read Stmts) → o ≡ bad fault →
+        Given (λ (ts : Stmts) next. Of-stmts (fitting funs) ts funs × (0 + 6 + stmts-size ts ≤ length tree)) o → Readers fault
     by-outcome (got us i) e h = let z : _≡_ {A = ℕ} 0 1 = cc in absurd (omega arith)
     by-outcome (bad other) e h = let z : other ≡ fault = cc in subst Readers z h

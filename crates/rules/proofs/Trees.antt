@@ -80,6 +80,66 @@ module _ (l : Leaf) where
     Of-methods []ᵐ g = Unit {0}
     Of-methods (method span f methods) g = l .span span × (h : l .level) × l .opens g h × Of-fun f h × Of-methods methods g
 
+-- ## Every tree is one of which nothing is asked
+
+abbrev all-names : (ns : List ℕ) → All (anything .name) ns
+all-names [] = tt
+all-names (n ∷ ns) = (tt, all-names ns)
+
+literals : (k : ExprLiteral) → Of-literal anything k
+literals (LitBool b) = tt
+literals LitNil = tt
+literals (LitNumber bits) = tt
+literals (LitString name) = tt
+
+mutual
+  exprs-any : (es : Exprs) → Of-exprs anything es
+  exprs-any []ᵉ = tt
+  exprs-any (e ∷ᵉ es) = (expr-any e, exprs-any es)
+
+  expr-any : (e : Expr) → Of-expr anything e
+  expr-any (ExprAssign span name value) = (tt, tt, expr-any value)
+  expr-any (ExprCall span callee args) = (tt, expr-any callee, exprs-any args)
+  expr-any (ExprGet span name object) = (tt, tt, expr-any object)
+  expr-any (ExprInfix span op lt rt) = (tt, expr-any lt, expr-any rt)
+  expr-any (Literal span literal) = (tt, literals literal)
+  expr-any (ExprPrefix span op rt) = (tt, expr-any rt)
+  expr-any (ExprSet span name value object) = (tt, tt, expr-any value, expr-any object)
+  expr-any (ExprSuper span name) = (tt, tt)
+  expr-any (ExprVar span name) = (tt, tt)
+
+option-any : (v : Option Expr) → If-some (Of-expr anything) v
+option-any none = tt
+option-any (some e) = expr-any e
+
+super-any : (v : Option Superclass) → If-some (Of-superclass anything) v
+super-any none = tt
+super-any (some e) = record { span = tt; name = tt }
+
+mutual
+  stmt-any : (t : Stmt) → Of-stmt anything t tt
+  stmt-any (StmtBlock span stmts) = (tt, stmts-any stmts)
+  stmt-any (StmtClass span name sup methods) = (tt, tt, super-any sup, methods-any methods)
+  stmt-any (StmtExpr span value) = (tt, expr-any value)
+  stmt-any (StmtFor span init cond body incr) = (tt, stmts-any init, option-any cond, stmt-any body, option-any incr)
+  stmt-any (StmtFun span f) = (tt, tt, tt, fun-any f)
+  stmt-any (StmtIf span cond yes-part no-part) = (tt, expr-any cond, stmt-any yes-part, stmts-any no-part)
+  stmt-any (StmtPrint span value) = (tt, expr-any value)
+  stmt-any (StmtReturn span value) = (tt, option-any value)
+  stmt-any (StmtVar span name value) = (tt, tt, option-any value)
+  stmt-any (StmtWhile span cond body) = (tt, expr-any cond, stmt-any body)
+
+  pub stmts-any : (ts : Stmts) → Of-stmts anything ts tt
+  stmts-any []ˢ = tt
+  stmts-any (t ∷ˢ ts) = (stmt-any t, stmts-any ts)
+
+  fun-any : (f : Fun) → Of-fun anything f tt
+  fun-any (fun name params body) = (tt, all-names params, stmts-any body)
+
+  methods-any : (ms : Methods) → Of-methods anything ms tt
+  methods-any []ᵐ = tt
+  methods-any (method span f methods) = (tt, tt, tt, fun-any f, methods-any methods)
+
 -- ## How many bytes a record has, its children among them
 
 abbrev pub literal-size : ExprLiteral → ℕ

@@ -52,7 +52,8 @@ unfolding push-span
 push-runs [] span n h = (n, tt)
 push-runs (run ∷ []) span n h = by-test (same-span (run .span) span && ltb (run .count) 255)
   where
-    by-test : (b : Bool) → All Small-run (if b then (record { span = run .span; count = run .count + 1 } ∷ []) else (run ∷ record { span = span; count = 1 } ∷ []))
+    by-test : (b : Bool) →
+        All Small-run (if b then (record { span = run .span; count = run .count + 1 } ∷ []) else (run ∷ record { span = span; count = 1 } ∷ []))
     by-test true = (h .0, tt)
     by-test false = (h .0, (n, tt))
 push-runs (run ∷ next ∷ runs) span n h = (h .0, push-runs (next ∷ runs) span n (h .1))
@@ -84,7 +85,8 @@ module _ (limit top : ℕ) where
   Does g h n m = Spends Fit Compilers top g h n m
 
   infixl 10 _>>=_
-  _>>=_ : {A B : Type 0} {g h i n n′ : ℕ} {m : Compile A} {f : A → Compile B} → Does g h n m → ((a : A) → Does h i n′ (f a)) → Does g i (n + n′) (c._>>=_ m f)
+  _>>=_ : {A B : Type 0} {g h i n n′ : ℕ} {m : Compile A} {f : A → Compile B} → Does g h n m → ((a : A) → Does h i n′ (f a)) →
+      Does g i (n + n′) (c._>>=_ m f)
   hm >>= hf = spends.bind Fit Compilers top more hm hf
 
   infixl 10 _>>_
@@ -98,7 +100,8 @@ module _ (limit top : ℕ) where
   -- a change of the current context that leaves it wide
   update : {g : ℕ} (f : CompilerCtx → CompilerCtx) → ((x : CompilerCtx) → Wide-ctx x → Wide-ctx (f x)) → Does g g 0 (c.update-ctx f)
   unfolding c.update-ctx
-  update f h = spends.free Fit Compilers top more (λ s k i. record { ctx = h (s .ctx) (i .ctx); parents = i .parents; functions = i .functions; count = i .count })
+  update f h = spends.free Fit Compilers top more
+      (λ s k i. record { ctx = h (s .ctx) (i .ctx); parents = i .parents; functions = i .functions; count = i .count })
 
   emit-u8 : {g : ℕ} (b : ℕ) (span : Span) → Narrow span → Does g g 0 (c.emit-u8 limit b span)
   unfolding c.emit-u8
@@ -116,7 +119,9 @@ module _ (limit top : ℕ) where
   unfolding Placed write-constant written
   placed name arity ch v o h = found (position (same-constant v) (ch .constants))
     where
-      added : (b : Bool) → Placed name arity (if b then at-place (length (ch .constants)) (record { ops = ch .ops; constants = ch .constants ++ (v ∷ []); spans = ch .spans }) else no-room)
+      added : (b : Bool) →
+          Placed name arity (if b then at-place (length (ch .constants))
+          (record { ops = ch .ops; constants = ch .constants ++ (v ∷ []); spans = ch .spans }) else no-room)
       added true = record { named = h .named; few = h .few; constants = all-end Small-constant (ch .constants) v (h .constants) o; runs = h .runs }
       added false = tt
 
@@ -124,11 +129,13 @@ module _ (limit top : ℕ) where
       found (some place) = h
       found none = added (ltb (length (ch .constants)) 256)
 
-  emit-place : {g : ℕ} (s : Compiler) (k : ℕ) (w : Written) (span : Span) → Narrow span → Fit g k s → k + 0 ≤ top → Placed (s .ctx .name) (s .ctx .arity) w →
+  emit-place : {g : ℕ} (s : Compiler) (k : ℕ) (w : Written) (span : Span) → Narrow span → Fit g k s → k + 0 ≤ top →
+      Placed (s .ctx .name) (s .ctx .arity) w →
       Ends Fit Compilers top g (k + 0) (c.emit-place limit w span s)
   unfolding c.emit-place Placed c._>>_ go-on c.update-ctx c.refuse
   emit-place s k (at-place place ch) span n i l h =
-      (emit-u8 place span n) .run (c.with-ctx s (c.with-chunk (s .ctx) ch)) k l (record { ctx = h; parents = i .parents; functions = i .functions; count = i .count })
+      (emit-u8 place span n) .run (c.with-ctx s (c.with-chunk (s .ctx) ch)) k l
+      (record { ctx = h; parents = i .parents; functions = i .functions; count = i .count })
   emit-place s k no-room span n i l h = tt
 
   emit-constant : {g : ℕ} (v : Constant) (span : Span) → Small-constant v → Narrow span → Does g g 0 (c.emit-constant limit v span)
@@ -136,7 +143,8 @@ module _ (limit top : ℕ) where
   emit-constant v span o n =
       record {
         run =
-            λ s k l i. emit-place s k (write-constant (s .ctx .chunk) v) span n i l (placed (s .ctx .name) (s .ctx .arity) (s .ctx .chunk) v o (i .ctx));
+            λ s k l i. emit-place s k (write-constant (s .ctx .chunk) v) span n i l
+            (placed (s .ctx .name) (s .ctx .arity) (s .ctx .chunk) v o (i .ctx));
       }
 
   -- ## Scopes and names
@@ -174,16 +182,19 @@ module _ (limit top : ℕ) where
   Wide-if nowhere = Unit {0}
   Wide-if (failed r) = Compilers r
 
-  added : (p : Option ℕ) (u : Upvalue) (span : Span) (ctx : CompilerCtx) (parents : List CompilerCtx) → Wide-ctx ctx → All Wide-ctx parents → Wide-if (c.added p u span ctx parents)
+  added : (p : Option ℕ) (u : Upvalue) (span : Span) (ctx : CompilerCtx) (parents : List CompilerCtx) → Wide-ctx ctx → All Wide-ctx parents →
+      Wide-if (c.added p u span ctx parents)
   unfolding c.added
   added (some place) u span ctx parents h hs = (h, hs)
   added none u span ctx parents h hs = room (ltb (length (ctx .upvalues)) 256)
     where
-      room : (b : Bool) → Wide-if (if b then captured (length (ctx .upvalues)) (c.with-upvalues ctx (ctx .upvalues ++ (u ∷ []))) parents else failed (TooManyUpvalues span))
+      room : (b : Bool) → Wide-if
+          (if b then captured (length (ctx .upvalues)) (c.with-upvalues ctx (ctx .upvalues ++ (u ∷ []))) parents else failed (TooManyUpvalues span))
       room true = (h, hs)
       room false = tt
 
-  through : (f : Found) (outer : Resolved) (name : ℕ) (span : Span) (ctx parent : CompilerCtx) (above : List CompilerCtx) → Wide-ctx ctx → Wide-ctx parent → All Wide-ctx above → Wide-if outer →
+  through : (f : Found) (outer : Resolved) (name : ℕ) (span : Span) (ctx parent : CompilerCtx) (above : List CompilerCtx) → Wide-ctx ctx →
+      Wide-ctx parent → All Wide-ctx above → Wide-if outer →
       Wide-if (c.through f outer name span ctx parent above)
   unfolding c.through c.add-upvalue
   through (at-slot slot) outer name span ctx parent above h p ps o =
@@ -193,13 +204,16 @@ module _ (limit top : ℕ) where
   through missing nowhere name span ctx parent above h p ps o = tt
   through missing (failed r) name span ctx parent above h p ps o = o
 
-  resolve-upvalue : (name : ℕ) (span : Span) (ctx : CompilerCtx) (parents : List CompilerCtx) → Wide-ctx ctx → All Wide-ctx parents → Wide-if (c.resolve-upvalue name span ctx parents)
+  resolve-upvalue : (name : ℕ) (span : Span) (ctx : CompilerCtx) (parents : List CompilerCtx) → Wide-ctx ctx → All Wide-ctx parents →
+      Wide-if (c.resolve-upvalue name span ctx parents)
   unfolding c.resolve-upvalue
   resolve-upvalue name span ctx [] h hs = tt
   resolve-upvalue name span ctx (p ∷ ps) h hs =
-      through (c.find-local name (p .locals)) (c.resolve-upvalue name span p ps) name span ctx p ps h (hs .0) (hs .1) (resolve-upvalue name span p ps (hs .0) (hs .1))
+      through (c.find-local name (p .locals)) (c.resolve-upvalue name span p ps) name span ctx p ps h (hs .0) (hs .1)
+      (resolve-upvalue name span p ps (hs .0) (hs .1))
 
-  resolved : {g : ℕ} (f : Found) (outer : Resolved) (name : ℕ) (span : Span) (s : Compiler) (k : ℕ) → Fit g k s → Wide-if outer → Ends Fit Compilers top g k (c.resolved f outer name span s)
+  resolved : {g : ℕ} (f : Found) (outer : Resolved) (name : ℕ) (span : Span) (s : Compiler) (k : ℕ) → Fit g k s → Wide-if outer →
+      Ends Fit Compilers top g k (c.resolved f outer name span s)
   unfolding c.resolved c._>>_ go-on c.put-ctxs c.return c.refuse
   resolved (at-slot slot) outer name span s k i o = i
   resolved uninitialized outer name span s k i o = tt
@@ -216,7 +230,8 @@ module _ (limit top : ℕ) where
 
   -- ## Functions
 
-  begin-ctx : {g h : ℕ} (name arity depth : ℕ) (type : FunctionType) → name < 65_536 → arity ≤ 255 → Does g h 0 (c.begin-ctx (c.new-ctx name arity type depth))
+  begin-ctx : {g h : ℕ} (name arity depth : ℕ) (type : FunctionType) → name < 65_536 → arity ≤ 255 →
+      Does g h 0 (c.begin-ctx (c.new-ctx name arity type depth))
   unfolding c.begin-ctx
   begin-ctx name arity depth type n a =
       spends.free Fit Compilers top more
@@ -227,7 +242,8 @@ module _ (limit top : ℕ) where
         count = i .count;
       })
 
-  back-to : {g : ℕ} (h : ℕ) (s : Compiler) (k : ℕ) (ps : List CompilerCtx) → Fit g k s → All Wide-ctx ps → Ends Fit Compilers top h (k + 1) (c.back-to ps s)
+  back-to : {g : ℕ} (h : ℕ) (s : Compiler) (k : ℕ) (ps : List CompilerCtx) → Fit g k s → All Wide-ctx ps →
+      Ends Fit Compilers top h (k + 1) (c.back-to ps s)
   unfolding c.back-to c.finish
   back-to h s k [] i hs = record { ctx = i .ctx; parents = i .parents; functions = i .functions; count = omega (arith, i .count) }
   back-to h s k (p ∷ ps) i hs =
@@ -295,8 +311,10 @@ module _ (limit top : ℕ) where
         declare-local = λ name span. costs 1 (declare-local name span);
         define-local = update _ (λ x h. h);
         begin-scope = update _ (λ x h. h);
-        push-class-ctx = λ b. spends.free Fit Compilers top more (λ s k i. record { ctx = i .ctx; parents = i .parents; functions = i .functions; count = i .count });
-        pop-class-ctx = spends.free Fit Compilers top more (λ s k i. record { ctx = i .ctx; parents = i .parents; functions = i .functions; count = i .count });
+        push-class-ctx = λ b. spends.free Fit Compilers top more
+            (λ s k i. record { ctx = i .ctx; parents = i .parents; functions = i .functions; count = i .count });
+        pop-class-ctx =
+            spends.free Fit Compilers top more (λ s k i. record { ctx = i .ctx; parents = i .parents; functions = i .functions; count = i .count });
         begin-ctx = λ name arity depth type up n a. begin-ctx name arity depth type n a;
         emit-u8 = λ b span n. costs 1 (emit-u8 b span n);
         emit-constant = λ v span o n. costs 1 (emit-constant v span (constant-small most v o) n);
@@ -318,8 +336,15 @@ module _ (limit funs : ℕ) (stmts : Stmts) (o : Of-stmts (fitting funs) stmts f
   compiled : Ends Fit Compilers top funs (0 + top) (c.compile-script limit stmts c.new)
   unfolding top
   compiled =
-      (steps.compile-script (fitting funs) limit limit (λ A g h n m m′. Does limit top {A = A} g h n m) (laws limit top funs) stmts funs o) .run c.new 0 (omega arith)
-      (record { ctx = record { named = omega arith; few = omega arith; constants = tt; runs = tt }; parents = tt; functions = tt; count = omega arith })
+      (steps.compile-script (fitting funs) limit limit (λ A g h n m m′. Does limit top {A = A} g h n m)
+      (laws limit top funs) stmts funs o) .run c.new 0 (omega arith)
+      (record {
+        ctx =
+            record { named = omega arith; few = omega arith; constants = tt; runs = tt };
+        parents = tt;
+        functions = tt;
+        count = omega arith;
+      })
 
   pub widths : After (λ fs _. Widths (stmts-size stmts) fs) (c.compile-functions limit stmts)
   unfolding c.compile-functions c._>>_ c.the c.finish go-on top
