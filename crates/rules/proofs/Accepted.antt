@@ -1,17 +1,15 @@
 -- What the compiler writes, the image checker accepts, as a law about bytes: for every tree file and all lent sizes, if the compiler accepts, the
 -- checker answers 0 for the image's bytes, with the number of instructions in the division of all its code.
-use mathlib.Core.Path.{_≡_, refl, ap, subst, subst⁻¹}
-use mathlib.Core.Bool.{Bool, true, false, _&&_}
-use mathlib.Core.Option.{Option, none, some}
+use mathlib.Core.Path.{_≡_, refl, subst}
+use mathlib.Core.Bool.{Bool, true, false}
+use mathlib.Core.Option.{none, some}
 use mathlib.Core.List.{List, [], _∷_, _++_}
-use Prim.Native.Nat.{ℕ, suc, _+_, _-_, _*_, _≤_, _<_, min}
+use Prim.Native.Nat.{ℕ, _+_, _-_, _≤_, _<_}
 use native.Mathlib.Omega.{arith}
 use lib.ListN.{length, replicate}
-use lib.Dec.{T, ltb, leb, ltb→lt, leb→le}
+use lib.Dec.{T, leb, ltb→lt, leb→le}
 use Rattle.rules.specs.Base.{if_then_else_, all}
 use Rattle.rules.specs.Limits.{Limits, first-limits, max-tree, max-code}
-use Rattle.rules.specs.declared.Answer.{Answer}
-use Rattle.rules.specs.declared.Refusal.{Refusal}
 use Rattle.rules.specs.declared.Refusal.the-variants as refusal
 use Rattle.rules.specs.Answer as answer
 use Rattle.rules.specs.Answer.{accepted}
@@ -32,10 +30,10 @@ use Rattle.rules.proofs.Facts.{All, all-map, Bytes}
 use Rattle.rules.proofs.Runs.{Counts, Counted, counted}
 use Rattle.rules.proofs.CodeBytes.{AllSound, Sound}
 use Rattle.rules.proofs.Checks.{from-ok, from-lent, lent-checked, lent-sound, refusal-number}
-use Rattle.rules.proofs.ReadBack.{Narrow, Fits-run, Fits-constant, Fits-form, Fits-image, read-back}
-use Rattle.rules.proofs.Trees.{Of-stmts, stmts-size}
+use Rattle.rules.proofs.ReadBack.{Fits-run, Fits-constant, Fits-form, Fits-image, read-back}
+use Rattle.rules.proofs.Trees.{stmts-size}
 use Rattle.rules.proofs.TreeBytes.{Fitting, tree-fits}
-use Rattle.rules.proofs.Widths.{Small-constant, Small-run, Wide, Wide-function, Widths, widths}
+use Rattle.rules.proofs.Widths.{Small-constant, Small-run, Wide-function, Widths, widths}
 
 -- ## An accepted tree, taken apart
 

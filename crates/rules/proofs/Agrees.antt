@@ -1,8 +1,8 @@
 -- More code room changes no answer but 30: under a larger code limit the compiler comes to the same, unless it met the smaller one.
 use mathlib.Core.Path.{_≡_, refl, subst⁻¹}
 use mathlib.Core.Bool.{Bool, true, false}
-use mathlib.Core.List.{List, [], _∷_, _++_}
-use Prim.Native.Nat.{ℕ, _+_, _≤_, _<_}
+use mathlib.Core.List.{List, [], _∷_}
+use Prim.Native.Nat.{ℕ, _≤_}
 use native.Mathlib.Omega.{arith}
 use lib.Dec.{T, ltb, ltb→lt, lt→ltb}
 use Rattle.rules.specs.Base.{if_then_else_}
@@ -10,7 +10,7 @@ use Rattle.rules.specs.declared.Span.{Span}
 use Rattle.rules.specs.declared.Refusal.{Refusal}
 use Rattle.rules.specs.declared.Refusal.the-variants.{CodeFull}
 use Rattle.rules.specs.Tree.{Stmts}
-use Rattle.rules.specs.Chunk.{Constant, CF, Written, at-place, no-room, write-u8, write-constant, ObjectFunction}
+use Rattle.rules.specs.Chunk.{Constant, CF, Written, at-place, no-room, write-constant}
 use Rattle.rules.specs.Compiler as c
 use Rattle.rules.specs.Compiler.{Compiler, Compile, Outcome, ok, err, go-on, Upvalue, Local}
 use Rattle.rules.proofs.Steps as steps

@@ -1,30 +1,27 @@
 -- What a server can rely on, by the tree file's length `n`: an image is at most 132 n bytes, its code at most 6 n, and so which rooms suffice.
-use mathlib.Core.Path.{_≡_, refl, sym, ap, _∙_, subst, subst⁻¹}
+use mathlib.Core.Path.{_≡_, refl, sym, ap, _∙_, subst}
 use mathlib.Core.Logic.{_≢_}
-use mathlib.Core.Bool.{Bool, true, false}
-use mathlib.Core.List.{List, [], _∷_, _++_}
-use Prim.Native.Nat.{ℕ, zero, suc, _+_, _-_, _*_, _/_, _%_, _≤_, _<_, min}
+use mathlib.Core.List.{List, [], _∷_}
+use Prim.Native.Nat.{ℕ, zero, suc, _+_, _-_, _*_, _/_, _%_, _≤_}
 use native.Mathlib.Omega.{arith}
 use native.Mathlib.Nat.{mul-suc}
 use lib.ListN.{length, length-append, length-set}
 use Rattle.rules.specs.Base.{le}
-use Rattle.rules.specs.Limits.{Limits, first-limits, max-tree, max-code}
+use Rattle.rules.specs.Limits.{Limits, max-code}
 use Rattle.rules.specs.declared.Span.{Span}
-use Rattle.rules.specs.declared.Answer.{Answer}
-use Rattle.rules.specs.declared.Refusal.{Refusal}
 use Rattle.rules.specs.Tree.{Stmts}
 use Rattle.rules.specs.Op as op
-use Rattle.rules.specs.Chunk.{Chunk, Constant, CN, CS, CF, Run, total, write-u8, ObjectFunction}
+use Rattle.rules.specs.Chunk.{Chunk, Constant, CN, CS, CF, Run, write-u8, ObjectFunction}
 use Rattle.rules.specs.Compiler as c
 use Rattle.rules.specs.Compiler.{Compiler, Outcome, ok, err}
 use Rattle.rules.specs.Image as image
 use Rattle.rules.specs.Image.{image-bytes}
-use Rattle.rules.specs.Entry.{Lent, code-limit, functions-are, compile-lent, compile-within, compile}
+use Rattle.rules.specs.Entry.{Lent, code-limit, functions-are, compile-lent, compile-within}
 use Rattle.rules.proofs.Keeps.{After}
 use Rattle.rules.proofs.Layer as layer
-use Rattle.rules.proofs.Facts.{Fact, All, Bytes, ChunkLaws, Grown, as-before, one-more, write-all, with-constants, with-ops, jump-bytes, loop-bytes}
+use Rattle.rules.proofs.Facts.{All, Bytes, ChunkLaws, Grown, as-before, one-more, write-all, with-constants}
 use Rattle.rules.proofs.Coded.{write-constants}
-use Rattle.rules.proofs.Runs.{Counts, Counted, counted}
+use Rattle.rules.proofs.Runs.{Counted, counted}
 use Rattle.rules.proofs.Checks.{from-ok, from-lent}
 use Rattle.rules.proofs.Accepted.{From, from-tree, few-runs}
 use Rattle.rules.proofs.Agrees as agreeing
@@ -32,8 +29,8 @@ use Rattle.rules.proofs.Agrees.{Under, agrees}
 use Rattle.rules.proofs.Trees.{Of-stmts, stmts-size}
 use Rattle.rules.proofs.TreeBytes.{Fitting, tree-fits, fitting}
 use Rattle.rules.proofs.Sizes.{Within, within, finished}
-use Rattle.rules.proofs.CodeNeed.{code-needed, needed-most}
-use Rattle.rules.proofs.Exactly.{Was-read, Was-compiled, work-short-exactly, code-full-exactly, out-full-only, compiled-functions}
+use Rattle.rules.proofs.CodeNeed.{needed-most}
+use Rattle.rules.proofs.Exactly.{work-short-exactly, code-full-exactly, out-full-only, compiled-functions}
 
 -- ## No function has more constants than bytes of code
 

@@ -1,8 +1,8 @@
 -- The least code limit that suffices for a tree, `code-needed`: 30 comes back exactly under a smaller one, and it is at most six for each byte of the
 -- tree's records. So a code area of six bytes for each byte of the tree file, and a span area of eighteen words for each, are room enough.
-use mathlib.Core.Path.{_≡_, refl, sym, ap, _∙_, subst, subst⁻¹}
+use mathlib.Core.Path.{_≡_, refl, ap, subst}
 use mathlib.Core.Bool.{Bool, true, false, not}
-use mathlib.Core.List.{List, [], _∷_}
+use mathlib.Core.List.{List}
 use Prim.Native.Nat.{ℕ, zero, suc, _+_, _*_, _≤_, _<_}
 use native.Mathlib.Omega.{arith}
 use lib.Dec.{T, ltb, eqb, eqb→eq, ltb→lt, lt→ltb, nltb→le}

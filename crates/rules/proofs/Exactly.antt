@@ -1,15 +1,15 @@
 -- "Given exactly when": how each answer of the compiler comes about, for every tree file of bytes and all lent sizes, and that no other way leads to
 -- its number. The order of the ways is the order of the answers: 1, 2, then 3, 4, 5, then 10 to 30, then 31.
-use mathlib.Core.Path.{_≡_, refl, sym, ap, _∙_, subst, subst⁻¹}
+use mathlib.Core.Path.{_≡_, refl, ap, _∙_}
 use mathlib.Core.Logic.{_↔_, _≢_}
 use mathlib.Core.Bool.{Bool, true, false}
-use mathlib.Core.List.{List, [], _∷_, _++_}
-use Prim.Native.Nat.{ℕ, suc, _+_, _-_, _*_, _≤_, _<_}
+use mathlib.Core.List.{List, _++_}
+use Prim.Native.Nat.{ℕ, _-_, _*_, _≤_, _<_}
 use native.Mathlib.Omega.{arith}
 use lib.ListN.{length, replicate}
 use lib.Dec.{T, leb, leb→le, le→leb, nleb→lt}
 use Rattle.rules.specs.Base.{if_then_else_}
-use Rattle.rules.specs.Limits.{Limits, first-limits, max-tree}
+use Rattle.rules.specs.Limits.{Limits, max-tree}
 use Rattle.rules.specs.declared.Answer.{Answer}
 use Rattle.rules.specs.declared.Refusal.{Refusal}
 use Rattle.rules.specs.declared.Refusal.the-variants.{WorkShort, TreeTooLong, CodeFull, OutFull}
@@ -22,9 +22,9 @@ use Rattle.rules.specs.Compiler as c
 use Rattle.rules.specs.Compiler.{Compiler, Outcome, ok, err}
 use Rattle.rules.specs.Image.{image-bytes}
 use Rattle.rules.specs.Entry as entry
-use Rattle.rules.specs.Entry.{Lent, Left, code-limit, Compiled, functions-are, refused, compile-tree, compile-lent, compile-within, compile}
+use Rattle.rules.specs.Entry.{Lent, Left, code-limit, Compiled, functions-are, refused, compile-tree, compile-lent, compile-within}
 use Rattle.rules.proofs.Facts.{Bytes}
-use Rattle.rules.proofs.Refusals.{Readers, Rusts, Compiled-by, a-rule, the-limit, compiled-by, number-of, readers-number, rusts-number}
+use Rattle.rules.proofs.Refusals.{Readers, Rusts, Compiled-by, a-rule, the-limit, compiled-by, readers-number, rusts-number}
 use Rattle.rules.proofs.TreeBytes.{Fitting, tree-fits, tree-refuses}
 use Rattle.rules.proofs.Widths.{refuses}
 use Rattle.rules.proofs.CodeNeed.{code-needed, full-below, full-only}

@@ -5,7 +5,6 @@ use Prim.Native.Nat.{ℕ, _≤_}
 use native.Mathlib.Omega.{arith}
 use Rattle.rules.specs.declared.Refusal.{Refusal}
 use Rattle.rules.specs.declared.Refusal.the-variants as refusal
-use Rattle.rules.specs.declared.Answer.{Answer}
 use Rattle.rules.specs.Answer as answer
 
 -- 3, 4 and 5

@@ -1,25 +1,23 @@
 -- Memory: if one room gives an answer other than 1, 30 and 31, every room at least as large in each size gives the same answer and the same image, and
 -- the output is longer only by zeros. For all limits, trees and lent sizes.
-use mathlib.Core.Path.{_≡_, refl, sym, ap, _∙_, subst, subst⁻¹}
+use mathlib.Core.Path.{_≡_, refl, sym, ap, subst}
 use mathlib.Core.Logic.{_≢_}
 use mathlib.Core.Bool.{Bool, true, false}
-use mathlib.Core.List.{List, [], _∷_, _++_, append-assoc}
-use Prim.Native.Nat.{ℕ, _+_, _-_, _*_, _/_, _≤_, _<_, min}
+use mathlib.Core.List.{List, _++_, append-assoc}
+use Prim.Native.Nat.{ℕ, _+_, _-_, _*_, _≤_}
 use native.Mathlib.Omega.{arith}
 use lib.ListN.{length, replicate, replicate-append-replicate}
 use lib.Dec.{T, leb, leb→le, le→leb}
 use Rattle.rules.specs.Base.{if_then_else_}
-use Rattle.rules.specs.Limits.{Limits, first-limits, max-tree, max-code}
+use Rattle.rules.specs.Limits.{Limits, first-limits, max-tree}
 use Rattle.rules.specs.declared.Answer.{Answer}
-use Rattle.rules.specs.declared.Refusal.{Refusal}
 use Rattle.rules.specs.declared.Refusal.the-variants.{WorkShort, TreeTooLong, CodeFull, OutFull}
 use Rattle.rules.specs.Answer.{refusal, accepted}
 use Rattle.rules.specs.Tree.{Stmts}
 use Rattle.rules.specs.Reader.{Read, got, bad}
 use Rattle.rules.specs.TreeFile.{read-tree}
 use Rattle.rules.specs.Chunk.{ObjectFunction}
-use Rattle.rules.specs.Compiler as c
-use Rattle.rules.specs.Compiler.{Outcome, ok, err}
+use Rattle.rules.specs.Compiler.{Outcome}
 use Rattle.rules.specs.Image.{image-bytes}
 use Rattle.rules.specs.Entry as entry
 use Rattle.rules.specs.Entry.{Lent, Left, code-limit, Compiled, functions-are, refused, compile-tree, compile-lent, compile-within, compile}

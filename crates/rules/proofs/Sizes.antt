@@ -1,20 +1,19 @@
 -- How much room suffices: all the code of an image, and so what the open functions have at any time, is at most six bytes for each byte of the tree
 -- file. So a code limit of that much is never met.
-use mathlib.Core.Path.{_≡_, refl, sym, ap, _∙_, subst, subst⁻¹}
+use mathlib.Core.Path.{_≡_, refl, ap, subst⁻¹}
 use mathlib.Core.Bool.{Bool, true, false}
 use mathlib.Core.Option.{Option, none, some}
 use mathlib.Core.List.{List, [], _∷_, _++_}
 use Prim.Native.Nat.{ℕ, suc, _+_, _-_, _*_, _≤_, _<_}
 use native.Mathlib.Omega.{arith}
 use lib.ListN.{length, length-append, length-set}
-use lib.Dec.{T, ltb, leb, lt→ltb}
+use lib.Dec.{T, ltb, lt→ltb}
 use Rattle.rules.specs.Base.{if_then_else_, position}
 use Rattle.rules.specs.declared.Span.{Span}
-use Rattle.rules.specs.declared.Refusal.{Refusal}
 use Rattle.rules.specs.declared.Refusal.the-variants.{TooManyUpvalues, CodeFull}
 use Rattle.rules.specs.Tree.{Stmts}
 use Rattle.rules.specs.Op as op
-use Rattle.rules.specs.Chunk.{Chunk, Constant, CF, write-u8, Written, at-place, no-room, write-constant, written, same-constant, ObjectFunction}
+use Rattle.rules.specs.Chunk.{Chunk, Constant, write-u8, Written, at-place, no-room, write-constant, written, same-constant, ObjectFunction}
 use Rattle.rules.specs.Compiler as c
 use Rattle.rules.specs.Compiler.{Compiler, CompilerCtx, Compile, Outcome, ok, err, go-on, Found, at-slot, uninitialized, missing, Resolved, captured, nowhere, failed, Upvalue, Local, FunctionType}
 use Rattle.rules.proofs.Facts.{capture-length, initialize-length}

@@ -2,7 +2,6 @@
 -- enough left below `top`, a step comes to `J` with its cost added, or refuses in an allowed way. The steps of `Steps` that only put others together
 -- have this for every `J`; what is left to show of one `J` are the steps that change the state.
 use mathlib.Core.Bool.{Bool, true, false}
-use mathlib.Core.Path.{_≡_, refl}
 use Prim.Native.Nat.{ℕ, _+_, _≤_}
 use native.Mathlib.Omega.{arith}
 use lib.Dec.{T}

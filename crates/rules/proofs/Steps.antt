@@ -2,7 +2,6 @@
 -- another, where `from` and `to` are levels of nested functions and `cost` counts bytes of code that the step may come to cost. From a law for each
 -- small step, the law for every expression and statement whose leaves are as asked: at most six for each byte of its record.
 -- Which jumps wait is not followed here: that is what `Keeps` does.
-use mathlib.Core.Path.{_≡_, refl}
 use mathlib.Core.Bool.{Bool, true, false}
 use mathlib.Core.Option.{Option, none, some}
 use mathlib.Core.List.{List, [], _∷_}
@@ -15,7 +14,7 @@ use Rattle.rules.specs.declared.Span.{Span}
 use Rattle.rules.specs.declared.Refusal.{Refusal}
 use Rattle.rules.specs.Answer.{NO-SPAN}
 use Rattle.rules.specs.Tree.{this, super}
-use Rattle.rules.specs.Tree.{Expr, Exprs, ExprAssign, ExprCall, ExprGet, ExprInfix, Literal, ExprPrefix, ExprSet, ExprSuper, ExprVar, []ᵉ, _∷ᵉ_, count-exprs}
+use Rattle.rules.specs.Tree.{Expr, Exprs, ExprAssign, ExprCall, ExprGet, ExprInfix, Literal, ExprPrefix, ExprSet, ExprSuper, ExprVar, []ᵉ, _∷ᵉ_}
 use Rattle.rules.specs.Tree.{OpInfix, Add, Subtract, Multiply, Divide, Less, LessEqual, Greater, GreaterEqual, Equal, NotEqual, LogicAnd, LogicOr}
 use Rattle.rules.specs.Tree.{ExprLiteral, LitBool, LitNil, LitNumber, LitString, Superclass}
 use Rattle.rules.specs.Tree.{Stmt, Stmts, StmtBlock, StmtClass, StmtExpr, StmtFor, StmtFun, StmtIf, StmtPrint, StmtReturn, StmtVar, StmtWhile, []ˢ, _∷ˢ_}
@@ -24,10 +23,9 @@ use Rattle.rules.specs.Op as op
 use Rattle.rules.specs.Chunk.{Constant, CN, CS, CF}
 use Rattle.rules.specs.Compiler as c
 use Rattle.rules.specs.Compiler.{Compiler, Compile, FunctionType, Script, Function, Method, Initializer}
-use Rattle.rules.proofs.Facts.{All}
 use Rattle.rules.proofs.Refusals.{Rusts}
 use Rattle.rules.proofs.Trees.{Leaf, If-some, Of-literal, Of-expr, Of-exprs, Of-superclass, Of-stmt, Of-stmts, Of-fun, Of-methods}
-use Rattle.rules.proofs.Trees.{literal-size, option-size, expr-size, exprs-size, stmt-size, stmts-size, fun-size, methods-size}
+use Rattle.rules.proofs.Trees.{option-size, expr-size, exprs-size, stmt-size, stmts-size, fun-size, methods-size}
 
 -- what is asked of a number or a string
 abbrev pub Of-constant : Leaf → Constant → Type 0

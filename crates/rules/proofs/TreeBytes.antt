@@ -12,14 +12,14 @@ use Rattle.rules.specs.Base.{if_then_else_, all, lookup}
 use Rattle.rules.specs.Limits.{max-names, max-bits}
 use Rattle.rules.specs.declared.Span.{Span}
 use Rattle.rules.specs.declared.Refusal.{Refusal}
-use Rattle.rules.specs.declared.Refusal.the-variants.{TreeForm, TreeTooDeep, TooManyOpen}
+use Rattle.rules.specs.declared.Refusal.the-variants.{TreeForm, TooManyOpen}
 use Rattle.rules.specs.Reader as r
 use Rattle.rules.specs.Reader.{Read, Reader, got, bad}
 use Rattle.rules.specs.TreeFile as t
-use Rattle.rules.specs.Tree.{Expr, Exprs, ExprAssign, ExprCall, ExprGet, ExprInfix, Literal, ExprPrefix, ExprSet, ExprSuper, ExprVar, []ᵉ, _∷ᵉ_}
-use Rattle.rules.specs.Tree.{ExprLiteral, LitBool, LitNil, LitNumber, LitString, Superclass}
+use Rattle.rules.specs.Tree.{Expr, ExprAssign, ExprCall, ExprGet, ExprInfix, Literal, ExprPrefix, ExprSet, ExprSuper, ExprVar, []ᵉ, _∷ᵉ_}
+use Rattle.rules.specs.Tree.{ExprLiteral, LitNumber, LitString}
 use Rattle.rules.specs.Tree.{Stmt, Stmts, StmtBlock, StmtClass, StmtExpr, StmtFor, StmtFun, StmtIf, StmtPrint, StmtReturn, StmtVar, StmtWhile, []ˢ, _∷ˢ_}
-use Rattle.rules.specs.Tree.{Fun, fun, Methods, []ᵐ, method}
+use Rattle.rules.specs.Tree.{Fun, fun, []ᵐ, method}
 use Rattle.rules.proofs.Facts.{All, Bytes}
 use Rattle.rules.proofs.ReadBack.{Narrow}
 use Rattle.rules.proofs.Refusals.{Readers}

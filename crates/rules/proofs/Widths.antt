@@ -1,21 +1,19 @@
 -- What the compiler puts into an image from a tree file's bytes fits the image's fields: names, spans and numbers are the tree's own, a function has
 -- at most 255 parameters, and there are no more functions than the tree has room for.
-use mathlib.Core.Path.{_≡_, refl, subst, subst⁻¹}
+use mathlib.Core.Path.{_≡_, subst}
 use mathlib.Core.Bool.{Bool, true, false, _&&_}
 use mathlib.Core.Option.{Option, none, some}
 use mathlib.Core.List.{List, [], _∷_, _++_}
-use Prim.Native.Nat.{ℕ, suc, _+_, _*_, _≤_, _<_}
+use Prim.Native.Nat.{ℕ, _+_, _*_, _≤_, _<_}
 use native.Mathlib.Omega.{arith}
 use lib.ListN.{length, length-append}
-use lib.Dec.{T, ltb, leb}
+use lib.Dec.{ltb}
 use Rattle.rules.specs.Base.{if_then_else_, position}
 use Rattle.rules.specs.Limits.{max-bits}
 use Rattle.rules.specs.declared.Span.{Span}
 use Rattle.rules.specs.declared.Refusal.{Refusal}
 use Rattle.rules.specs.declared.Refusal.the-variants.{TooManyUpvalues}
-use Rattle.rules.specs.Answer.{NO-SPAN}
 use Rattle.rules.specs.Tree.{Stmts}
-use Rattle.rules.specs.Op as op
 use Rattle.rules.specs.Chunk.{Chunk, Constant, CN, CS, CF, Run, push-span, same-span, write-u8, Written, at-place, no-room, write-constant, written, same-constant, ObjectFunction}
 use Rattle.rules.specs.Compiler as c
 use Rattle.rules.specs.Compiler.{Compiler, CompilerCtx, Compile, Outcome, ok, err, go-on, Found, at-slot, uninitialized, missing, Resolved, captured, nowhere, failed, Upvalue, Local, FunctionType}
