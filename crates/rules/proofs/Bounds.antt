@@ -7,7 +7,7 @@ use native.Mathlib.Omega.{arith}
 use native.Mathlib.Nat.{mul-suc}
 use lib.ListN.{length, length-append, length-set}
 use Rattle.rules.specs.Base.{le}
-use Rattle.rules.specs.Limits.{Limits, max-code}
+use Rattle.rules.specs.Limits.{Limits, first-limits, max-code}
 use Rattle.rules.specs.declared.Span.{Span}
 use Rattle.rules.specs.Tree.{Stmts}
 use Rattle.rules.specs.Op as op
@@ -16,7 +16,7 @@ use Rattle.rules.specs.Compiler as c
 use Rattle.rules.specs.Compiler.{Compiler, Outcome, ok, err}
 use Rattle.rules.specs.Image as image
 use Rattle.rules.specs.Image.{image-bytes}
-use Rattle.rules.specs.Entry.{Lent, code-limit, functions-are, compile-lent, compile-within}
+use Rattle.rules.specs.Entry.{Lent, code-limit, functions-are, compile-lent, compile-within, compile}
 use Rattle.rules.proofs.Keeps.{After}
 use Rattle.rules.proofs.Layer as layer
 use Rattle.rules.proofs.Facts.{All, Bytes, ChunkLaws, Grown, as-before, one-more, write-all, with-constants}
@@ -209,3 +209,44 @@ module _ (limits : Limits) (nested : limits .funs ≤ 16) (tree : List ℕ) (byt
   ample-31 a e =
       let (fs, w, l) = out-full-only limits tree bytes lent e in
       omega (arith, l, a .output-bytes, bounded fs (compiled-functions limits tree lent fs w) .image)
+
+-- ## Rooms for the published limits
+
+-- a tree file of at most 43,690 bytes needs no more than this
+pub room-that-suffices : (tree : List ℕ) → Bytes tree → (lent : Lent) → 17_410 ≤ lent .table-words → 6 * length tree ≤ lent .code-bytes →
+    18 * length tree ≤ lent .span-words → 132 * length tree ≤ lent .output-bytes → 6 * length tree ≤ max-code →
+    (compile tree lent .answer .number ≢ 1) × (compile tree lent .answer .number ≢ 30) × (compile tree lent .answer .number ≢ 31)
+room-that-suffices tree bytes lent t c s o l =
+    (ample-1 first-limits (omega arith) tree bytes lent a, ample-30 first-limits (omega arith) tree bytes lent a, ample-31 first-limits (omega arith) tree bytes lent a)
+  where
+    a : Ample first-limits (omega arith) tree bytes lent
+    a = record { table-words = omega arith; code-bytes = c; span-words = s; output-bytes = o; largest = l }
+
+-- no room gives more than this one: what it refuses by 30, every room with a table does
+pub record Largest (tree : List ℕ) (lent : Lent) : Type 0 where
+  pub table-words : 17_410 ≤ lent .table-words
+  pub code-bytes : max-code ≤ lent .code-bytes
+  pub span-words : 3 * max-code ≤ lent .span-words
+  pub output-bytes : 132 * length tree ≤ lent .output-bytes
+
+largest-limit : (tree : List ℕ) (lent lent′ : Lent) → Largest tree lent → code-limit lent′ ≤ code-limit lent
+unfolding code-limit
+largest-limit tree lent lent′ l = omega (arith, l .code-bytes, l .span-words)
+
+module _ (tree : List ℕ) (bytes : Bytes tree) (lent : Lent) (largest : Largest tree lent) where
+  pub largest-1 : compile tree lent .answer .number ≢ 1
+  largest-1 e = omega (arith, largest .table-words, work-short-exactly first-limits tree bytes lent .0 e)
+
+  pub largest-31 : compile tree lent .answer .number ≢ 31
+  largest-31 e =
+      let (fs, w, l) = out-full-only first-limits tree bytes lent e in
+      omega (arith, l, largest .output-bytes, bounded first-limits (omega arith) tree bytes lent fs (compiled-functions first-limits tree lent fs w) .image)
+
+  pub largest-30 : compile tree lent .answer .number ≡ 30 → (lent′ : Lent) → 17_410 ≤ lent′ .table-words → compile tree lent′ .answer .number ≡ 30
+  largest-30 e lent′ t =
+      let (stmts, w, l) = code-full-exactly first-limits tree bytes lent (omega arith) .0 e in
+      code-full-exactly first-limits tree bytes lent′ (omega arith) .1 (
+        stmts,
+        record { started = record { table = omega arith; short = w .started .short }; next = w .next; read = w .read },
+        omega (arith, l, largest-limit tree lent lent′ largest),
+      )
