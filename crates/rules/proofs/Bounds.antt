@@ -216,8 +216,12 @@ module _ (limits : Limits) (nested : limits .funs ≤ 16) (tree : List ℕ) (byt
 pub room-that-suffices : (tree : List ℕ) → Bytes tree → (lent : Lent) → 17_410 ≤ lent .table-words → 6 * length tree ≤ lent .code-bytes →
     18 * length tree ≤ lent .span-words → 132 * length tree ≤ lent .output-bytes → 6 * length tree ≤ max-code →
     (compile tree lent .answer .number ≢ 1) × (compile tree lent .answer .number ≢ 30) × (compile tree lent .answer .number ≢ 31)
-room-that-suffices tree bytes lent t c s o l =
-    (ample-1 first-limits (omega arith) tree bytes lent a, ample-30 first-limits (omega arith) tree bytes lent a, ample-31 first-limits (omega arith) tree bytes lent a)
+room-that-suffices tree bytes lent t c s o l = (
+  ample-1 first-limits (omega arith) tree bytes lent a,
+  ample-30 first-limits (omega arith) tree bytes lent a,
+  ample-31 first-limits
+      (omega arith) tree bytes lent a,
+)
   where
     a : Ample first-limits (omega arith) tree bytes lent
     a = record { table-words = omega arith; code-bytes = c; span-words = s; output-bytes = o; largest = l }
@@ -240,7 +244,13 @@ module _ (tree : List ℕ) (bytes : Bytes tree) (lent : Lent) (largest : Largest
   pub largest-31 : compile tree lent .answer .number ≢ 31
   largest-31 e =
       let (fs, w, l) = out-full-only first-limits tree bytes lent e in
-      omega (arith, l, largest .output-bytes, bounded first-limits (omega arith) tree bytes lent fs (compiled-functions first-limits tree lent fs w) .image)
+      omega (
+        arith,
+        l,
+        largest .output-bytes,
+        bounded first-limits (omega arith) tree bytes lent fs
+            (compiled-functions first-limits tree lent fs w) .image,
+      )
 
   pub largest-30 : compile tree lent .answer .number ≡ 30 → (lent′ : Lent) → 17_410 ≤ lent′ .table-words → compile tree lent′ .answer .number ≡ 30
   largest-30 e lent′ t =

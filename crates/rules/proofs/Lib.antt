@@ -25,4 +25,5 @@ pub mod Sizes
 pub mod CodeNeed
 pub mod Exactly
 pub mod Bounds
+pub mod Lookups
 pub mod OneResult
