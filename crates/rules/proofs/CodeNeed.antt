@@ -5,44 +5,21 @@ use mathlib.Core.Bool.{Bool, true, false, not}
 use mathlib.Core.List.{List}
 use Prim.Native.Nat.{ℕ, zero, suc, _+_, _*_, _≤_, _<_}
 use native.Mathlib.Omega.{arith}
-use lib.Dec.{T, ltb, eqb, eqb→eq, ltb→lt, lt→ltb, nltb→le}
+use lib.Dec.{T, ltb, eqb, eqb→eq, ltb→lt, nltb→le}
 use Rattle.rules.specs.Base.{if_then_else_}
-use Rattle.rules.specs.declared.Span.{Span}
 use Rattle.rules.specs.declared.Refusal.{Refusal}
 use Rattle.rules.specs.declared.Refusal.the-variants.{CodeFull}
 use Rattle.rules.specs.Answer as answer
 use Rattle.rules.specs.Tree.{Stmts}
-use Rattle.rules.specs.Chunk.{ObjectFunction, write-u8}
+use Rattle.rules.specs.Chunk.{ObjectFunction}
 use Rattle.rules.specs.Compiler as c
-use Rattle.rules.specs.Compiler.{Compiler, Outcome, ok, err, go-on}
+use Rattle.rules.specs.Compiler.{Outcome, ok, err}
 use Rattle.rules.proofs.Refusals.{Rusts, number-of, rusts-number, number-30}
 use Rattle.rules.proofs.Trees.{Of-stmts, stmts-size}
 use Rattle.rules.proofs.TreeBytes.{fitting}
 use Rattle.rules.proofs.Agrees as agreeing
 use Rattle.rules.proofs.Agrees.{Under, agrees}
 use Rattle.rules.proofs.Sizes.{Within, within}
-
--- ## 30 at one byte: it would take the open functions' code, summed, past the code limit
-
-pub byte-fits : (limit : ℕ) (s : Compiler) (b : ℕ) (span : Span) → c.open-code s + 1 ≤ limit →
-    c.emit-u8 limit b span s ≡ ok tt (c.with-ctx s (c.with-chunk (s .ctx) (write-u8 (s .ctx .chunk) b span)))
-unfolding c.emit-u8 c._>>=_ c._>>_ go-on c.the c.need c.update-ctx
-byte-fits limit s b span l = by-test (ltb (c.open-code s) limit) (lt→ltb (c.open-code s) limit (omega arith))
-  where
-    by-test : (t : Bool) → T t →
-        go-on (c.need t CodeFull s) (λ _. c.update-ctx (λ x. c.with-chunk x (write-u8 (x .chunk) b span))) ≡ ok tt
-        (c.with-ctx s (c.with-chunk (s .ctx) (write-u8 (s .ctx .chunk) b span)))
-    by-test true t = refl
-    by-test false t = absurd t
-
-pub byte-full : (limit : ℕ) (s : Compiler) (b : ℕ) (span : Span) → limit < c.open-code s + 1 → c.emit-u8 limit b span s ≡ err CodeFull
-unfolding c.emit-u8 c._>>=_ c._>>_ go-on c.the c.need
-byte-full limit s b span l = by-test (ltb (c.open-code s) limit) (λ t. omega (arith, ltb→lt (c.open-code s) limit t))
-  where
-    by-test : (t : Bool) → (T t → ⊥) →
-        go-on (c.need t CodeFull s) (λ _. c.update-ctx (λ x. c.with-chunk x (write-u8 (x .chunk) b span))) ≡ err CodeFull
-    by-test true t = absurd (t tt)
-    by-test false t = refl
 
 -- ## The least number that suffices, of a test that larger ones pass too
 

@@ -7,7 +7,7 @@ use mathlib.Core.List.{List, [], _∷_, _++_}
 use Prim.Native.Nat.{ℕ, suc, _+_, _-_, _*_, _≤_, _<_}
 use native.Mathlib.Omega.{arith}
 use lib.ListN.{length, length-append, length-set}
-use lib.Dec.{T, ltb, lt→ltb}
+use lib.Dec.{T, ltb, ltb→lt, lt→ltb}
 use Rattle.rules.specs.Base.{if_then_else_, position}
 use Rattle.rules.specs.declared.Span.{Span}
 use Rattle.rules.specs.declared.Refusal.the-variants.{TooManyUpvalues, CodeFull}
@@ -24,6 +24,32 @@ use Rattle.rules.proofs.Steps.{Laws}
 use Rattle.rules.proofs.Spends as spends
 use Rattle.rules.proofs.Spends.{Spends, Ends}
 use Rattle.rules.proofs.TreeBytes.{fitting}
+
+-- ## 30 at one byte: it would take the open functions' code, summed, past the code limit
+
+-- the state with a byte more
+abbrev pub emitted : Compiler → ℕ → Span → Compiler
+emitted s b span = c.with-ctx s (c.with-chunk (s .ctx) (write-u8 (s .ctx .chunk) b span))
+
+pub byte-fits : (limit : ℕ) (s : Compiler) (b : ℕ) (span : Span) → c.open-code s + 1 ≤ limit →
+    c.emit-u8 limit b span s ≡ ok tt (emitted s b span)
+unfolding c.emit-u8 c._>>=_ c._>>_ go-on c.the c.need c.update-ctx
+byte-fits limit s b span l = by-test (ltb (c.open-code s) limit) (lt→ltb (c.open-code s) limit (omega arith))
+  where
+    by-test : (t : Bool) → T t →
+        go-on (c.need t CodeFull s) (λ _. c.update-ctx (λ x. c.with-chunk x (write-u8 (x .chunk) b span))) ≡ ok tt
+        (emitted s b span)
+    by-test true t = refl
+    by-test false t = absurd t
+
+pub byte-full : (limit : ℕ) (s : Compiler) (b : ℕ) (span : Span) → limit < c.open-code s + 1 → c.emit-u8 limit b span s ≡ err CodeFull
+unfolding c.emit-u8 c._>>=_ c._>>_ go-on c.the c.need
+byte-full limit s b span l = by-test (ltb (c.open-code s) limit) (λ t. omega (arith, ltb→lt (c.open-code s) limit t))
+  where
+    by-test : (t : Bool) → (T t → ⊥) →
+        go-on (c.need t CodeFull s) (λ _. c.update-ctx (λ x. c.with-chunk x (write-u8 (x .chunk) b span))) ≡ err CodeFull
+    by-test true t = absurd (t tt)
+    by-test false t = refl
 
 -- ## What has been spent: a local has paid for its pop, and a captured variable for its pair in the closure to come
 
@@ -95,18 +121,6 @@ module _ (limit most top : ℕ) (nested : most ≤ 16) (room : top ≤ limit) wh
 
   -- ## What writes
 
-  abbrev emitted : Compiler → ℕ → Span → Compiler
-  emitted s b span = c.with-ctx s (c.with-chunk (s .ctx) (write-u8 (s .ctx .chunk) b span))
-
-  emits : (s : Compiler) (b : ℕ) (span : Span) → c.open-code s < limit → c.emit-u8 limit b span s ≡ ok tt (emitted s b span)
-  unfolding c.emit-u8 c._>>=_ c._>>_ go-on c.the c.need c.update-ctx
-  emits s b span l = by-test (ltb (c.open-code s) limit) (lt→ltb (c.open-code s) limit l)
-    where
-      by-test : (t : Bool) → T t →
-          go-on (c.need t CodeFull s) (λ _. c.update-ctx (λ x. c.with-chunk x (write-u8 (x .chunk) b span))) ≡ ok tt (emitted s b span)
-      by-test true t = refl
-      by-test false t = absurd t
-
   one-more : (ch : Chunk) (b : ℕ) (span : Span) → length (write-u8 ch b span .ops) ≡ length (ch .ops) + 1
   unfolding write-u8
   one-more ch b span = length-append (ch .ops) (b ∷ [])
@@ -116,7 +130,7 @@ module _ (limit most top : ℕ) (nested : most ≤ 16) (room : top ≤ limit) wh
       record {
         run =
             λ s k l i. subst⁻¹ (λ (o : Outcome (Unit {0})). Ends J Rusts top g (k + 1) o)
-            (emits s b span (omega (arith, open-code-held s, i .spent)))
+            (byte-fits limit s b span (omega (arith, open-code-held s, i .spent)))
             (record { levels = i .levels; spent = omega (arith, i .spent, one-more (s .ctx .chunk) b span) });
       }
 
@@ -190,7 +204,7 @@ module _ (limit most top : ℕ) (nested : most ≤ 16) (room : top ≤ limit) wh
       by-depth true rest =
           subst⁻¹ (λ (o : Outcome (Unit {0})). Ends J Rusts top g k
           (go-on o (λ _. c._>>_ (c.update-ctx (λ y. c.with-locals y xs)) (c.pop-locals limit xs span))))
-          (emits s b span (omega (arith, open-code-held s, i .spent, ap length e))) (rest popped refl fits)
+          (byte-fits limit s b span (omega (arith, open-code-held s, i .spent, ap length e))) (rest popped refl fits)
       by-depth false rest = i
 
   end-scope : {g : ℕ} (span : Span) → Does g g 0 (c.end-scope limit span)

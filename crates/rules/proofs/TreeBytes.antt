@@ -90,14 +90,11 @@ one-of {A} {at = at} fault table n = by-row (lookup n table)
 
 -- ## Fields
 
+-- `fault` is the place where the record of a field starts: a field that is missing or wrong is 3 there
 module _ (most : ℕ) where
   -- a value of which `P` holds, from `size` bytes
   abbrev Taken : {A : Type 0} → (A → Type 0) → (size at : ℕ) → A → ℕ → Type 0
   Taken P size at a next = P a × (next ≡ at + size)
-
-  -- children in a row
-  abbrev Row : {A : Type 0} → (A → Type 0) → (A → ℕ) → (at : ℕ) → A → ℕ → Type 0
-  Row P size at a next = P a × (next ≡ at + size a)
 
   getD-small : (bs : List ℕ) (at : ℕ) → Bytes bs → getD bs at 0 < 256
   getD-small [] at h = omega arith
