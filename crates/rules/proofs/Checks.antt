@@ -40,7 +40,7 @@ use Rattle.rules.proofs.CodeBytes.{ByteList, AllSound, sound, zeros-aft
 use Rattle.rules.proofs.Demand3.{demand-3, divides, listing, instruction-of}
 
 -- what comes back from an accepted tree
-from-ok : {A : Type 0} (Q : A → Type 0) (o : Outcome A) (a : A) (s : Compiler) → o ≡ ok a s → After (λ a _. Q a) o → Q a
+pub from-ok : {A : Type 0} (Q : A → Type 0) (o : Outcome A) (a : A) (s : Compiler) → o ≡ ok a s → After (λ a _. Q a) o → Q a
 from-ok Q (ok b s′) a s e h = let z : b ≡ a = cc in subst Q z h
 from-ok Q (err r) a s e h = let z : _≡_ {A = ℕ} 0 1 = cc in absurd (omega arith)
 
@@ -274,7 +274,7 @@ module _ (limits : Limits) where
   tree-sound tree limit fs e = of-tree (AllSound limit) limit (all-sound limit) tree fs e
 
   -- nothing is given where the table is short
-  from-lent : (tree : List ℕ) (lent : Lent) (fs : List ObjectFunction) → compile-lent limits tree lent ≡ functions-are fs →
+  pub from-lent : (tree : List ℕ) (lent : Lent) (fs : List ObjectFunction) → compile-lent limits tree lent ≡ functions-are fs →
       compile-tree limits tree (code-limit lent) ≡ functions-are fs
   unfolding compile-lent
   from-lent tree lent fs e = by-table (leb (limits .table-bytes) (8 * lent .table-words)) e
@@ -292,7 +292,7 @@ module _ (limits : Limits) where
 
 -- ## What is written
 
-refusal-number : (r : Refusal) → 1 ≤ refusal r .number
+pub refusal-number : (r : Refusal) → 1 ≤ refusal r .number
 unfolding refusal
 refusal-number answer.WorkShort = omega arith
 refusal-number answer.TreeTooLong = omega arith
