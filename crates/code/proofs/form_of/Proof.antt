@@ -1,0 +1,19 @@
+use Rattle.code.proofs.Forms.{forms, form-known, form-unknown}
+use borrow.Author.Needs.{needs}
+use Rattle.code.proofs.form_of.Statement.{statement}
+use Rattle.code.proofs.form_of.Tie as tie
+use Rattle.code.proofs.form_of.Reads as reads
+use Rattle.code.proofs.form_of.Lts as lts
+
+array-read-result : tie.Need-array-read-result
+array-read-result c = search needs
+
+returns : tie.Need-returns
+unfolding forms
+returns c = form-known (c .before .args .op) (c .if1 .taken)
+
+returns-2 : tie.Need-returns-2
+returns-2 c = form-unknown (c .before .args .op) (c .if1 .left)
+
+pub form-of-spec : {M : Type 1} → statement M
+form-of-spec = tie.close (tie.spec array-read-result returns returns-2)

@@ -1,0 +1,96 @@
+use Prim.Native.Nat.{ℕ, suc, _+_, _-_, _*_, _<_, _≤_}
+use native.Mathlib.Omega.{arith}
+use mathlib.Core.Path.{_≡_, refl, sym, _∙_, ap}
+use lib.ListN.{length, getD, drop}
+use borrow.Author.Tests.{not-true, not-false}
+use Rattle.code.specs.Table.{division}
+use Rattle.rules.specs.Division.{operands-fit}
+use Rattle.code.specs.Table.{kinds-in, judged, from}
+use Rattle.code.proofs.Judging.{judge-begin, judge-skip, judge-none, judge-cut, judge-refuse, judge-more, judge-done}
+use Rattle.code.proofs.walk.Statement.{statement}
+use Rattle.code.proofs.walk.Tie as tie
+use Rattle.code.proofs.walk.Reads as reads
+use Rattle.code.proofs.walk.Lts as lts
+use Rattle.code.proofs.fits.Reads as fits-reads
+use Rattle.code.proofs.width_at.Reads as width-at-reads
+
+abbrev Inv-loop : tie.InvT-loop
+Inv-loop code kinds upvalues at₀ skip₀ n₀ at skip n = (at + skip ≤ length code) × (n ≤ at) × (judged (operands-fit (kinds-in kinds) upvalues) 0 (division (kinds-in kinds) code) ≡ judged (operands-fit (kinds-in kinds) upvalues) n (from (kinds-in kinds) code at skip))
+
+abbrev μ-loop : tie.MeasureT-loop
+μ-loop code kinds upvalues at₀ skip₀ n₀ at skip n = length code - at
+
+loop-holds : tie.Need-loop-holds Inv-loop μ-loop
+loop-holds c = (omega arith, omega arith, judge-begin (kinds-in (c .before .args .kinds .now)) (c .before .args .code .now) (operands-fit (kinds-in (c .before .args .kinds .now)) (c .before .args .upvalues)))
+
+sub-skip : tie.Need-sub-skip Inv-loop μ-loop
+sub-skip c = omega arith
+
+add-at : tie.Need-add-at Inv-loop μ-loop
+add-at c = omega arith
+
+loop-less : tie.Need-loop-less Inv-loop μ-loop
+loop-less c = omega arith
+
+loop-again : tie.Need-loop-again Inv-loop μ-loop
+loop-again c = (omega arith, omega arith, c .before .before .loop .inv .2 ∙ judge-skip (kinds-in (c .before .before .before .before .args .kinds .now)) (c .before .before .before .before .args .code .now) (operands-fit (kinds-in (c .before .before .before .before .args .kinds .now)) (c .before .before .before .before .args .upvalues)) (c .before .before .loop .n) (c .before .before .loop .at) (c .before .before .loop .skip) (c .before .before .loop .skip - 1) (c .before .loop-test .taken) (omega arith))
+
+width-at-requires : tie.Need-width-at-requires Inv-loop μ-loop
+width-at-requires c κs = c .before .loop-test .taken
+
+returns : tie.Need-returns Inv-loop μ-loop
+returns c = sym (c .before .before .before .before .loop .inv .2 ∙ judge-none (kinds-in (c .before .before .before .before .before .before .args .kinds .now)) (c .before .before .before .before .before .before .args .code .now) (operands-fit (kinds-in (c .before .before .before .before .before .before .args .kinds .now)) (c .before .before .before .before .before .before .args .upvalues)) (c .before .before .before .before .loop .n) (c .before .before .before .before .loop .at) (c .before .before .before .before .loop .skip) (c .before .width-at .result) (omega (arith, c .before .before .if1 .left)) (c .before .before .before .loop-test .taken) (c .before .width-at .ensures) (c .if2 .taken))
+
+sub-if3 : tie.Need-sub-if3 Inv-loop μ-loop
+sub-if3 c = omega arith
+
+returns-2 : tie.Need-returns-2 Inv-loop μ-loop
+returns-2 c = sym (c .before .before .before .before .before .loop .inv .2 ∙ judge-cut (kinds-in (c .before .before .before .before .before .before .before .args .kinds .now)) (c .before .before .before .before .before .before .before .args .code .now) (operands-fit (kinds-in (c .before .before .before .before .before .before .before .args .kinds .now)) (c .before .before .before .before .before .before .before .args .upvalues)) (c .before .before .before .before .before .loop .n) (c .before .before .before .before .before .loop .at) (c .before .before .before .before .before .loop .skip) (c .before .before .width-at .result) (omega (arith, c .before .before .before .if1 .left)) (c .before .before .before .before .loop-test .taken) (c .before .before .width-at .ensures) (omega (arith, c .before .if2 .left)) (omega (arith, c .if3 .taken)))
+
+fits-requires : tie.Need-fits-requires Inv-loop μ-loop
+fits-requires c κs = ((c .before .before .before .before .loop-test .taken, omega (arith, c .before .before .width-at .ensures, c .before .if2 .left)), omega (arith, c .before .before .width-at .ensures, c .if3 .left))
+
+returns-3 : tie.Need-returns-3 Inv-loop μ-loop
+returns-3 c = sym (c .before .before .before .before .before .before .before .loop .inv .2 ∙ judge-refuse (kinds-in (c .before .before .before .before .before .before .before .before .before .args .kinds .now)) (c .before .before .before .before .before .before .before .before .before .args .code .now) (operands-fit (kinds-in (c .before .before .before .before .before .before .before .before .before .args .kinds .now)) (c .before .before .before .before .before .before .before .before .before .args .upvalues)) (c .before .before .before .before .before .before .before .loop .n) (c .before .before .before .before .before .before .before .loop .at) (c .before .before .before .before .before .before .before .loop .skip) (c .before .before .before .before .width-at .result) (omega (arith, c .before .before .before .before .before .if1 .left)) (c .before .before .before .before .before .before .loop-test .taken) (c .before .before .before .before .width-at .ensures) (omega (arith, c .before .before .before .if2 .left)) (sym (c .before .fits2 .ensures) ∙ not-true (c .before .fits2 .result) (c .if4 .taken)))
+
+sub-skip-2 : tie.Need-sub-skip-2 Inv-loop μ-loop
+sub-skip-2 c = omega (arith, c .before .before .before .if2 .left)
+
+add-n : tie.Need-add-n Inv-loop μ-loop
+add-n c = omega (arith, c .before .before .before .before .before .before .before .loop .inv, c .before .before .before .before .before .before .loop-test .taken)
+
+add-at-2 : tie.Need-add-at-2 Inv-loop μ-loop
+add-at-2 c = omega (arith, c .before .before .before .before .before .before .loop-test .taken)
+
+loop-less-2 : tie.Need-loop-less-2 Inv-loop μ-loop
+loop-less-2 c = omega (arith, c .before .before .before .before .before .before .loop-test .taken)
+
+loop-again-2 : tie.Need-loop-again-2 Inv-loop μ-loop
+loop-again-2 c = (omega (arith, c .before .before .before .if2 .left, c .before .before .if3 .left, c .before .before .before .before .before .before .loop-test .taken), omega (arith, c .before .before .before .before .before .before .before .loop .inv .1), c .before .before .before .before .before .before .before .loop .inv .2 ∙ judge-more (kinds-in (c .before .before .before .before .before .before .before .before .before .args .kinds .now)) (c .before .before .before .before .before .before .before .before .before .args .code .now) (operands-fit (kinds-in (c .before .before .before .before .before .before .before .before .before .args .kinds .now)) (c .before .before .before .before .before .before .before .before .before .args .upvalues)) (c .before .before .before .before .before .before .before .loop .n) (c .before .before .before .before .before .before .before .loop .at) (c .before .before .before .before .before .before .before .loop .skip) (c .before .before .before .before .width-at .result) (omega (arith, c .before .before .before .before .before .if1 .left)) (c .before .before .before .before .before .before .loop-test .taken) (c .before .before .before .before .width-at .ensures) (omega (arith, c .before .before .before .if2 .left)) (sym (c .before .fits2 .ensures) ∙ not-false (c .before .fits2 .result) (c .if4 .left)))
+
+returns-4 : tie.Need-returns-4 Inv-loop μ-loop
+returns-4 c = sym (c .before .loop .inv .2 ∙ judge-done (kinds-in (c .before .before .before .args .kinds .now)) (c .before .before .before .args .code .now) (operands-fit (kinds-in (c .before .before .before .args .kinds .now)) (c .before .before .before .args .upvalues)) (c .before .loop .n) (c .before .loop .at) (c .before .loop .skip) (omega arith) (omega arith))
+
+pub walk-spec : {M : Type 1} → statement M
+walk-spec =
+    tie.close
+    (tie.spec
+    Inv-loop
+    μ-loop
+    loop-holds
+    sub-skip
+    add-at
+    loop-less
+    loop-again
+    width-at-requires
+    returns
+    sub-if3
+    returns-2
+    fits-requires
+    returns-3
+    sub-skip-2
+    add-n
+    add-at-2
+    loop-less-2
+    loop-again-2
+    returns-4)

@@ -1,0 +1,64 @@
+-- `skip_constants` meets its contract: where the constants that are left end is where all of them end. Assumes nothing.
+use Prim.Native.Nat.{ℕ, _+_, _-_, _*_, _<_, _≤_}
+use native.Mathlib.Omega.{arith}
+use mathlib.Core.Path.{_≡_, refl, sym, _∙_, ap}
+use lib.ListN.{length, getD}
+use lib.Dec.{leb, eqb}
+use borrow.Author.Needs.{needs}
+use borrow.Author.Tests.{not-true, not-false, leb-true, leb-false, le-leb, lt-leb, eq-eqb, ne-eqb}
+use Rattle.rules.specs.Reader.{many}
+use Rattle.rules.specs.ImageFile.{read-constant}
+use Rattle.records.specs.Told.{place-told}
+use Rattle.records.proofs.Many.{passed-none, skip-stops, skip-goes, skip-none}
+use Rattle.records.proofs.Records.{constant-is, constant-fails}
+use Rattle.records.proofs.skip_constants.Statement.{statement}
+use Rattle.records.proofs.skip_constants.Tie as tie
+
+abbrev Inv-loop : tie.InvT-loop
+Inv-loop s begin n at₀ i₀ at i = (i ≤ n) × (place-told (many n (read-constant s) begin) ≡ place-told (many (n - i) (read-constant s) at))
+
+abbrev μ-loop : tie.MeasureT-loop
+μ-loop s begin n at₀ i₀ at i = n - i
+
+loop-holds : tie.Need-loop-holds Inv-loop μ-loop
+loop-holds c = (omega arith, ap place-told (passed-none (read-constant (c .before .args .s .now)) (c .before .args .n) (c .before .args .begin)))
+
+constant-requires : tie.Need-constant-requires Inv-loop μ-loop
+constant-requires c κs = search needs
+
+enum-known-word : tie.Need-enum-known-word Inv-loop μ-loop
+enum-known-word c = search needs
+
+enum-told : tie.Need-enum-told Inv-loop μ-loop
+enum-told c = search needs
+
+returns : tie.Need-returns Inv-loop μ-loop
+returns c = skip-stops (read-constant (c .before .before .before .before .before .before .args .s .now)) (c .before .before .before .before .before .before .args .n) (c .before .before .before .before .loop .i) (c .before .before .before .before .loop .at) (c .before .before .before .loop-test .taken) (constant-fails (read-constant (c .before .before .before .before .before .before .args .s .now) (c .before .before .before .before .loop .at)) (sym (c .enum-told .given .1) ∙ c .before .before .constant .ensures)) ∙ sym (c .before .before .before .before .loop .inv .1)
+
+add-i : tie.Need-add-i Inv-loop μ-loop
+add-i c = omega (arith, c .before .before .before .before .loop-test .taken)
+
+loop-less : tie.Need-loop-less Inv-loop μ-loop
+loop-less c = omega (arith, c .before .before .before .before .loop-test .taken)
+
+loop-again : tie.Need-loop-again Inv-loop μ-loop
+loop-again c = let t = constant-is (read-constant (c .before .before .before .before .before .before .before .args .s .now) (c .before .before .before .before .before .loop .at)) (c .before .word .given .0 .0) (c .before .word .given .0 .1 .0) (sym (c .before .word .given .1) ∙ c .before .before .before .constant .ensures) in (omega (arith, c .before .before .before .before .loop-test .taken), c .before .before .before .before .before .loop .inv .1 ∙ skip-goes (read-constant (c .before .before .before .before .before .before .before .args .s .now)) (c .before .before .before .before .before .before .before .args .n) (c .before .before .before .before .before .loop .i) (c .before .before .before .before .before .loop .at) (c .before .word .given .0 .1 .0) (t .value) (c .before .before .before .before .loop-test .taken) (t .is))
+
+returns-2 : tie.Need-returns-2 Inv-loop μ-loop
+returns-2 c = skip-none (read-constant (c .before .before .before .args .s .now)) (c .before .before .before .args .n) (c .before .loop .i) (c .before .loop .at) (c .loop-test .left) ∙ sym (c .before .loop .inv .1)
+
+pub skip-constants-spec : {M : Type 1} → statement M
+skip-constants-spec =
+    tie.close
+    (tie.spec
+    Inv-loop
+    μ-loop
+    loop-holds
+    constant-requires
+    enum-known-word
+    enum-told
+    returns
+    add-i
+    loop-less
+    loop-again
+    returns-2)

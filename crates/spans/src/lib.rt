@@ -1,0 +1,47 @@
+// The span of one code byte, from a list of runs: 0 with the span of the run that holds the byte, or 42.
+
+ghost use mathlib.Core.Path.{_≡_};
+ghost use Rattle.rules.specs.Checker.{span-of};
+ghost use Rattle.spans.specs.Words.{runs-of};
+use rules::Answer;
+
+fn wide(n: u32) -> usize
+    ensures { λ r. ⌜ r ≡ n ⌝ }
+{
+    n as usize
+}
+
+fn long(n: u32) -> u64
+    ensures { λ r. ⌜ r ≡ n ⌝ }
+{
+    n as u64
+}
+
+// The runs as words: start, end and count of each in turn. It stops at the run that holds the byte.
+pub fn span_of_words(words: &[u32], offset: usize) -> Answer
+    ensures { λ r. ⌜ r ≡ span-of (runs-of (now (words .entry))) offset ⌝ }
+{
+    let mut at: usize = 0;
+    let mut left = offset;
+    while at + 2 < words.len() {
+        let count = wide(words[at + 2]);
+        if left < count {
+            return Answer {
+                number: 0,
+                at: long(words[at]),
+                end: long(words[at + 1]),
+                name: 0,
+                length: 0,
+            };
+        }
+        left -= count;
+        at += 3;
+    }
+    Answer {
+        number: 42,
+        at: 0,
+        end: 0,
+        name: 0,
+        length: 0,
+    }
+}
