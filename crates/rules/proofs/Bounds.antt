@@ -213,7 +213,7 @@ module _ (limits : Limits) (nested : limits .funs ≤ 16) (tree : List ℕ) (byt
 -- ## Rooms for the published limits
 
 -- a tree file of at most 43,690 bytes needs no more than this
-pub room-that-suffices : (tree : List ℕ) → Bytes tree → (lent : Lent) → 17_410 ≤ lent .table-words → 6 * length tree ≤ lent .code-bytes →
+pub room-that-suffices : (tree : List ℕ) → Bytes tree → (lent : Lent) → 17_412 ≤ lent .table-words → 6 * length tree ≤ lent .code-bytes →
     18 * length tree ≤ lent .span-words → 132 * length tree ≤ lent .output-bytes → 6 * length tree ≤ max-code →
     (compile tree lent .answer .number ≢ 1) × (compile tree lent .answer .number ≢ 30) × (compile tree lent .answer .number ≢ 31)
 room-that-suffices tree bytes lent t c s o l = (
@@ -228,7 +228,7 @@ room-that-suffices tree bytes lent t c s o l = (
 
 -- no room gives more than this one: what it refuses by 30, every room with a table does
 pub record Largest (tree : List ℕ) (lent : Lent) : Type 0 where
-  pub table-words : 17_410 ≤ lent .table-words
+  pub table-words : 17_412 ≤ lent .table-words
   pub code-bytes : max-code ≤ lent .code-bytes
   pub span-words : 3 * max-code ≤ lent .span-words
   pub output-bytes : 132 * length tree ≤ lent .output-bytes
@@ -252,7 +252,7 @@ module _ (tree : List ℕ) (bytes : Bytes tree) (lent : Lent) (largest : Largest
             (compiled-functions first-limits tree lent fs w) .image,
       )
 
-  pub largest-30 : compile tree lent .answer .number ≡ 30 → (lent′ : Lent) → 17_410 ≤ lent′ .table-words → compile tree lent′ .answer .number ≡ 30
+  pub largest-30 : compile tree lent .answer .number ≡ 30 → (lent′ : Lent) → 17_412 ≤ lent′ .table-words → compile tree lent′ .answer .number ≡ 30
   largest-30 e lent′ t =
       let (stmts, w, l) = code-full-exactly first-limits tree bytes lent (omega arith) .0 e in
       code-full-exactly first-limits tree bytes lent′ (omega arith) .1 (
