@@ -339,7 +339,7 @@ module _ (limit most top : ℕ) (nested : most ≤ 16) (room : top ≤ limit) wh
   unfolding c.end-function c.end-ctx c._>>=_ go-on c.the
   end-function {g} span up = record { run = λ s k l i. back-to g s k (s .parents) span refl (up .0) (up .1) l i }
 
-  laws : Laws (fitting most) limit limit (λ A g h n m m′. Does {A = A} g h n m)
+  laws : Laws (fitting most) limit limit (λ A g h n w m m′. Does {A = A} g h n m)
   unfolding c.define-local c.begin-scope c.push-class-ctx c.pop-class-ctx
   laws =
       record {
@@ -348,7 +348,7 @@ module _ (limit most top : ℕ) (nested : most ≤ 16) (room : top ≤ limit) wh
         super-name = omega arith;
         _>>=_ = λ hm hf. hm >>= hf;
         _>>_ = λ hm hp. hm >> hp;
-        enough = λ hm b. enough hm b;
+        enough = λ hm b b′. enough hm b;
         needs = λ b r o f. spends.needs J Rusts top (more most) b r o f;
         return = λ a. spends.return J Rusts top (more most) a;
         the = λ f. spends.the J Rusts top (more most) f;
@@ -385,7 +385,7 @@ within limit most stmts nested o room = by-outcome (c.compile-script limit stmts
 
     compiled : Ends (λ g k s. Spent most g k s) Rusts top most (0 + top) (c.compile-script limit stmts c.new)
     compiled =
-        (steps.compile-script (fitting most) limit limit (λ A g h n m m′. Does limit most top nested room {A = A} g h n m)
+        (steps.compile-script (fitting most) limit limit (λ A g h n w m m′. Does limit most top nested room {A = A} g h n m)
         (laws limit most top nested room) stmts most o) .run c.new 0 (omega arith)
         (record { levels = omega arith; spent = omega arith })
 
