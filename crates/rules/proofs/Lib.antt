@@ -22,6 +22,7 @@ pub mod Accepted
 pub mod Agrees
 pub mod Room
 pub mod Sizes
+pub mod ImageSizes
 pub mod CodeNeed
 pub mod Exactly
 pub mod Bounds
