@@ -11,7 +11,7 @@ use lib.Dec.{T, ltb, eqb, ltb→lt, nltb→le, eqb-refl}
 use Rattle.rules.specs.Base.{if_then_else_, position, le}
 use Rattle.rules.specs.declared.Span.{Span}
 use Rattle.rules.specs.declared.Refusal.{Refusal}
-use Rattle.rules.specs.declared.Refusal.the-variants.{TooManyUpvalues}
+use Rattle.rules.specs.declared.Refusal.the-variants.{TooManyUpvalues, CodeFull}
 use Rattle.rules.specs.Tree.{Stmts}
 use Rattle.rules.specs.Op as op
 use Rattle.rules.specs.Chunk.{Chunk, Constant, CN, CS, CF, Run, push-span, same-span, write-u8, Written, at-place, no-room, write-constant, written, same-constant, ObjectFunction}
@@ -165,3 +165,201 @@ image-length fs = omega (arith, functions-length fs, length-append (le 4 (length
 weigh-end : (fs : List ObjectFunction) (f : ObjectFunction) → weigh-all (fs ++ (f ∷ [])) ≡ weigh-all fs + 19 + weighs (f .chunk)
 weigh-end [] f = omega arith
 weigh-end (g ∷ fs) f = omega (arith, weigh-end fs f)
+
+-- ## What has been spent: a local has paid for its pop, and a captured variable for its pair
+
+abbrev held : CompilerCtx → ℕ
+held x = weighs (x .chunk) + 3 * length (x .upvalues) + 12 * length (x .locals)
+
+abbrev held-all : List CompilerCtx → ℕ
+held-all [] = 0
+held-all (x ∷ xs) = held x + held-all xs
+
+abbrev spent : Compiler → ℕ
+spent s = held (s .ctx) + held-all (s .parents) + weigh-all (s .functions)
+
+record Spent (most g k : ℕ) (s : Compiler) : Type 0 where
+  levels : length (s .parents) + g ≤ most
+  spent : spent s ≤ k
+
+more : (most g k k′ : ℕ) (s : Compiler) → k ≤ k′ → Spent most g k s → Spent most g k′ s
+more most g k k′ s l i = record { levels = i .levels; spent = omega (arith, i .spent) }
+
+-- any refusal will do
+abbrev Any : Refusal → Type 0
+Any r = Unit {0}
+
+module _ (limit most top : ℕ) (nested : most ≤ 16) where
+  abbrev J : ℕ → ℕ → Compiler → Type 0
+  J g k s = Spent most g k s
+
+  abbrev Does : {A : Type 0} → (g h n : ℕ) → Compile A → Type 0
+  Does g h n m = Spends J Any top g h n m
+
+  infixl 10 _>>=_
+  _>>=_ : {A B : Type 0} {g h i n n′ : ℕ} {m : Compile A} {f : A → Compile B} → Does g h n m → ((a : A) → Does h i n′ (f a)) → Does g i (n + n′) (c._>>=_ m f)
+  hm >>= hf = spends.bind J Any top (more most) hm hf
+
+  infixl 10 _>>_
+  _>>_ : {A B : Type 0} {g h i n n′ : ℕ} {m : Compile A} {p : Compile B} → Does g h n m → Does h i n′ p → Does g i (n + n′) (c._>>_ m p)
+  hm >> hp = spends.follow J Any top (more most) hm hp
+
+  -- a change of the current context that holds so much more
+  update : {g : ℕ} (n : ℕ) (f : CompilerCtx → CompilerCtx) → ((x : CompilerCtx) → held (f x) ≤ held x + n) → Does g g n (c.update-ctx f)
+  unfolding c.update-ctx
+  update n f h = record { run = λ s k l i. record { levels = i .levels; spent = omega (arith, i .spent, h (s .ctx)) } }
+
+  -- ## What writes
+
+  abbrev emitted : Compiler → ℕ → Span → Compiler
+  emitted s b span = c.with-ctx s (c.with-chunk (s .ctx) (write-u8 (s .ctx .chunk) b span))
+
+  emits : (s : Compiler) (b : ℕ) (span : Span) → After (λ _ t. t ≡ emitted s b span) (c.emit-u8 limit b span s)
+  unfolding c.emit-u8 c._>>=_ c._>>_ go-on c.the c.need c.update-ctx
+  emits s b span = by-test (ltb (c.open-code s) limit)
+    where
+      by-test : (t : Bool) → After (λ _ t. t ≡ emitted s b span) (go-on (c.need t CodeFull s) (λ _. c.update-ctx (λ x. c.with-chunk x (write-u8 (x .chunk) b span))))
+      by-test true = refl
+      by-test false = tt
+
+  byte-weighs : (ch : Chunk) (b : ℕ) (span : Span) → weighs (write-u8 ch b span) ≤ weighs ch + 12
+  unfolding write-u8
+  byte-weighs ch b span = omega (arith, length-append (ch .ops) (b ∷ []), push-length (ch .spans) span)
+
+  -- the current function's last run has this span
+  abbrev Last : Span → Compiler → Type 0
+  Last span s = Last-is span (s .ctx .chunk .spans)
+
+  record Both (span : Span) (g k : ℕ) (s : Compiler) : Type 0 where
+    spent : Spent most g k s
+    last : Last span s
+
+  emit-last : {g : ℕ} (k b : ℕ) (span : Span) → Triple (J g k) (c.emit-u8 limit b span) (λ _. Both span g (k + 12))
+  unfolding write-u8
+  emit-last {g} k b span = record { run = λ s i. by-outcome s i (c.emit-u8 limit b span s) (emits s b span) }
+    where
+      by-outcome : (s : Compiler) → J g k s → (o : Outcome (Unit {0})) → After (λ _ t. t ≡ emitted s b span) o → After (λ _. Both span g (k + 12)) o
+      by-outcome s i (ok a t) e =
+          subst⁻¹ (λ (t : Compiler). Both span g (k + 12) t) e
+          (record {
+            spent = record { levels = i .levels; spent = omega (arith, i .spent, byte-weighs (s .ctx .chunk) b span) };
+            last = push-last (s .ctx .chunk .spans) span;
+          })
+      by-outcome s i (err r) e = tt
+
+  -- a triple for each sum that was spent before is a step that spends
+  from-triple : {A : Type 0} {g h n : ℕ} {m : Compile A} → ((k : ℕ) → Triple (J g k) m (λ _. J h (k + n))) → Does g h n m
+  from-triple {A} {h = h} {n = n} {m = m} f = record { run = λ s k l i. by-outcome k (m s) (f k .run s i) }
+    where
+      by-outcome : (k : ℕ) (o : Outcome A) → After (λ _. J h (k + n)) o → Ends J Any top h (k + n) o
+      by-outcome k (ok a t) j = j
+      by-outcome k (err r) j = tt
+
+  emit-u8 : {g : ℕ} (b : ℕ) (span : Span) → Does g g 12 (c.emit-u8 limit b span)
+  emit-u8 b span = from-triple (λ k. keeps.so (emit-last k b span) (λ _ s h. h .spent))
+
+  Placed : Chunk → Written → Type 0
+  Placed ch (at-place place ch′) = weighs ch′ ≤ weighs ch + 10
+  Placed ch no-room = Unit {0}
+
+  placed : (ch : Chunk) (v : Constant) → Placed ch (write-constant ch v)
+  unfolding Placed write-constant written
+  placed ch v = found (position (same-constant v) (ch .constants))
+    where
+      added : (b : Bool) → Placed ch (if b then at-place (length (ch .constants)) (record { ops = ch .ops; constants = ch .constants ++ (v ∷ []); spans = ch .spans }) else no-room)
+      added true = omega (arith, constants-more (ch .constants) v)
+      added false = tt
+
+      found : (p : Option ℕ) → Placed ch (written p ch v)
+      found (some place) = omega arith
+      found none = added (ltb (length (ch .constants)) 256)
+
+  place-last : {g : ℕ} (s : Compiler) (k : ℕ) (w : Written) (span : Span) → J g k s → Placed (s .ctx .chunk) w → After (λ _. Both span g (k + 22)) (c.emit-place limit w span s)
+  unfolding c.emit-place Placed c._>>_ go-on c.update-ctx c.refuse
+  place-last {g} s k (at-place place ch) span i e =
+      widen (c.emit-u8 limit place span (c.with-ctx s (c.with-chunk (s .ctx) ch)))
+      ((emit-last (k + 10) place span) .run (c.with-ctx s (c.with-chunk (s .ctx) ch)) (record { levels = i .levels; spent = omega (arith, i .spent) }))
+    where
+      widen : (o : Outcome (Unit {0})) → After (λ _. Both span g (k + 10 + 12)) o → After (λ _. Both span g (k + 22)) o
+      widen (ok a t) h = record { spent = more most g (k + 10 + 12) (k + 22) t (omega arith) (h .spent); last = h .last }
+      widen (err r) h = tt
+  place-last s k no-room span i e = tt
+
+  constant-last : {g : ℕ} (k : ℕ) (v : Constant) (span : Span) → Triple (J g k) (c.emit-constant limit v span) (λ _. Both span g (k + 22))
+  unfolding c.emit-constant c._>>=_ go-on c.the
+  constant-last k v span = record { run = λ s i. place-last s k (write-constant (s .ctx .chunk) v) span i (placed (s .ctx .chunk) v) }
+
+  emit-constant : {g : ℕ} (v : Constant) (span : Span) → Does g g 22 (c.emit-constant limit v span)
+  emit-constant v span = from-triple (λ k. keeps.so (constant-last k v span) (λ _ s h. h .spent))
+
+  -- ## A closure's pairs, after bytes of the same span
+
+  -- all that the pairs leave alone
+  abbrev other : Compiler → ℕ
+  other s = constants-length (s .ctx .chunk .constants) + 3 * length (s .ctx .upvalues) + 12 * length (s .ctx .locals) + held-all (s .parents) + weigh-all (s .functions)
+
+  -- `n` bytes of this span have been written since
+  record Since (span : Span) (s : Compiler) (n : ℕ) (t : Compiler) : Type 0 where
+    levels : length (t .parents) ≡ length (s .parents)
+    others : other t ≡ other s
+    ops : length (t .ctx .chunk .ops) ≡ length (s .ctx .chunk .ops) + n
+    reach : used (t .ctx .chunk .spans) ≤ used (s .ctx .chunk .spans) + n
+    last : Last span t
+
+  since-byte : (span : Span) (s : Compiler) (n b : ℕ) → Triple (Since span s n) (c.emit-u8 limit b span) (λ _. Since span s (n + 1))
+  unfolding write-u8
+  since-byte span s n b = record { run = λ t i. by-outcome t i (c.emit-u8 limit b span t) (emits t b span) }
+    where
+      by-outcome : (t : Compiler) → Since span s n t → (o : Outcome (Unit {0})) → After (λ _ u. u ≡ emitted t b span) o → After (λ _. Since span s (n + 1)) o
+      by-outcome t i (ok a u) e =
+          subst⁻¹ (λ (u : Compiler). Since span s (n + 1) u) e
+          (record {
+            levels = i .levels;
+            others = i .others;
+            ops = omega (arith, i .ops, length-append (t .ctx .chunk .ops) (b ∷ []));
+            reach = omega (arith, i .reach, push-used (t .ctx .chunk .spans) span (i .last));
+            last = push-last (t .ctx .chunk .spans) span;
+          })
+      by-outcome t i (err r) e = tt
+
+  since-pairs : (span : Span) (s : Compiler) (us : List Upvalue) (n : ℕ) → Triple (Since span s n) (c.emit-upvalues limit us span) (λ _. Since span s (n + 2 * length us))
+  unfolding c.emit-upvalues
+  since-pairs span s [] n = keeps.so keeps.skip (λ _ t i. record { levels = i .levels; others = i .others; ops = omega (arith, i .ops); reach = omega (arith, i .reach); last = i .last })
+  since-pairs span s (u ∷ us) n =
+      keeps.so
+      (keeps._>>_ (since-byte span s n (if u .is-local then 1 else 0))
+      (keeps._>>_ (since-byte span s (n + 1) (u .idx)) (since-pairs span s us (n + 1 + 1))))
+      (λ _ t i. record { levels = i .levels; others = i .others; ops = omega (arith, i .ops); reach = omega (arith, i .reach); last = i .last })
+
+  -- three for each pair, and a run
+  emit-upvalues : {g : ℕ} (k : ℕ) (us : List Upvalue) (span : Span) → Triple (Both span g k) (c.emit-upvalues limit us span) (λ _. J g (k + (11 + 3 * length us)))
+  emit-upvalues {g} k us span =
+      record {
+        run =
+            λ s i. by-outcome s i (c.emit-upvalues limit us span s)
+            ((since-pairs span s us 0) .run s (record { levels = refl; others = refl; ops = omega arith; reach = omega arith; last = i .last }));
+      }
+    where
+      by-outcome : (s : Compiler) → Both span g k s → (o : Outcome (Unit {0})) → After (λ _. Since span s (0 + 2 * length us)) o → After (λ _. J g (k + (11 + 3 * length us))) o
+      by-outcome s i (ok a t) h =
+          record {
+            levels = omega (arith, i .spent .levels, h .levels);
+            spent =
+                omega (
+                  arith,
+                  i .spent .spent,
+                  h .others,
+                  h .ops,
+                  h .reach,
+                  used-least (t .ctx .chunk .spans),
+                  used-most (s .ctx .chunk .spans) span (i .last),
+                );
+          }
+      by-outcome s i (err r) h = tt
+
+  -- 45 beside the pairs: two bytes, a constant, and a run for the pairs
+  emit-closure : {g : ℕ} (k number : ℕ) (us : List Upvalue) (span : Span) → Triple (J g k) (c.emit-closure limit number us span) (λ _. J g (k + 12 + 22 + (11 + 3 * length us)))
+  unfolding c.emit-closure
+  emit-closure k number us span =
+      keeps._>>_ (keeps.so (emit-last k op.CLOSURE span) (λ _ s h. h .spent))
+      (keeps._>>_ (constant-last (k + 12) (CF number) span) (emit-upvalues (k + 12 + 22) us span))
