@@ -363,3 +363,198 @@ module _ (limit most top : ℕ) (nested : most ≤ 16) where
   emit-closure k number us span =
       keeps._>>_ (keeps.so (emit-last k op.CLOSURE span) (λ _ s h. h .spent))
       (keeps._>>_ (constant-last (k + 12) (CF number) span) (emit-upvalues (k + 12 + 22) us span))
+
+  -- ## Scopes and names
+
+  declare-local : {g : ℕ} (name : ℕ) (span : Span) → Does g g 12 (c.declare-local name span)
+  unfolding c.declare-local
+  declare-local name span = do
+    ctx ← spends.the J Any top (more most) _
+    spends.need J Any top (more most) _ _ tt
+    spends.need J Any top (more most) _ _ tt
+    update 12 _ (λ x. omega arith)
+
+  patch-jump : {g : ℕ} (at : ℕ) (span : Span) → Does g g 0 (c.patch-jump at span)
+  unfolding c.patch-jump c.code-length c.set-u16
+  patch-jump at span = do
+    size ← spends.the J Any top (more most) _
+    spends.need J Any top (more most) _ _ tt
+    update 0 _ (λ x. simp length-set (omega arith))
+
+  -- a byte for each local that goes
+  pop-locals : {g : ℕ} (ls : List Local) (span : Span) (s : Compiler) (k : ℕ) → s .ctx .locals ≡ ls → J g k s → Ends J Any top g k (c.pop-locals limit ls span s)
+  unfolding c.pop-locals c._>>=_ c._>>_ go-on c.the c.done c.return c.emit-op c.update-ctx
+  pop-locals [] span s k e i = i
+  pop-locals {g} (x ∷ xs) span s k e i = by-depth (ltb (s .ctx .scope-depth) (x .depth)) (λ t e h. pop-locals xs span t k e h)
+    where
+      b : ℕ
+      b = if x .is-captured then op.CLOSE-UPVALUE else op.POP
+
+      popped : Compiler
+      popped = c.with-ctx s (c.with-locals (emitted s b span .ctx) xs)
+
+      fits : J g k popped
+      fits = record { levels = i .levels; spent = omega (arith, i .spent, byte-weighs (s .ctx .chunk) b span, ap length e) }
+
+      rest : Compile (Unit {0})
+      rest = c._>>_ (c.update-ctx (λ y. c.with-locals y xs)) (c.pop-locals limit xs span)
+
+      by-outcome : ((t : Compiler) → t .ctx .locals ≡ xs → J g k t → Ends J Any top g k (c.pop-locals limit xs span t)) → (o : Outcome (Unit {0})) →
+          After (λ _ t. t ≡ emitted s b span) o → Ends J Any top g k (go-on o (λ _. rest))
+      by-outcome ih (ok a t) e = subst⁻¹ (λ (t : Compiler). Ends J Any top g k (rest t)) e (ih popped refl fits)
+      by-outcome ih (err r) e = tt
+
+      by-depth : (d : Bool) → ((t : Compiler) → t .ctx .locals ≡ xs → J g k t → Ends J Any top g k (c.pop-locals limit xs span t)) →
+          Ends J Any top g k ((if d then c._>>_ (c.emit-op limit b span) rest else c.done) s)
+      by-depth true ih = by-outcome ih (c.emit-u8 limit b span s) (emits s b span)
+      by-depth false ih = i
+
+  end-scope : {g : ℕ} (span : Span) → Does g g 0 (c.end-scope limit span)
+  unfolding c.end-scope c._>>=_ c._>>_ go-on c.the c.update-ctx
+  end-scope {g} span = record { run = λ s k l i. ended s k i }
+    where
+      lower : CompilerCtx → CompilerCtx
+      lower x = c.with-scope-depth x (x .scope-depth - 1)
+
+      ended : (s : Compiler) (k : ℕ) → J g k s → Ends J Any top g (k + 0) (c.pop-locals limit (s .ctx .locals) span (c.with-ctx s (lower (s .ctx))))
+      ended s k i =
+          spends.ends-more J Any top (more most) g k (k + 0) (c.pop-locals limit (s .ctx .locals) span (c.with-ctx s (lower (s .ctx)))) (omega arith)
+          (pop-locals (s .ctx .locals) span (c.with-ctx s (lower (s .ctx))) k refl (record { levels = i .levels; spent = i .spent }))
+
+  -- a captured variable may be new in each open function but the script
+  record Grown (ctx : CompilerCtx) (parents : List CompilerCtx) (ctx′ : CompilerCtx) (parents′ : List CompilerCtx) : Type 0 where
+    levels : length parents′ ≡ length parents
+    spent : held ctx′ + held-all parents′ ≤ held ctx + held-all parents + 3 * length parents
+
+  abbrev Grown-if : CompilerCtx → List CompilerCtx → Resolved → Type 0
+  Grown-if ctx parents (captured idx ctx′ parents′) = Grown ctx parents ctx′ parents′
+  Grown-if ctx parents nowhere = Unit {0}
+  Grown-if ctx parents (failed r) = Unit {0}
+
+  added : (p : Option ℕ) (u : Upvalue) (span : Span) (ctx parent : CompilerCtx) (above : List CompilerCtx) (parents : List CompilerCtx) →
+      length parents ≡ suc (length above) → held-all parents ≤ held parent + held-all above + 3 * length above → Grown-if ctx (parent ∷ above) (c.added p u span ctx parents)
+  unfolding c.added
+  added (some place) u span ctx parent above parents e l = record { levels = e; spent = omega arith }
+  added none u span ctx parent above parents e l = by-room (ltb (length (ctx .upvalues)) 256)
+    where
+      by-room : (b : Bool) → Grown-if ctx (parent ∷ above) (if b then captured (length (ctx .upvalues)) (c.with-upvalues ctx (ctx .upvalues ++ (u ∷ []))) parents else failed (TooManyUpvalues span))
+      by-room true = record { levels = e; spent = omega (arith, length-append (ctx .upvalues) (u ∷ [])) }
+      by-room false = tt
+
+  through : (f : Found) (outer : Resolved) (name : ℕ) (span : Span) (ctx parent : CompilerCtx) (above : List CompilerCtx) → Grown-if parent above outer →
+      Grown-if ctx (parent ∷ above) (c.through f outer name span ctx parent above)
+  unfolding c.through c.add-upvalue
+  through (at-slot slot) outer name span ctx parent above o =
+      added _ (record { idx = slot; is-local = true }) span ctx parent above (c.with-locals parent (c.capture name (parent .locals)) ∷ above) refl
+      (omega (arith, capture-length name (parent .locals)))
+  through uninitialized outer name span ctx parent above o = tt
+  through missing (captured idx q qs) name span ctx parent above o = added _ (record { idx = idx; is-local = false }) span ctx parent above (q ∷ qs) (ap suc (o .levels)) (o .spent)
+  through missing nowhere name span ctx parent above o = tt
+  through missing (failed r) name span ctx parent above o = tt
+
+  resolve-upvalue : (name : ℕ) (span : Span) (ctx : CompilerCtx) (parents : List CompilerCtx) → Grown-if ctx parents (c.resolve-upvalue name span ctx parents)
+  unfolding c.resolve-upvalue
+  resolve-upvalue name span ctx [] = tt
+  resolve-upvalue name span ctx (p ∷ ps) = through (c.find-local name (p .locals)) (c.resolve-upvalue name span p ps) name span ctx p ps (resolve-upvalue name span p ps)
+
+  resolved : {g : ℕ} (f : Found) (outer : Resolved) (name : ℕ) (span : Span) (s : Compiler) (k : ℕ) → J g k s → Grown-if (s .ctx) (s .parents) outer →
+      Ends J Any top g (k + 48) (c.resolved f outer name span s)
+  unfolding c.resolved c._>>_ go-on c.put-ctxs c.return c.refuse
+  resolved (at-slot slot) outer name span s k i o = record { levels = i .levels; spent = omega (arith, i .spent) }
+  resolved uninitialized outer name span s k i o = tt
+  resolved missing (captured idx ctx parents) name span s k i o =
+      record { levels = omega (arith, i .levels, o .levels); spent = omega (arith, i .spent, o .spent, i .levels) }
+  resolved missing nowhere name span s k i o = record { levels = i .levels; spent = omega (arith, i .spent) }
+  resolved missing (failed r) name span s k i o = tt
+
+  resolve : {g : ℕ} (name : ℕ) (span : Span) → Does g g 48 (c.resolve name span)
+  unfolding c.resolve c._>>=_ go-on c.get
+  resolve name span =
+      record {
+        run =
+            λ s k l i. resolved (c.find-local name (s .ctx .locals)) (c.resolve-upvalue name span (s .ctx) (s .parents)) name span s k i
+            (resolve-upvalue name span (s .ctx) (s .parents));
+      }
+
+  -- ## Functions
+
+  begin-ctx : {g h : ℕ} (name arity depth : ℕ) (type : FunctionType) → g ≡ suc h → Does g h 0 (c.begin-ctx (c.new-ctx name arity type depth))
+  unfolding c.begin-ctx constants-length image.join
+  begin-ctx name arity depth type up = record { run = λ s k l i. record { levels = omega (arith, i .levels); spent = omega (arith, i .spent) } }
+
+  -- what a closure leaves, where so much is left for it
+  closes : {g : ℕ} (k k′ number : ℕ) (us : List Upvalue) (span : Span) (t : Compiler) → k + (45 + 3 * length us) ≤ k′ → J g k t → Ends J Any top g k′ (c.emit-closure limit number us span t)
+  closes {g} k k′ number us span t l i = by-outcome (c.emit-closure limit number us span t) ((emit-closure k number us span) .run t i)
+    where
+      by-outcome : (o : Outcome (Unit {0})) → After (λ _. J g (k + 12 + 22 + (11 + 3 * length us))) o → Ends J Any top g k′ o
+      by-outcome (ok a u) h = more most g (k + 12 + 22 + (11 + 3 * length us)) k′ u (omega arith) h
+      by-outcome (err r) h = tt
+
+  back-to : {h : ℕ} (g : ℕ) (s : Compiler) (k : ℕ) (ps : List CompilerCtx) (span : Span) → s .parents ≡ ps → g ≡ suc h → g ≤ most → J h k s →
+      Ends J Any top g (k + 64) (go-on (c.back-to ps s) (λ (r : ℕ × List Upvalue). c.emit-closure limit (r .0) (r .1) span))
+  unfolding c.back-to c.finish go-on
+  back-to g s k [] span e up b i = closes k (k + 64) 0 [] span s (omega arith) (record { levels = omega (arith, ap length e); spent = i .spent })
+  back-to g s k (p ∷ ps) span e up b i =
+      closes (spent t) (k + 64) (length (s .functions)) us span t
+      (omega (arith, i .spent, ap held-all e, weigh-end (s .functions) (c.finish (s .ctx))))
+      (record { levels = omega (arith, i .levels, ap length e); spent = omega arith })
+    where
+      us : List Upvalue
+      us = s .ctx .upvalues
+
+      t : Compiler
+      t = record { ctx = p; parents = ps; class-ctx = s .class-ctx; functions = s .functions ++ (c.finish (s .ctx) ∷ []) }
+
+  end-function : {g h : ℕ} (span : Span) → (g ≡ suc h) × (g ≤ most) → Does h g 64 (c.end-function limit span)
+  unfolding c.end-function c.end-ctx c._>>=_ go-on c.the
+  end-function {g} span up = record { run = λ s k l i. back-to g s k (s .parents) span refl (up .0) (up .1) i }
+
+  laws : Laws (fitting most) limit limit (λ A g h n w m m′. Does {A = A} g h w m)
+  unfolding c.define-local c.begin-scope c.push-class-ctx c.pop-class-ctx
+  laws =
+      record {
+        no-span = record { start = omega arith; end = omega arith };
+        this-name = omega arith;
+        super-name = omega arith;
+        _>>=_ = λ hm hf. hm >>= hf;
+        _>>_ = λ hm hp. hm >> hp;
+        enough = λ hm b b′. spends.enough J Any top (more most) hm b′;
+        needs = λ b r o f. spends.needs J Any top (more most) b r tt f;
+        return = λ a. spends.return J Any top (more most) a;
+        the = λ f. spends.the J Any top (more most) f;
+        need = λ b r o. spends.need J Any top (more most) b r tt;
+        refuse = λ r o. spends.refuse J Any top (more most) r tt;
+        resolve = λ name span. resolve name span;
+        patch-jump = λ at span. patch-jump at span;
+        declare-local = λ name span. declare-local name span;
+        define-local = update 0 _ (λ x. omega (arith, initialize-length (x .locals)));
+        begin-scope = update 0 _ (λ x. omega arith);
+        push-class-ctx = λ b. spends.free J Any top (more most) (λ s k i. record { levels = i .levels; spent = i .spent });
+        pop-class-ctx = spends.free J Any top (more most) (λ s k i. record { levels = i .levels; spent = i .spent });
+        begin-ctx = λ name arity depth type up n a. begin-ctx name arity depth type (up .0);
+        emit-u8 = λ b span n. emit-u8 b span;
+        emit-constant = λ v span o n. emit-constant v span;
+        end-scope = λ span n. end-scope span;
+        end-function = λ span up n. end-function span up;
+      }
+
+-- ## Every image
+
+pub image-at-most : (limit most : ℕ) (stmts : Stmts) → most ≤ 16 → Of-stmts (fitting most) stmts most →
+    After (λ fs _. length (image-bytes fs) ≤ 17 * stmts-size stmts + 49) (c.compile-functions limit stmts)
+unfolding c.compile-functions c._>>_ c.the c.finish go-on constants-length image.join
+image-at-most limit most stmts nested o = by-outcome (c.compile-script limit stmts c.new) compiled
+  where
+    top : ℕ
+    top = 17 * stmts-size stmts + 24
+
+    compiled : Ends (λ g k s. Spent most g k s) Any top most (0 + top) (c.compile-script limit stmts c.new)
+    compiled =
+        (steps.compile-script (fitting most) limit limit (λ A g h n w m m′. Does limit most top nested {A = A} g h w m) (laws limit most top nested) stmts most o) .run c.new 0 (omega arith)
+        (record { levels = omega arith; spent = omega arith })
+
+    by-outcome : (r : Outcome (Unit {0})) → Ends (λ g k s. Spent most g k s) Any top most (0 + top) r →
+        After (λ fs _. length (image-bytes fs) ≤ 17 * stmts-size stmts + 49) (go-on r (λ _. c.the (λ (s : Compiler). s .functions ++ (c.finish (s .ctx) ∷ []))))
+    by-outcome (ok a s) i =
+        omega (arith, i .spent, weigh-end (s .functions) (c.finish (s .ctx)), image-length (s .functions ++ (c.finish (s .ctx) ∷ [])))
+    by-outcome (err r) i = tt
