@@ -1,10 +1,10 @@
 -- How long an image can be: at most seventeen bytes for each byte of the tree file. A byte of code costs twelve bytes of image, its own and a run's
 -- eleven, but the pairs of one closure share a span, so that they cost few runs.
-use mathlib.Core.Path.{_≡_, refl, sym, ap, _∙_, subst, subst⁻¹}
+use mathlib.Core.Path.{_≡_, refl, ap, subst⁻¹}
 use mathlib.Core.Bool.{Bool, true, false, _&&_}
 use mathlib.Core.Option.{Option, none, some}
 use mathlib.Core.List.{List, [], _∷_, _++_}
-use Prim.Native.Nat.{ℕ, zero, suc, _+_, _-_, _*_, _/_, _≤_, _<_}
+use Prim.Native.Nat.{ℕ, zero, suc, _+_, _-_, _*_, _/_, _≤_}
 use native.Mathlib.Omega.{arith}
 use lib.ListN.{length, length-append, length-set}
 use lib.Dec.{T, ltb, eqb, ltb→lt, nltb→le, eqb-refl}
@@ -19,7 +19,7 @@ use Rattle.rules.specs.Compiler as c
 use Rattle.rules.specs.Compiler.{Compiler, CompilerCtx, Compile, Outcome, ok, err, go-on, Found, at-slot, uninitialized, missing, Resolved, captured, nowhere, failed, Upvalue, Local, FunctionType}
 use Rattle.rules.specs.Image as image
 use Rattle.rules.specs.Image.{image-bytes}
-use Rattle.rules.proofs.Tests.{both, left, right}
+use Rattle.rules.proofs.Tests.{both}
 use Rattle.rules.proofs.Keeps as keeps
 use Rattle.rules.proofs.Keeps.{After, Triple}
 use Rattle.rules.proofs.Facts.{capture-length, initialize-length}
