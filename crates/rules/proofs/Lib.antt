@@ -21,6 +21,7 @@ pub mod Widths
 pub mod Accepted
 pub mod Agrees
 pub mod Room
+pub mod Held
 pub mod Sizes
 pub mod ImageSizes
 pub mod CodeNeed
