@@ -60,7 +60,8 @@ module _ (held : CompilerCtx → ℕ) (pair : ℕ) where
       where
         by-room : (b : Bool) →
             Grown-if ctx (parent ∷ above)
-            (if b then captured (length (ctx .upvalues)) (c.with-upvalues ctx (ctx .upvalues ++ (u ∷ []))) parents else failed (TooManyUpvalues span))
+            (if b then captured (length (ctx .upvalues)) (c.with-upvalues ctx (ctx .upvalues ++ (u ∷ []))) parents else failed
+            (TooManyUpvalues span))
         by-room true = record { levels = e; holds = omega (arith, measure .captures ctx u) }
         by-room false = tt
 
@@ -94,7 +95,8 @@ pub record Spent (held : CompilerCtx → ℕ) (finished : List ObjectFunction �
   pub levels : length (s .parents) + g ≤ most
   pub spent : spent held finished s ≤ k
 
-pub more : (held : CompilerCtx → ℕ) (finished : List ObjectFunction → ℕ) (most g k k′ : ℕ) (s : Compiler) → k ≤ k′ → Spent held finished most g k s →
+pub more : (held : CompilerCtx → ℕ) (finished : List ObjectFunction → ℕ) (most g k k′ : ℕ) (s : Compiler) → k ≤ k′ →
+    Spent held finished most g k s →
     Spent held finished most g k′ s
 more held finished most g k k′ s l i = record { levels = i .levels; spent = omega (arith, i .spent) }
 
@@ -154,7 +156,10 @@ module _ (held : CompilerCtx → ℕ) (finished : List ObjectFunction → ℕ) (
   pub begin-ctx : {g h : ℕ} (name arity depth : ℕ) (type : FunctionType) → g ≡ suc h → Does g h 0 (c.begin-ctx (c.new-ctx name arity type depth))
   unfolding c.begin-ctx
   begin-ctx name arity depth type up =
-      record { run = λ s k l i. record { levels = omega (arith, i .levels); spent = omega (arith, i .spent, measure .fresh name arity depth type) } }
+      record {
+        run =
+            λ s k l i. record { levels = omega (arith, i .levels); spent = omega (arith, i .spent, measure .fresh name arity depth type) };
+      }
 
   resolved : {g : ℕ} (f : Found) (outer : Resolved) (name : ℕ) (span : Span) (s : Compiler) (k : ℕ) → J g k s →
       Grown-if held pair (s .ctx) (s .parents) outer → Ends J Allowed top g (k + cost) (c.resolved f outer name span s)

@@ -11,12 +11,12 @@ use lib.Dec.{T, ltb, eqb, ltb→lt, nltb→le, eqb-refl}
 use Rattle.rules.specs.Base.{if_then_else_, position, le}
 use Rattle.rules.specs.declared.Span.{Span}
 use Rattle.rules.specs.declared.Refusal.{Refusal}
-use Rattle.rules.specs.declared.Refusal.the-variants.{TooManyUpvalues, CodeFull}
+use Rattle.rules.specs.declared.Refusal.the-variants.{CodeFull}
 use Rattle.rules.specs.Tree.{Stmts}
 use Rattle.rules.specs.Op as op
 use Rattle.rules.specs.Chunk.{Chunk, Constant, CN, CS, CF, Run, push-span, same-span, write-u8, Written, at-place, no-room, write-constant, written, same-constant, ObjectFunction}
 use Rattle.rules.specs.Compiler as c
-use Rattle.rules.specs.Compiler.{Compiler, CompilerCtx, Compile, Outcome, ok, err, go-on, Found, at-slot, uninitialized, missing, Resolved, captured, nowhere, failed, Upvalue, Local, FunctionType}
+use Rattle.rules.specs.Compiler.{Compiler, CompilerCtx, Compile, Outcome, ok, err, go-on, Upvalue, Local}
 use Rattle.rules.specs.Image as image
 use Rattle.rules.specs.Image.{image-bytes}
 use Rattle.rules.proofs.Tests.{both}
@@ -26,9 +26,12 @@ use Rattle.rules.proofs.Facts.{capture-length, initialize-length}
 use Rattle.rules.proofs.Trees.{Of-stmts, stmts-size}
 use Rattle.rules.proofs.Steps as steps
 use Rattle.rules.proofs.Steps.{Laws}
+use Rattle.rules.proofs.Held as open-ones
+use Rattle.rules.proofs.Held.{sum-of, times, Measure, spent, Spent, more}
 use Rattle.rules.proofs.Spends as spends
 use Rattle.rules.proofs.Spends.{Spends, Ends}
 use Rattle.rules.proofs.TreeBytes.{fitting}
+use Rattle.rules.proofs.Sizes.{emitted}
 
 -- ## Runs: bytes of one span in a row
 
@@ -49,7 +52,8 @@ unfolding push-span
 push-length [] span = omega arith
 push-length (run ∷ []) span = by-test (same-span (run .span) span && ltb (run .count) 255)
   where
-    by-test : (b : Bool) → length (if b then (record { span = run .span; count = run .count + 1 } ∷ []) else (run ∷ record { span = span; count = 1 } ∷ [])) ≤ 2
+    by-test : (b : Bool) →
+        length (if b then (record { span = run .span; count = run .count + 1 } ∷ []) else (run ∷ record { span = span; count = 1 } ∷ [])) ≤ 2
     by-test true = omega arith
     by-test false = omega arith
 push-length (run ∷ next ∷ runs) span = omega (arith, push-length (next ∷ runs) span)
@@ -71,8 +75,10 @@ push-last (run ∷ []) span = by-test (same-span (run .span) span) refl (ltb (ru
     by-test false e b e′ = (span-self span, omega arith)
 push-last (run ∷ next ∷ []) span = by-test (same-span (next .span) span && ltb (next .count) 255) (push-last (next ∷ []) span)
   where
-    by-test : (b : Bool) → Last-is span (if b then (record { span = next .span; count = next .count + 1 } ∷ []) else (next ∷ record { span = span; count = 1 } ∷ [])) →
-        Last-is span (run ∷ (if b then (record { span = next .span; count = next .count + 1 } ∷ []) else (next ∷ record { span = span; count = 1 } ∷ [])))
+    by-test : (b : Bool) →
+        Last-is span (if b then (record { span = next .span; count = next .count + 1 } ∷ []) else (next ∷ record { span = span; count = 1 } ∷ [])) →
+        Last-is span (run ∷ (if b then (record { span = next .span; count = next .count + 1 } ∷ []) else
+        (next ∷ record { span = span; count = 1 } ∷ [])))
     by-test true h = h
     by-test false h = h
 push-last (run ∷ next ∷ third ∷ runs) span = push-last (next ∷ third ∷ runs) span
@@ -84,14 +90,18 @@ push-used [] span h = absurd h
 push-used (run ∷ []) span h = by-test (same-span (run .span) span) (h .0) (ltb (run .count) 255) refl
   where
     by-test : (a : Bool) → T a → (b : Bool) → ltb (run .count) 255 ≡ b →
-        used (if a && b then (record { span = run .span; count = run .count + 1 } ∷ []) else (run ∷ record { span = span; count = 1 } ∷ [])) ≤ run .count + 1
+        used (if a && b then (record { span = run .span; count = run .count + 1 } ∷ []) else
+        (run ∷ record { span = span; count = 1 } ∷ [])) ≤ run .count + 1
     by-test true t true e = omega arith
     by-test true t false e = omega (arith, nltb→le (run .count) 255 (rw e tt))
     by-test false t b e = absurd t
 push-used (run ∷ next ∷ []) span h = by-test (same-span (next .span) span && ltb (next .count) 255) (push-used (next ∷ []) span h)
   where
-    by-test : (b : Bool) → used (if b then (record { span = next .span; count = next .count + 1 } ∷ []) else (next ∷ record { span = span; count = 1 } ∷ [])) ≤ next .count + 1 →
-        used (run ∷ (if b then (record { span = next .span; count = next .count + 1 } ∷ []) else (next ∷ record { span = span; count = 1 } ∷ []))) ≤ 255 + next .count + 1
+    by-test : (b : Bool) →
+        used (if b then (record { span = next .span; count = next .count + 1 } ∷ []) else
+        (next ∷ record { span = span; count = 1 } ∷ [])) ≤ next .count + 1 →
+        used (run ∷ (if b then (record { span = next .span; count = next .count + 1 } ∷ []) else
+        (next ∷ record { span = span; count = 1 } ∷ []))) ≤ 255 + next .count + 1
     by-test true h = omega arith
     by-test false h = omega arith
 push-used (run ∷ next ∷ third ∷ runs) span h = omega (arith, push-used (next ∷ third ∷ runs) span h)
@@ -156,7 +166,8 @@ weigh-all (f ∷ fs) = 19 + weighs (f .chunk) + weigh-all fs
 functions-length : (fs : List ObjectFunction) → length (image.join image.function-bytes fs) ≡ weigh-all fs
 unfolding image.join
 functions-length [] = refl
-functions-length (f ∷ fs) = omega (arith, function-length f, functions-length fs, length-append (image.function-bytes f) (image.join image.function-bytes fs))
+functions-length (f ∷ fs) =
+    omega (arith, function-length f, functions-length fs, length-append (image.function-bytes f) (image.join image.function-bytes fs))
 
 image-length : (fs : List ObjectFunction) → length (image-bytes fs) ≡ 6 + weigh-all fs
 unfolding image-bytes
@@ -171,19 +182,22 @@ weigh-end (g ∷ fs) f = omega (arith, weigh-end fs f)
 abbrev held : CompilerCtx → ℕ
 held x = weighs (x .chunk) + 3 * length (x .upvalues) + 12 * length (x .locals)
 
-abbrev held-all : List CompilerCtx → ℕ
-held-all [] = 0
-held-all (x ∷ xs) = held x + held-all xs
+measure : Measure held 3 12
+unfolding c.set-u16 constants-length image.join
+measure =
+    record {
+      captures = λ x u. omega (arith, length-append (x .upvalues) (u ∷ []));
+      marks = λ x name. omega (arith, capture-length name (x .locals));
+      declares = λ x local. omega arith;
+      defines = λ x. omega (arith, initialize-length (x .locals));
+      scopes = λ x depth. omega arith;
+      patches = λ x at n. simp length-set (omega arith);
+      fresh = λ name arity depth type. refl;
+    }
 
-abbrev spent : Compiler → ℕ
-spent s = held (s .ctx) + held-all (s .parents) + weigh-all (s .functions)
-
-record Spent (most g k : ℕ) (s : Compiler) : Type 0 where
-  levels : length (s .parents) + g ≤ most
-  spent : spent s ≤ k
-
-more : (most g k k′ : ℕ) (s : Compiler) → k ≤ k′ → Spent most g k s → Spent most g k′ s
-more most g k k′ s l i = record { levels = i .levels; spent = omega (arith, i .spent) }
+thrice : (n : ℕ) → times 3 n ≡ 3 * n
+thrice zero = refl
+thrice (suc n) = omega (arith, thrice n)
 
 -- any refusal will do
 abbrev Any : Refusal → Type 0
@@ -191,34 +205,31 @@ Any r = Unit {0}
 
 module _ (limit most top : ℕ) (nested : most ≤ 16) where
   abbrev J : ℕ → ℕ → Compiler → Type 0
-  J g k s = Spent most g k s
+  J g k s = Spent held weigh-all most g k s
 
   abbrev Does : {A : Type 0} → (g h n : ℕ) → Compile A → Type 0
   Does g h n m = Spends J Any top g h n m
 
   infixl 10 _>>=_
-  _>>=_ : {A B : Type 0} {g h i n n′ : ℕ} {m : Compile A} {f : A → Compile B} → Does g h n m → ((a : A) → Does h i n′ (f a)) → Does g i (n + n′) (c._>>=_ m f)
-  hm >>= hf = spends.bind J Any top (more most) hm hf
+  _>>=_ : {A B : Type 0} {g h i n n′ : ℕ} {m : Compile A} {f : A → Compile B} → Does g h n m → ((a : A) → Does h i n′ (f a)) →
+      Does g i (n + n′) (c._>>=_ m f)
+  hm >>= hf = spends.bind J Any top (more held weigh-all most) hm hf
 
   infixl 10 _>>_
   _>>_ : {A B : Type 0} {g h i n n′ : ℕ} {m : Compile A} {p : Compile B} → Does g h n m → Does h i n′ p → Does g i (n + n′) (c._>>_ m p)
-  hm >> hp = spends.follow J Any top (more most) hm hp
+  hm >> hp = spends.follow J Any top (more held weigh-all most) hm hp
 
-  -- a change of the current context that holds so much more
-  update : {g : ℕ} (n : ℕ) (f : CompilerCtx → CompilerCtx) → ((x : CompilerCtx) → held (f x) ≤ held x + n) → Does g g n (c.update-ctx f)
-  unfolding c.update-ctx
-  update n f h = record { run = λ s k l i. record { levels = i .levels; spent = omega (arith, i .spent, h (s .ctx)) } }
+  few : (n : ℕ) → n ≤ most → times 3 n ≤ 48
+  few n l = omega (arith, thrice n)
 
   -- ## What writes
-
-  abbrev emitted : Compiler → ℕ → Span → Compiler
-  emitted s b span = c.with-ctx s (c.with-chunk (s .ctx) (write-u8 (s .ctx .chunk) b span))
 
   emits : (s : Compiler) (b : ℕ) (span : Span) → After (λ _ t. t ≡ emitted s b span) (c.emit-u8 limit b span s)
   unfolding c.emit-u8 c._>>=_ c._>>_ go-on c.the c.need c.update-ctx
   emits s b span = by-test (ltb (c.open-code s) limit)
     where
-      by-test : (t : Bool) → After (λ _ t. t ≡ emitted s b span) (go-on (c.need t CodeFull s) (λ _. c.update-ctx (λ x. c.with-chunk x (write-u8 (x .chunk) b span))))
+      by-test : (t : Bool) →
+          After (λ _ t. t ≡ emitted s b span) (go-on (c.need t CodeFull s) (λ _. c.update-ctx (λ x. c.with-chunk x (write-u8 (x .chunk) b span))))
       by-test true = refl
       by-test false = tt
 
@@ -231,7 +242,7 @@ module _ (limit most top : ℕ) (nested : most ≤ 16) where
   Last span s = Last-is span (s .ctx .chunk .spans)
 
   record Both (span : Span) (g k : ℕ) (s : Compiler) : Type 0 where
-    spent : Spent most g k s
+    spent : Spent held weigh-all most g k s
     last : Last span s
 
   emit-last : {g : ℕ} (k b : ℕ) (span : Span) → Triple (J g k) (c.emit-u8 limit b span) (λ _. Both span g (k + 12))
@@ -266,7 +277,9 @@ module _ (limit most top : ℕ) (nested : most ≤ 16) where
   unfolding Placed write-constant written
   placed ch v = found (position (same-constant v) (ch .constants))
     where
-      added : (b : Bool) → Placed ch (if b then at-place (length (ch .constants)) (record { ops = ch .ops; constants = ch .constants ++ (v ∷ []); spans = ch .spans }) else no-room)
+      added : (b : Bool) →
+          Placed ch (if b then at-place (length (ch .constants))
+          (record { ops = ch .ops; constants = ch .constants ++ (v ∷ []); spans = ch .spans }) else no-room)
       added true = omega (arith, constants-more (ch .constants) v)
       added false = tt
 
@@ -274,14 +287,16 @@ module _ (limit most top : ℕ) (nested : most ≤ 16) where
       found (some place) = omega arith
       found none = added (ltb (length (ch .constants)) 256)
 
-  place-last : {g : ℕ} (s : Compiler) (k : ℕ) (w : Written) (span : Span) → J g k s → Placed (s .ctx .chunk) w → After (λ _. Both span g (k + 22)) (c.emit-place limit w span s)
+  place-last : {g : ℕ} (s : Compiler) (k : ℕ) (w : Written) (span : Span) → J g k s → Placed (s .ctx .chunk) w →
+      After (λ _. Both span g (k + 22)) (c.emit-place limit w span s)
   unfolding c.emit-place Placed c._>>_ go-on c.update-ctx c.refuse
   place-last {g} s k (at-place place ch) span i e =
       widen (c.emit-u8 limit place span (c.with-ctx s (c.with-chunk (s .ctx) ch)))
-      ((emit-last (k + 10) place span) .run (c.with-ctx s (c.with-chunk (s .ctx) ch)) (record { levels = i .levels; spent = omega (arith, i .spent) }))
+      ((emit-last (k + 10) place span) .run (c.with-ctx s (c.with-chunk (s .ctx) ch))
+      (record { levels = i .levels; spent = omega (arith, i .spent) }))
     where
       widen : (o : Outcome (Unit {0})) → After (λ _. Both span g (k + 10 + 12)) o → After (λ _. Both span g (k + 22)) o
-      widen (ok a t) h = record { spent = more most g (k + 10 + 12) (k + 22) t (omega arith) (h .spent); last = h .last }
+      widen (ok a t) h = record { spent = more held weigh-all most g (k + 10 + 12) (k + 22) t (omega arith) (h .spent); last = h .last }
       widen (err r) h = tt
   place-last s k no-room span i e = tt
 
@@ -296,7 +311,8 @@ module _ (limit most top : ℕ) (nested : most ≤ 16) where
 
   -- all that the pairs leave alone
   abbrev other : Compiler → ℕ
-  other s = constants-length (s .ctx .chunk .constants) + 3 * length (s .ctx .upvalues) + 12 * length (s .ctx .locals) + held-all (s .parents) + weigh-all (s .functions)
+  other s = constants-length (s .ctx .chunk .constants) + 3 * length (s .ctx .upvalues) + 12 * length (s .ctx .locals) + sum-of held
+      (s .parents) + weigh-all (s .functions)
 
   -- `n` bytes of this span have been written since
   record Since (span : Span) (s : Compiler) (n : ℕ) (t : Compiler) : Type 0 where
@@ -310,7 +326,8 @@ module _ (limit most top : ℕ) (nested : most ≤ 16) where
   unfolding write-u8
   since-byte span s n b = record { run = λ t i. by-outcome t i (c.emit-u8 limit b span t) (emits t b span) }
     where
-      by-outcome : (t : Compiler) → Since span s n t → (o : Outcome (Unit {0})) → After (λ _ u. u ≡ emitted t b span) o → After (λ _. Since span s (n + 1)) o
+      by-outcome : (t : Compiler) → Since span s n t → (o : Outcome (Unit {0})) → After (λ _ u. u ≡ emitted t b span) o →
+          After (λ _. Since span s (n + 1)) o
       by-outcome t i (ok a u) e =
           subst⁻¹ (λ (u : Compiler). Since span s (n + 1) u) e
           (record {
@@ -322,9 +339,11 @@ module _ (limit most top : ℕ) (nested : most ≤ 16) where
           })
       by-outcome t i (err r) e = tt
 
-  since-pairs : (span : Span) (s : Compiler) (us : List Upvalue) (n : ℕ) → Triple (Since span s n) (c.emit-upvalues limit us span) (λ _. Since span s (n + 2 * length us))
+  since-pairs : (span : Span) (s : Compiler) (us : List Upvalue) (n : ℕ) →
+      Triple (Since span s n) (c.emit-upvalues limit us span) (λ _. Since span s (n + 2 * length us))
   unfolding c.emit-upvalues
-  since-pairs span s [] n = keeps.so keeps.skip (λ _ t i. record { levels = i .levels; others = i .others; ops = omega (arith, i .ops); reach = omega (arith, i .reach); last = i .last })
+  since-pairs span s [] n = keeps.so keeps.skip
+      (λ _ t i. record { levels = i .levels; others = i .others; ops = omega (arith, i .ops); reach = omega (arith, i .reach); last = i .last })
   since-pairs span s (u ∷ us) n =
       keeps.so
       (keeps._>>_ (since-byte span s n (if u .is-local then 1 else 0))
@@ -332,7 +351,8 @@ module _ (limit most top : ℕ) (nested : most ≤ 16) where
       (λ _ t i. record { levels = i .levels; others = i .others; ops = omega (arith, i .ops); reach = omega (arith, i .reach); last = i .last })
 
   -- three for each pair, and a run
-  emit-upvalues : {g : ℕ} (k : ℕ) (us : List Upvalue) (span : Span) → Triple (Both span g k) (c.emit-upvalues limit us span) (λ _. J g (k + (11 + 3 * length us)))
+  emit-upvalues : {g : ℕ} (k : ℕ) (us : List Upvalue) (span : Span) →
+      Triple (Both span g k) (c.emit-upvalues limit us span) (λ _. J g (k + (11 + 3 * length us)))
   emit-upvalues {g} k us span =
       record {
         run =
@@ -340,7 +360,8 @@ module _ (limit most top : ℕ) (nested : most ≤ 16) where
             ((since-pairs span s us 0) .run s (record { levels = refl; others = refl; ops = omega arith; reach = omega arith; last = i .last }));
       }
     where
-      by-outcome : (s : Compiler) → Both span g k s → (o : Outcome (Unit {0})) → After (λ _. Since span s (0 + 2 * length us)) o → After (λ _. J g (k + (11 + 3 * length us))) o
+      by-outcome : (s : Compiler) → Both span g k s → (o : Outcome (Unit {0})) → After (λ _. Since span s (0 + 2 * length us)) o →
+          After (λ _. J g (k + (11 + 3 * length us))) o
       by-outcome s i (ok a t) h =
           record {
             levels = omega (arith, i .spent .levels, h .levels);
@@ -358,31 +379,18 @@ module _ (limit most top : ℕ) (nested : most ≤ 16) where
       by-outcome s i (err r) h = tt
 
   -- 45 beside the pairs: two bytes, a constant, and a run for the pairs
-  emit-closure : {g : ℕ} (k number : ℕ) (us : List Upvalue) (span : Span) → Triple (J g k) (c.emit-closure limit number us span) (λ _. J g (k + 12 + 22 + (11 + 3 * length us)))
+  emit-closure : {g : ℕ} (k number : ℕ) (us : List Upvalue) (span : Span) →
+      Triple (J g k) (c.emit-closure limit number us span) (λ _. J g (k + 12 + 22 + (11 + 3 * length us)))
   unfolding c.emit-closure
   emit-closure k number us span =
       keeps._>>_ (keeps.so (emit-last k op.CLOSURE span) (λ _ s h. h .spent))
       (keeps._>>_ (constant-last (k + 12) (CF number) span) (emit-upvalues (k + 12 + 22) us span))
 
-  -- ## Scopes and names
-
-  declare-local : {g : ℕ} (name : ℕ) (span : Span) → Does g g 12 (c.declare-local name span)
-  unfolding c.declare-local
-  declare-local name span = do
-    ctx ← spends.the J Any top (more most) _
-    spends.need J Any top (more most) _ _ tt
-    spends.need J Any top (more most) _ _ tt
-    update 12 _ (λ x. omega arith)
-
-  patch-jump : {g : ℕ} (at : ℕ) (span : Span) → Does g g 0 (c.patch-jump at span)
-  unfolding c.patch-jump c.code-length c.set-u16
-  patch-jump at span = do
-    size ← spends.the J Any top (more most) _
-    spends.need J Any top (more most) _ _ tt
-    update 0 _ (λ x. simp length-set (omega arith))
+  -- ## Scopes and functions
 
   -- a byte for each local that goes
-  pop-locals : {g : ℕ} (ls : List Local) (span : Span) (s : Compiler) (k : ℕ) → s .ctx .locals ≡ ls → J g k s → Ends J Any top g k (c.pop-locals limit ls span s)
+  pop-locals : {g : ℕ} (ls : List Local) (span : Span) (s : Compiler) (k : ℕ) → s .ctx .locals ≡ ls → J g k s →
+      Ends J Any top g k (c.pop-locals limit ls span s)
   unfolding c.pop-locals c._>>=_ c._>>_ go-on c.the c.done c.return c.emit-op c.update-ctx
   pop-locals [] span s k e i = i
   pop-locals {g} (x ∷ xs) span s k e i = by-depth (ltb (s .ctx .scope-depth) (x .depth)) (λ t e h. pop-locals xs span t k e h)
@@ -418,76 +426,17 @@ module _ (limit most top : ℕ) (nested : most ≤ 16) where
 
       ended : (s : Compiler) (k : ℕ) → J g k s → Ends J Any top g (k + 0) (c.pop-locals limit (s .ctx .locals) span (c.with-ctx s (lower (s .ctx))))
       ended s k i =
-          spends.ends-more J Any top (more most) g k (k + 0) (c.pop-locals limit (s .ctx .locals) span (c.with-ctx s (lower (s .ctx)))) (omega arith)
+          spends.ends-more J Any top (more held weigh-all most) g k (k + 0)
+          (c.pop-locals limit (s .ctx .locals) span (c.with-ctx s (lower (s .ctx)))) (omega arith)
           (pop-locals (s .ctx .locals) span (c.with-ctx s (lower (s .ctx))) k refl (record { levels = i .levels; spent = i .spent }))
 
-  -- a captured variable may be new in each open function but the script
-  record Grown (ctx : CompilerCtx) (parents : List CompilerCtx) (ctx′ : CompilerCtx) (parents′ : List CompilerCtx) : Type 0 where
-    levels : length parents′ ≡ length parents
-    spent : held ctx′ + held-all parents′ ≤ held ctx + held-all parents + 3 * length parents
-
-  abbrev Grown-if : CompilerCtx → List CompilerCtx → Resolved → Type 0
-  Grown-if ctx parents (captured idx ctx′ parents′) = Grown ctx parents ctx′ parents′
-  Grown-if ctx parents nowhere = Unit {0}
-  Grown-if ctx parents (failed r) = Unit {0}
-
-  added : (p : Option ℕ) (u : Upvalue) (span : Span) (ctx parent : CompilerCtx) (above : List CompilerCtx) (parents : List CompilerCtx) →
-      length parents ≡ suc (length above) → held-all parents ≤ held parent + held-all above + 3 * length above → Grown-if ctx (parent ∷ above) (c.added p u span ctx parents)
-  unfolding c.added
-  added (some place) u span ctx parent above parents e l = record { levels = e; spent = omega arith }
-  added none u span ctx parent above parents e l = by-room (ltb (length (ctx .upvalues)) 256)
-    where
-      by-room : (b : Bool) → Grown-if ctx (parent ∷ above) (if b then captured (length (ctx .upvalues)) (c.with-upvalues ctx (ctx .upvalues ++ (u ∷ []))) parents else failed (TooManyUpvalues span))
-      by-room true = record { levels = e; spent = omega (arith, length-append (ctx .upvalues) (u ∷ [])) }
-      by-room false = tt
-
-  through : (f : Found) (outer : Resolved) (name : ℕ) (span : Span) (ctx parent : CompilerCtx) (above : List CompilerCtx) → Grown-if parent above outer →
-      Grown-if ctx (parent ∷ above) (c.through f outer name span ctx parent above)
-  unfolding c.through c.add-upvalue
-  through (at-slot slot) outer name span ctx parent above o =
-      added _ (record { idx = slot; is-local = true }) span ctx parent above (c.with-locals parent (c.capture name (parent .locals)) ∷ above) refl
-      (omega (arith, capture-length name (parent .locals)))
-  through uninitialized outer name span ctx parent above o = tt
-  through missing (captured idx q qs) name span ctx parent above o = added _ (record { idx = idx; is-local = false }) span ctx parent above (q ∷ qs) (ap suc (o .levels)) (o .spent)
-  through missing nowhere name span ctx parent above o = tt
-  through missing (failed r) name span ctx parent above o = tt
-
-  resolve-upvalue : (name : ℕ) (span : Span) (ctx : CompilerCtx) (parents : List CompilerCtx) → Grown-if ctx parents (c.resolve-upvalue name span ctx parents)
-  unfolding c.resolve-upvalue
-  resolve-upvalue name span ctx [] = tt
-  resolve-upvalue name span ctx (p ∷ ps) = through (c.find-local name (p .locals)) (c.resolve-upvalue name span p ps) name span ctx p ps (resolve-upvalue name span p ps)
-
-  resolved : {g : ℕ} (f : Found) (outer : Resolved) (name : ℕ) (span : Span) (s : Compiler) (k : ℕ) → J g k s → Grown-if (s .ctx) (s .parents) outer →
-      Ends J Any top g (k + 48) (c.resolved f outer name span s)
-  unfolding c.resolved c._>>_ go-on c.put-ctxs c.return c.refuse
-  resolved (at-slot slot) outer name span s k i o = record { levels = i .levels; spent = omega (arith, i .spent) }
-  resolved uninitialized outer name span s k i o = tt
-  resolved missing (captured idx ctx parents) name span s k i o =
-      record { levels = omega (arith, i .levels, o .levels); spent = omega (arith, i .spent, o .spent, i .levels) }
-  resolved missing nowhere name span s k i o = record { levels = i .levels; spent = omega (arith, i .spent) }
-  resolved missing (failed r) name span s k i o = tt
-
-  resolve : {g : ℕ} (name : ℕ) (span : Span) → Does g g 48 (c.resolve name span)
-  unfolding c.resolve c._>>=_ go-on c.get
-  resolve name span =
-      record {
-        run =
-            λ s k l i. resolved (c.find-local name (s .ctx .locals)) (c.resolve-upvalue name span (s .ctx) (s .parents)) name span s k i
-            (resolve-upvalue name span (s .ctx) (s .parents));
-      }
-
-  -- ## Functions
-
-  begin-ctx : {g h : ℕ} (name arity depth : ℕ) (type : FunctionType) → g ≡ suc h → Does g h 0 (c.begin-ctx (c.new-ctx name arity type depth))
-  unfolding c.begin-ctx constants-length image.join
-  begin-ctx name arity depth type up = record { run = λ s k l i. record { levels = omega (arith, i .levels); spent = omega (arith, i .spent) } }
-
   -- what a closure leaves, where so much is left for it
-  closes : {g : ℕ} (k k′ number : ℕ) (us : List Upvalue) (span : Span) (t : Compiler) → k + (45 + 3 * length us) ≤ k′ → J g k t → Ends J Any top g k′ (c.emit-closure limit number us span t)
+  closes : {g : ℕ} (k k′ number : ℕ) (us : List Upvalue) (span : Span) (t : Compiler) → k + (45 + 3 * length us) ≤ k′ → J g k t →
+      Ends J Any top g k′ (c.emit-closure limit number us span t)
   closes {g} k k′ number us span t l i = by-outcome (c.emit-closure limit number us span t) ((emit-closure k number us span) .run t i)
     where
       by-outcome : (o : Outcome (Unit {0})) → After (λ _. J g (k + 12 + 22 + (11 + 3 * length us))) o → Ends J Any top g k′ o
-      by-outcome (ok a u) h = more most g (k + 12 + 22 + (11 + 3 * length us)) k′ u (omega arith) h
+      by-outcome (ok a u) h = more held weigh-all most g (k + 12 + 22 + (11 + 3 * length us)) k′ u (omega arith) h
       by-outcome (err r) h = tt
 
   back-to : {h : ℕ} (g : ℕ) (s : Compiler) (k : ℕ) (ps : List CompilerCtx) (span : Span) → s .parents ≡ ps → g ≡ suc h → g ≤ most → J h k s →
@@ -495,8 +444,8 @@ module _ (limit most top : ℕ) (nested : most ≤ 16) where
   unfolding c.back-to c.finish go-on
   back-to g s k [] span e up b i = closes k (k + 64) 0 [] span s (omega arith) (record { levels = omega (arith, ap length e); spent = i .spent })
   back-to g s k (p ∷ ps) span e up b i =
-      closes (spent t) (k + 64) (length (s .functions)) us span t
-      (omega (arith, i .spent, ap held-all e, weigh-end (s .functions) (c.finish (s .ctx))))
+      closes (spent held weigh-all t) (k + 64) (length (s .functions)) us span t
+      (omega (arith, i .spent, ap (sum-of held) e, weigh-end (s .functions) (c.finish (s .ctx))))
       (record { levels = omega (arith, i .levels, ap length e); spent = omega arith })
     where
       us : List Upvalue
@@ -518,20 +467,21 @@ module _ (limit most top : ℕ) (nested : most ≤ 16) where
         super-name = omega arith;
         _>>=_ = λ hm hf. hm >>= hf;
         _>>_ = λ hm hp. hm >> hp;
-        enough = λ hm b b′. spends.enough J Any top (more most) hm b′;
-        needs = λ b r o f. spends.needs J Any top (more most) b r tt f;
-        return = λ a. spends.return J Any top (more most) a;
-        the = λ f. spends.the J Any top (more most) f;
-        need = λ b r o. spends.need J Any top (more most) b r tt;
-        refuse = λ r o. spends.refuse J Any top (more most) r tt;
-        resolve = λ name span. resolve name span;
-        patch-jump = λ at span. patch-jump at span;
-        declare-local = λ name span. declare-local name span;
-        define-local = update 0 _ (λ x. omega (arith, initialize-length (x .locals)));
-        begin-scope = update 0 _ (λ x. omega arith);
-        push-class-ctx = λ b. spends.free J Any top (more most) (λ s k i. record { levels = i .levels; spent = i .spent });
-        pop-class-ctx = spends.free J Any top (more most) (λ s k i. record { levels = i .levels; spent = i .spent });
-        begin-ctx = λ name arity depth type up n a. begin-ctx name arity depth type (up .0);
+        enough = λ hm b b′. spends.enough J Any top (more held weigh-all most) hm b′;
+        needs = λ b r o f. spends.needs J Any top (more held weigh-all most) b r tt f;
+        return = λ a. spends.return J Any top (more held weigh-all most) a;
+        the = λ f. spends.the J Any top (more held weigh-all most) f;
+        need = λ b r o. spends.need J Any top (more held weigh-all most) b r tt;
+        refuse = λ r o. spends.refuse J Any top (more held weigh-all most) r tt;
+        resolve = λ name span. open-ones.resolve held weigh-all 3 12 measure most 48 few Any (λ r o. tt) top name span;
+        patch-jump = λ at span. open-ones.patch-jump held weigh-all 3 12 measure most 48 few Any (λ r o. tt) top at span;
+        declare-local = λ name span. open-ones.declare-local held weigh-all 3 12 measure most 48 few Any (λ r o. tt) top name span;
+        define-local = open-ones.define-local held weigh-all 3 12 measure most 48 few Any (λ r o. tt) top;
+        begin-scope = open-ones.begin-scope held weigh-all 3 12 measure most 48 few Any (λ r o. tt) top;
+        push-class-ctx = λ b. open-ones.push-class-ctx held weigh-all 3 12 measure most 48 few Any (λ r o. tt) top b;
+        pop-class-ctx = open-ones.pop-class-ctx held weigh-all 3 12 measure most 48 few Any (λ r o. tt) top;
+        begin-ctx = λ name arity depth type up n a. open-ones.begin-ctx held weigh-all 3 12 measure most 48 few Any
+            (λ r o. tt) top name arity depth type (up .0);
         emit-u8 = λ b span n. emit-u8 b span;
         emit-constant = λ v span o n. emit-constant v span;
         end-scope = λ span n. end-scope span;
@@ -548,13 +498,15 @@ image-at-most limit most stmts nested o = by-outcome (c.compile-script limit stm
     top : ℕ
     top = 17 * stmts-size stmts + 24
 
-    compiled : Ends (λ g k s. Spent most g k s) Any top most (0 + top) (c.compile-script limit stmts c.new)
+    compiled : Ends (λ g k s. Spent held weigh-all most g k s) Any top most (0 + top) (c.compile-script limit stmts c.new)
     compiled =
-        (steps.compile-script (fitting most) limit limit (λ A g h n w m m′. Does limit most top nested {A = A} g h w m) (laws limit most top nested) stmts most o) .run c.new 0 (omega arith)
+        (steps.compile-script (fitting most) limit limit (λ A g h n w m m′. Does limit most top nested {A = A} g h w m)
+        (laws limit most top nested) stmts most o) .run c.new 0 (omega arith)
         (record { levels = omega arith; spent = omega arith })
 
-    by-outcome : (r : Outcome (Unit {0})) → Ends (λ g k s. Spent most g k s) Any top most (0 + top) r →
-        After (λ fs _. length (image-bytes fs) ≤ 17 * stmts-size stmts + 49) (go-on r (λ _. c.the (λ (s : Compiler). s .functions ++ (c.finish (s .ctx) ∷ []))))
+    by-outcome : (r : Outcome (Unit {0})) → Ends (λ g k s. Spent held weigh-all most g k s) Any top most (0 + top) r →
+        After (λ fs _. length (image-bytes fs) ≤ 17 * stmts-size stmts + 49)
+        (go-on r (λ _. c.the (λ (s : Compiler). s .functions ++ (c.finish (s .ctx) ∷ []))))
     by-outcome (ok a s) i =
         omega (arith, i .spent, weigh-end (s .functions) (c.finish (s .ctx)), image-length (s .functions ++ (c.finish (s .ctx) ∷ [])))
     by-outcome (err r) i = tt

@@ -10,12 +10,12 @@ use lib.ListN.{length, length-append, length-set}
 use lib.Dec.{T, ltb, ltb→lt, lt→ltb}
 use Rattle.rules.specs.Base.{if_then_else_, position}
 use Rattle.rules.specs.declared.Span.{Span}
-use Rattle.rules.specs.declared.Refusal.the-variants.{TooManyUpvalues, CodeFull}
+use Rattle.rules.specs.declared.Refusal.the-variants.{CodeFull}
 use Rattle.rules.specs.Tree.{Stmts}
 use Rattle.rules.specs.Op as op
 use Rattle.rules.specs.Chunk.{Chunk, Constant, write-u8, Written, at-place, no-room, write-constant, written, same-constant, ObjectFunction}
 use Rattle.rules.specs.Compiler as c
-use Rattle.rules.specs.Compiler.{Compiler, CompilerCtx, Compile, Outcome, ok, err, go-on, Found, at-slot, uninitialized, missing, Resolved, captured, nowhere, failed, Upvalue, Local, FunctionType}
+use Rattle.rules.specs.Compiler.{Compiler, CompilerCtx, Compile, Outcome, ok, err, go-on, Upvalue, Local}
 use Rattle.rules.proofs.Facts.{capture-length, initialize-length}
 use Rattle.rules.proofs.Trees.{Of-stmts, stmts-size}
 use Rattle.rules.proofs.Refusals.{Rusts}
@@ -206,7 +206,8 @@ module _ (limit most top : ℕ) (nested : most ≤ 16) (room : top ≤ limit) wh
       ended : (s : Compiler) (k : ℕ) → k + 0 ≤ top → J g k s →
           Ends J Rusts top g (k + 0) (c.pop-locals limit (s .ctx .locals) span (c.with-ctx s (lower (s .ctx))))
       ended s k l i =
-          spends.ends-more J Rusts top (more held finished most) g k (k + 0) (c.pop-locals limit (s .ctx .locals) span (c.with-ctx s (lower (s .ctx))))
+          spends.ends-more J Rusts top (more held finished most) g k (k + 0)
+          (c.pop-locals limit (s .ctx .locals) span (c.with-ctx s (lower (s .ctx))))
           (omega arith)
           (pop-locals (s .ctx .locals) span (c.with-ctx s (lower (s .ctx))) k refl (omega arith) (record { levels = i .levels; spent = i .spent }))
 
@@ -280,7 +281,8 @@ module _ (limit most top : ℕ) (nested : most ≤ 16) (room : top ≤ limit) wh
         begin-scope = open-ones.begin-scope held finished 2 1 measure most 32 few Rusts (λ r o. o) top;
         push-class-ctx = λ b. open-ones.push-class-ctx held finished 2 1 measure most 32 few Rusts (λ r o. o) top b;
         pop-class-ctx = open-ones.pop-class-ctx held finished 2 1 measure most 32 few Rusts (λ r o. o) top;
-        begin-ctx = λ name arity depth type up n a. open-ones.begin-ctx held finished 2 1 measure most 32 few Rusts (λ r o. o) top name arity depth type (up .0);
+        begin-ctx = λ name arity depth type up n a. open-ones.begin-ctx held finished 2 1 measure most 32 few Rusts
+            (λ r o. o) top name arity depth type (up .0);
         emit-u8 = λ b span n. emit-u8 b span;
         emit-constant = λ v span o n. emit-constant v span;
         end-scope = λ span n. end-scope span;

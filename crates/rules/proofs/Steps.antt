@@ -1,7 +1,7 @@
--- What each step of the compiler has, the compiler has: a fact `R from to cost m m′` of a step `m` under one code limit and the same step `m′` under
--- another, where `from` and `to` are levels of nested functions and `cost` counts bytes of code that the step may come to cost. From a law for each
--- small step, the law for every expression and statement whose leaves are as asked: at most six for each byte of its record.
--- Which jumps wait is not followed here: that is what `Keeps` does.
+-- What each step of the compiler has, the compiler has: a fact `R from to code image m m′` of a step `m` under one code limit and the same step `m′`
+-- under another, where `from` and `to` are levels of nested functions, and `code` and `image` count the bytes that the step may come to cost: of code,
+-- and of the image. From a law for each small step, the law for every expression and statement whose leaves are as asked, at most 6 and 17 for each
+-- byte of its record. Which jumps wait is not followed here: that is what `Keeps` does.
 use mathlib.Core.Bool.{Bool, true, false}
 use mathlib.Core.Option.{Option, none, some}
 use mathlib.Core.List.{List, [], _∷_}
@@ -224,7 +224,8 @@ module _ (l : Leaf) (limit limit′ : ℕ) (R : (A : Type 0) → (from to : l .l
       classes ← the _
       innermost-has-super classes _
 
-    compile-super : {g : l .level} (name : ℕ) (span : Span) → l .name name → l .span span → Has g g 70 198 (λ limit. c.compile-super limit name span)
+    compile-super : {g : l .level} (name : ℕ) (span : Span) → l .name name → l .span span →
+        Has g g 70 198 (λ limit. c.compile-super limit name span)
     unfolding c.compile-super
     compile-super name span n s = do
       need-super _
@@ -258,7 +259,8 @@ module _ (l : Leaf) (limit limit′ : ℕ) (R : (A : Type 0) → (from to : l .l
           emit-invoke _ name _ _ n s)
         (omega arith) (omega arith)
 
-    call-value : {g : l .level} {n k w v : ℕ} {callee callee′ args args′ : Compile (Unit {0})} (count : ℕ) (span : Span) → R _ g g n w callee callee′ →
+    call-value : {g : l .level} {n k w v : ℕ} {callee callee′ args args′ : Compile (Unit {0})} (count : ℕ) (span : Span) →
+        R _ g g n w callee callee′ →
         R _ g g k v args args′ → l .span span →
         R _ g g (n + k + 72) (w + v + 204) (c.call-value limit callee args count span) (c.call-value limit′ callee′ args′ count span)
     unfolding c.call-value
@@ -330,7 +332,8 @@ module _ (l : Leaf) (limit limit′ : ℕ) (R : (A : Type 0) → (from to : l .l
       compile-call (ExprSet _ _ _ _) n span hc ha o s = call-value n span hc ha s
       compile-call (ExprVar _ _) n span hc ha o s = call-value n span hc ha s
 
-      pub compile-exprs : (es : Exprs) {g : l .level} → Of-exprs l es → Has g g (6 * exprs-size es) (17 * exprs-size es) (λ limit. c.compile-exprs limit es)
+      pub compile-exprs : (es : Exprs) {g : l .level} → Of-exprs l es →
+          Has g g (6 * exprs-size es) (17 * exprs-size es) (λ limit. c.compile-exprs limit es)
       compile-exprs []ᵉ o = done
       compile-exprs (e ∷ᵉ es) o =
           enough
@@ -423,7 +426,8 @@ module _ (l : Leaf) (limit limit′ : ℕ) (R : (A : Type 0) → (from to : l .l
     end-superclass (some sup) = end-scope _ no-span
 
     for-cond : {g : l .level} (cond : Option Expr) (span : Span) → If-some (Of-expr l) cond → l .span span →
-        R _ g g (6 * option-size expr-size cond + 4) (17 * option-size expr-size cond + 48) (c.for-cond limit cond span) (c.for-cond limit′ cond span)
+        R _ g g (6 * option-size expr-size cond + 4) (17 * option-size expr-size cond + 48) (c.for-cond limit cond span)
+        (c.for-cond limit′ cond span)
     unfolding c.for-cond
     for-cond none span o s = enough (return none) (omega arith) (omega arith)
     for-cond (some cond) span o s =
@@ -453,7 +457,8 @@ module _ (l : Leaf) (limit limit′ : ℕ) (R : (A : Type 0) → (from to : l .l
       patch-jump _ _
       emit-op _ _ s
 
-    declare-params : {g : l .level} (ps : List ℕ) (span : Span) → R _ g g (length ps) (12 * length ps) (c.declare-params ps span) (c.declare-params ps span)
+    declare-params : {g : l .level} (ps : List ℕ) (span : Span) →
+        R _ g g (length ps) (12 * length ps) (c.declare-params ps span) (c.declare-params ps span)
     unfolding c.declare-params
     declare-params [] span = done
     declare-params (p ∷ ps) span =
@@ -580,7 +585,8 @@ module _ (l : Leaf) (limit limit′ : ℕ) (R : (A : Type 0) → (from to : l .l
             emit-op _ _ (o .0))
           (omega arith) (omega arith)
 
-      pub compile-stmts : (ts : Stmts) (g : l .level) → Of-stmts l ts g → Has g g (6 * stmts-size ts) (17 * stmts-size ts) (λ limit. c.compile-stmts limit ts)
+      pub compile-stmts : (ts : Stmts) (g : l .level) → Of-stmts l ts g →
+          Has g g (6 * stmts-size ts) (17 * stmts-size ts) (λ limit. c.compile-stmts limit ts)
       compile-stmts []ˢ g o = done
       compile-stmts (t ∷ˢ ts) g o =
           enough
@@ -594,7 +600,8 @@ module _ (l : Leaf) (limit limit′ : ℕ) (R : (A : Type 0) → (from to : l .l
       compile-function (fun name params body) h g type span o up s =
           enough (compile-function-with type name params span up (compile-stmts body h (o .2)) (o .0) s) (omega arith) (omega arith)
 
-      pub compile-methods : (ms : Methods) (g : l .level) → Of-methods l ms g → Has g g (6 * methods-size ms) (17 * methods-size ms) (λ limit. c.compile-methods limit ms)
+      pub compile-methods : (ms : Methods) (g : l .level) → Of-methods l ms g →
+          Has g g (6 * methods-size ms) (17 * methods-size ms) (λ limit. c.compile-methods limit ms)
       compile-methods []ᵐ g o = done
       compile-methods (method span f ms) g o =
           enough
@@ -604,7 +611,8 @@ module _ (l : Leaf) (limit limit′ : ℕ) (R : (A : Type 0) → (from to : l .l
             compile-methods ms g (o .4))
           (omega arith) (omega arith)
 
-    pub compile-script : (ts : Stmts) (g : l .level) → Of-stmts l ts g → Has g g (6 * stmts-size ts + 2) (17 * stmts-size ts + 24) (λ limit. c.compile-script limit ts)
+    pub compile-script : (ts : Stmts) (g : l .level) → Of-stmts l ts g →
+        Has g g (6 * stmts-size ts + 2) (17 * stmts-size ts + 24) (λ limit. c.compile-script limit ts)
     unfolding c.compile-script
     compile-script ts g o =
         enough
