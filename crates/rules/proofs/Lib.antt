@@ -22,7 +22,9 @@ pub mod Widths
 pub mod Accepted
 pub mod Agrees
 pub mod Room
+pub mod Held
 pub mod Sizes
+pub mod ImageSizes
 pub mod CodeNeed
 pub mod Exactly
 pub mod Bounds

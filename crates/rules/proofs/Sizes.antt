@@ -4,23 +4,25 @@ use mathlib.Core.Path.{_≡_, refl, ap, subst⁻¹}
 use mathlib.Core.Bool.{Bool, true, false}
 use mathlib.Core.Option.{Option, none, some}
 use mathlib.Core.List.{List, [], _∷_, _++_}
-use Prim.Native.Nat.{ℕ, suc, _+_, _-_, _*_, _≤_, _<_}
+use Prim.Native.Nat.{ℕ, zero, suc, _+_, _-_, _*_, _≤_, _<_}
 use native.Mathlib.Omega.{arith}
 use lib.ListN.{length, length-append, length-set}
 use lib.Dec.{T, ltb, ltb→lt, lt→ltb}
 use Rattle.rules.specs.Base.{if_then_else_, position}
 use Rattle.rules.specs.declared.Span.{Span}
-use Rattle.rules.specs.declared.Refusal.the-variants.{TooManyUpvalues, CodeFull}
+use Rattle.rules.specs.declared.Refusal.the-variants.{CodeFull}
 use Rattle.rules.specs.Tree.{Stmts}
 use Rattle.rules.specs.Op as op
 use Rattle.rules.specs.Chunk.{Chunk, Constant, write-u8, Written, at-place, no-room, write-constant, written, same-constant, ObjectFunction}
 use Rattle.rules.specs.Compiler as c
-use Rattle.rules.specs.Compiler.{Compiler, CompilerCtx, Compile, Outcome, ok, err, go-on, Found, at-slot, uninitialized, missing, Resolved, captured, nowhere, failed, Upvalue, Local, FunctionType}
+use Rattle.rules.specs.Compiler.{Compiler, CompilerCtx, Compile, Outcome, ok, err, go-on, Upvalue, Local}
 use Rattle.rules.proofs.Facts.{capture-length, initialize-length}
 use Rattle.rules.proofs.Trees.{Of-stmts, stmts-size}
 use Rattle.rules.proofs.Refusals.{Rusts}
 use Rattle.rules.proofs.Steps as steps
 use Rattle.rules.proofs.Steps.{Laws}
+use Rattle.rules.proofs.Held as open-ones
+use Rattle.rules.proofs.Held.{sum-of, times, Measure, spent, Spent, more}
 use Rattle.rules.proofs.Spends as spends
 use Rattle.rules.proofs.Spends.{Spends, Ends}
 use Rattle.rules.proofs.TreeBytes.{fitting}
@@ -56,17 +58,10 @@ byte-full limit s b span l = by-test (ltb (c.open-code s) limit) (λ t. omega (a
 abbrev held : CompilerCtx → ℕ
 held x = length (x .chunk .ops) + 2 * length (x .upvalues) + length (x .locals)
 
-abbrev held-all : List CompilerCtx → ℕ
-held-all [] = 0
-held-all (x ∷ xs) = held x + held-all xs
-
 -- a finished function counts one more than its code
 abbrev pub finished : List ObjectFunction → ℕ
 finished [] = 0
 finished (f ∷ fs) = 1 + length (f .chunk .ops) + finished fs
-
-abbrev spent : Compiler → ℕ
-spent s = held (s .ctx) + held-all (s .parents) + finished (s .functions)
 
 pub finished-end : (fs : List ObjectFunction) (f : ObjectFunction) → finished (fs ++ (f ∷ [])) ≡ finished fs + 1 + length (f .chunk .ops)
 finished-end [] f = omega arith
@@ -79,25 +74,35 @@ unfolding c.open-code
 open-code-step s x p ps = refl
 
 open-code-of : (s : Compiler) (x : CompilerCtx) (ps : List CompilerCtx) →
-    c.open-code (c.with-ctxs s x ps) + length (x .locals) ≤ held x + held-all ps
+    c.open-code (c.with-ctxs s x ps) + length (x .locals) ≤ held x + sum-of held ps
 unfolding c.open-code
 open-code-of s x [] = omega arith
 open-code-of s x (p ∷ ps) = omega (arith, open-code-of s p ps, open-code-step s x p ps)
 
-open-code-held : (s : Compiler) → c.open-code s + length (s .ctx .locals) ≤ spent s
+open-code-held : (s : Compiler) → c.open-code s + length (s .ctx .locals) ≤ spent held finished s
 open-code-held s = omega (arith, open-code-of s (s .ctx) (s .parents))
 
-record Spent (most g k : ℕ) (s : Compiler) : Type 0 where
-  levels : length (s .parents) + g ≤ most
-  spent : spent s ≤ k
+measure : Measure held 2 1
+unfolding c.set-u16
+measure =
+    record {
+      captures = λ x u. omega (arith, length-append (x .upvalues) (u ∷ []));
+      marks = λ x name. omega (arith, capture-length name (x .locals));
+      declares = λ x local. omega arith;
+      defines = λ x. omega (arith, initialize-length (x .locals));
+      scopes = λ x depth. omega arith;
+      patches = λ x at n. simp length-set (omega arith);
+      fresh = λ name arity depth type. refl;
+    }
 
-more : (most g k k′ : ℕ) (s : Compiler) → k ≤ k′ → Spent most g k s → Spent most g k′ s
-more most g k k′ s l i = record { levels = i .levels; spent = omega (arith, i .spent) }
+twice : (n : ℕ) → times 2 n ≡ 2 * n
+twice zero = refl
+twice (suc n) = omega (arith, twice n)
 
 -- `top` is all that may be spent, and the code limit is no less
 module _ (limit most top : ℕ) (nested : most ≤ 16) (room : top ≤ limit) where
   abbrev J : ℕ → ℕ → Compiler → Type 0
-  J g k s = Spent most g k s
+  J g k s = Spent held finished most g k s
 
   abbrev Does : {A : Type 0} → (g h n : ℕ) → Compile A → Type 0
   Does g h n m = Spends J Rusts top g h n m
@@ -105,19 +110,17 @@ module _ (limit most top : ℕ) (nested : most ≤ 16) (room : top ≤ limit) wh
   infixl 10 _>>=_
   _>>=_ : {A B : Type 0} {g h i n n′ : ℕ} {m : Compile A} {f : A → Compile B} → Does g h n m → ((a : A) → Does h i n′ (f a)) →
       Does g i (n + n′) (c._>>=_ m f)
-  hm >>= hf = spends.bind J Rusts top (more most) hm hf
+  hm >>= hf = spends.bind J Rusts top (more held finished most) hm hf
 
   infixl 10 _>>_
   _>>_ : {A B : Type 0} {g h i n n′ : ℕ} {m : Compile A} {p : Compile B} → Does g h n m → Does h i n′ p → Does g i (n + n′) (c._>>_ m p)
-  hm >> hp = spends.follow J Rusts top (more most) hm hp
+  hm >> hp = spends.follow J Rusts top (more held finished most) hm hp
 
   enough : {A : Type 0} {g h n n′ : ℕ} {m : Compile A} → Does g h n m → n ≤ n′ → Does g h n′ m
-  enough h b = spends.enough J Rusts top (more most) h b
+  enough h b = spends.enough J Rusts top (more held finished most) h b
 
-  -- a change of the current context that holds so much more
-  update : {g : ℕ} (n : ℕ) (f : CompilerCtx → CompilerCtx) → ((x : CompilerCtx) → held (f x) ≤ held x + n) → Does g g n (c.update-ctx f)
-  unfolding c.update-ctx
-  update n f h = record { run = λ s k l i. record { levels = i .levels; spent = omega (arith, i .spent, h (s .ctx)) } }
+  few : (n : ℕ) → n ≤ most → times 2 n ≤ 32
+  few n l = omega (arith, twice n)
 
   -- ## What writes
 
@@ -164,22 +167,7 @@ module _ (limit most top : ℕ) (nested : most ≤ 16) (room : top ≤ limit) wh
   unfolding c.emit-constant c._>>=_ go-on c.the
   emit-constant v span = record { run = λ s k l i. emit-place s k (write-constant (s .ctx .chunk) v) span i l (placed (s .ctx .chunk) v) }
 
-  -- ## Scopes and names
-
-  declare-local : {g : ℕ} (name : ℕ) (span : Span) → Does g g 1 (c.declare-local name span)
-  unfolding c.declare-local
-  declare-local name span = do
-    ctx ← spends.the J Rusts top (more most) _
-    spends.need J Rusts top (more most) _ _ tt
-    spends.need J Rusts top (more most) _ _ tt
-    update 1 _ (λ x. omega arith)
-
-  patch-jump : {g : ℕ} (at : ℕ) (span : Span) → Does g g 0 (c.patch-jump at span)
-  unfolding c.patch-jump c.code-length c.set-u16
-  patch-jump at span = do
-    size ← spends.the J Rusts top (more most) _
-    spends.need J Rusts top (more most) _ _ tt
-    update 0 _ (λ x. simp length-set (omega arith))
+  -- ## Scopes and functions
 
   -- a byte for each local that goes
   pop-locals : {g : ℕ} (ls : List Local) (span : Span) (s : Compiler) (k : ℕ) → s .ctx .locals ≡ ls → k ≤ top → J g k s →
@@ -210,7 +198,7 @@ module _ (limit most top : ℕ) (nested : most ≤ 16) (room : top ≤ limit) wh
   end-scope : {g : ℕ} (span : Span) → Does g g 0 (c.end-scope limit span)
   unfolding c.end-scope c._>>=_ c._>>_ go-on c.the c.update-ctx
   end-scope {g} span =
-      spends.enough J Rusts top (more most) {n = 0} (record { run = λ s k l i. ended s k l i }) (omega arith)
+      spends.enough J Rusts top (more held finished most) {n = 0} (record { run = λ s k l i. ended s k l i }) (omega arith)
     where
       lower : CompilerCtx → CompilerCtx
       lower x = c.with-scope-depth x (x .scope-depth - 1)
@@ -218,82 +206,14 @@ module _ (limit most top : ℕ) (nested : most ≤ 16) (room : top ≤ limit) wh
       ended : (s : Compiler) (k : ℕ) → k + 0 ≤ top → J g k s →
           Ends J Rusts top g (k + 0) (c.pop-locals limit (s .ctx .locals) span (c.with-ctx s (lower (s .ctx))))
       ended s k l i =
-          spends.ends-more J Rusts top (more most) g k (k + 0) (c.pop-locals limit (s .ctx .locals) span (c.with-ctx s (lower (s .ctx))))
+          spends.ends-more J Rusts top (more held finished most) g k (k + 0)
+          (c.pop-locals limit (s .ctx .locals) span (c.with-ctx s (lower (s .ctx))))
           (omega arith)
           (pop-locals (s .ctx .locals) span (c.with-ctx s (lower (s .ctx))) k refl (omega arith) (record { levels = i .levels; spent = i .spent }))
 
-  -- a captured variable may be new in each open function but the script
-  record Grown (ctx : CompilerCtx) (parents : List CompilerCtx) (ctx′ : CompilerCtx) (parents′ : List CompilerCtx) : Type 0 where
-    levels : length parents′ ≡ length parents
-    spent : held ctx′ + held-all parents′ ≤ held ctx + held-all parents + 2 * length parents
-
-  abbrev Grown-if : CompilerCtx → List CompilerCtx → Resolved → Type 0
-  Grown-if ctx parents (captured idx ctx′ parents′) = Grown ctx parents ctx′ parents′
-  Grown-if ctx parents nowhere = Unit {0}
-  Grown-if ctx parents (failed r) = Rusts r
-
-  added : (p : Option ℕ) (u : Upvalue) (span : Span) (ctx parent : CompilerCtx) (above : List CompilerCtx) (parents : List CompilerCtx) →
-      length parents ≡ suc (length above) → held-all parents ≤ held parent + held-all above + 2 * length above → Grown-if ctx (parent ∷ above)
-      (c.added p u span ctx parents)
-  unfolding c.added
-  added (some place) u span ctx parent above parents e l = record { levels = e; spent = omega arith }
-  added none u span ctx parent above parents e l = by-room (ltb (length (ctx .upvalues)) 256)
-    where
-      by-room : (b : Bool) →
-          Grown-if ctx (parent ∷ above)
-          (if b then captured (length (ctx .upvalues)) (c.with-upvalues ctx (ctx .upvalues ++ (u ∷ []))) parents else failed (TooManyUpvalues span))
-      by-room true = record { levels = e; spent = omega (arith, length-append (ctx .upvalues) (u ∷ [])) }
-      by-room false = tt
-
-  through : (f : Found) (outer : Resolved) (name : ℕ) (span : Span) (ctx parent : CompilerCtx) (above : List CompilerCtx) →
-      Grown-if parent above outer →
-      Grown-if ctx (parent ∷ above) (c.through f outer name span ctx parent above)
-  unfolding c.through c.add-upvalue
-  through (at-slot slot) outer name span ctx parent above o =
-      added _ (record { idx = slot; is-local = true }) span ctx parent above (c.with-locals parent (c.capture name (parent .locals)) ∷ above) refl
-      (omega (arith, capture-length name (parent .locals)))
-  through uninitialized outer name span ctx parent above o = tt
-  through missing (captured idx q qs) name span ctx parent above o =
-      added _ (record { idx = idx; is-local = false }) span ctx parent above (q ∷ qs) (ap suc (o .levels)) (o .spent)
-  through missing nowhere name span ctx parent above o = tt
-  through missing (failed r) name span ctx parent above o = o
-
-  resolve-upvalue : (name : ℕ) (span : Span) (ctx : CompilerCtx) (parents : List CompilerCtx) →
-      Grown-if ctx parents (c.resolve-upvalue name span ctx parents)
-  unfolding c.resolve-upvalue
-  resolve-upvalue name span ctx [] = tt
-  resolve-upvalue name span ctx (p ∷ ps) =
-      through (c.find-local name (p .locals)) (c.resolve-upvalue name span p ps) name span ctx p ps (resolve-upvalue name span p ps)
-
-  resolved : {g : ℕ} (f : Found) (outer : Resolved) (name : ℕ) (span : Span) (s : Compiler) (k : ℕ) → J g k s →
-      Grown-if (s .ctx) (s .parents) outer →
-      Ends J Rusts top g (k + 32) (c.resolved f outer name span s)
-  unfolding c.resolved c._>>_ go-on c.put-ctxs c.return c.refuse
-  resolved (at-slot slot) outer name span s k i o = record { levels = i .levels; spent = omega (arith, i .spent) }
-  resolved uninitialized outer name span s k i o = tt
-  resolved missing (captured idx ctx parents) name span s k i o =
-      record { levels = omega (arith, i .levels, o .levels); spent = omega (arith, i .spent, o .spent, i .levels) }
-  resolved missing nowhere name span s k i o = record { levels = i .levels; spent = omega (arith, i .spent) }
-  resolved missing (failed r) name span s k i o = o
-
-  resolve : {g : ℕ} (name : ℕ) (span : Span) → Does g g 32 (c.resolve name span)
-  unfolding c.resolve c._>>=_ go-on c.get
-  resolve name span =
-      record {
-        run =
-            λ s k l i. resolved (c.find-local name (s .ctx .locals)) (c.resolve-upvalue name span (s .ctx) (s .parents)) name span s k i
-            (resolve-upvalue name span (s .ctx) (s .parents));
-      }
-
-  -- ## Functions
-
-  begin-ctx : {g h : ℕ} (name arity depth : ℕ) (type : FunctionType) → g ≡ suc h → Does g h 0 (c.begin-ctx (c.new-ctx name arity type depth))
-  unfolding c.begin-ctx
-  begin-ctx name arity depth type up = record { run = λ s k l i. record { levels = omega (arith, i .levels); spent = omega (arith, i .spent) } }
-
   emit-upvalues : {g : ℕ} (us : List Upvalue) (span : Span) → Does g g (2 * length us) (c.emit-upvalues limit us span)
   unfolding c.emit-upvalues
-  emit-upvalues [] span = spends.done J Rusts top (more most)
+  emit-upvalues [] span = spends.done J Rusts top (more held finished most)
   emit-upvalues (u ∷ us) span =
       enough
       (do
@@ -318,12 +238,12 @@ module _ (limit most top : ℕ) (nested : most ≤ 16) (room : top ≤ limit) wh
       Ends J Rusts top g (k + 3) (go-on (c.back-to ps s) (λ (r : ℕ × List Upvalue). c.emit-closure limit (r .0) (r .1) span))
   unfolding c.back-to c.finish go-on
   back-to g s k [] span e up b l i =
-      spends.ends-more J Rusts top (more most) g (k + 2) (k + 3) (c.emit-closure limit 0 [] span s) (omega arith)
+      spends.ends-more J Rusts top (more held finished most) g (k + 2) (k + 3) (c.emit-closure limit 0 [] span s) (omega arith)
       ((emit-closure 0 [] span) .run s k (omega arith) (record { levels = omega (arith, ap length e); spent = i .spent }))
   back-to g s k (p ∷ ps) span e up b l i =
-      spends.ends-more J Rusts top (more most) g (spent t + (2 + 2 * length us)) (k + 3)
+      spends.ends-more J Rusts top (more held finished most) g (spent held finished t + (2 + 2 * length us)) (k + 3)
       (c.emit-closure limit (length (s .functions)) us span t) paid
-      ((emit-closure (length (s .functions)) us span) .run t (spent t) (omega (arith, paid))
+      ((emit-closure (length (s .functions)) us span) .run t (spent held finished t) (omega (arith, paid))
       (record { levels = omega (arith, i .levels, ap length e); spent = omega arith }))
     where
       us : List Upvalue
@@ -332,14 +252,14 @@ module _ (limit most top : ℕ) (nested : most ≤ 16) (room : top ≤ limit) wh
       t : Compiler
       t = record { ctx = p; parents = ps; class-ctx = s .class-ctx; functions = s .functions ++ (c.finish (s .ctx) ∷ []) }
 
-      paid : spent t + (2 + 2 * length us) ≤ k + 3
-      paid = omega (arith, i .spent, ap held-all e, finished-end (s .functions) (c.finish (s .ctx)))
+      paid : spent held finished t + (2 + 2 * length us) ≤ k + 3
+      paid = omega (arith, i .spent, ap (sum-of held) e, finished-end (s .functions) (c.finish (s .ctx)))
 
   end-function : {g h : ℕ} (span : Span) → (g ≡ suc h) × (g ≤ most) → Does h g 3 (c.end-function limit span)
   unfolding c.end-function c.end-ctx c._>>=_ go-on c.the
   end-function {g} span up = record { run = λ s k l i. back-to g s k (s .parents) span refl (up .0) (up .1) l i }
 
-  laws : Laws (fitting most) limit limit (λ A g h n m m′. Does {A = A} g h n m)
+  laws : Laws (fitting most) limit limit (λ A g h n w m m′. Does {A = A} g h n m)
   unfolding c.define-local c.begin-scope c.push-class-ctx c.pop-class-ctx
   laws =
       record {
@@ -348,20 +268,21 @@ module _ (limit most top : ℕ) (nested : most ≤ 16) (room : top ≤ limit) wh
         super-name = omega arith;
         _>>=_ = λ hm hf. hm >>= hf;
         _>>_ = λ hm hp. hm >> hp;
-        enough = λ hm b. enough hm b;
-        needs = λ b r o f. spends.needs J Rusts top (more most) b r o f;
-        return = λ a. spends.return J Rusts top (more most) a;
-        the = λ f. spends.the J Rusts top (more most) f;
-        need = λ b r o. spends.need J Rusts top (more most) b r o;
-        refuse = λ r o. spends.refuse J Rusts top (more most) r o;
-        resolve = λ name span. resolve name span;
-        patch-jump = λ at span. patch-jump at span;
-        declare-local = λ name span. declare-local name span;
-        define-local = update 0 _ (λ x. omega (arith, initialize-length (x .locals)));
-        begin-scope = update 0 _ (λ x. omega arith);
-        push-class-ctx = λ b. spends.free J Rusts top (more most) (λ s k i. record { levels = i .levels; spent = i .spent });
-        pop-class-ctx = spends.free J Rusts top (more most) (λ s k i. record { levels = i .levels; spent = i .spent });
-        begin-ctx = λ name arity depth type up n a. begin-ctx name arity depth type (up .0);
+        enough = λ hm b b′. enough hm b;
+        needs = λ b r o f. spends.needs J Rusts top (more held finished most) b r o f;
+        return = λ a. spends.return J Rusts top (more held finished most) a;
+        the = λ f. spends.the J Rusts top (more held finished most) f;
+        need = λ b r o. spends.need J Rusts top (more held finished most) b r o;
+        refuse = λ r o. spends.refuse J Rusts top (more held finished most) r o;
+        resolve = λ name span. open-ones.resolve held finished 2 1 measure most 32 few Rusts (λ r o. o) top name span;
+        patch-jump = λ at span. open-ones.patch-jump held finished 2 1 measure most 32 few Rusts (λ r o. o) top at span;
+        declare-local = λ name span. open-ones.declare-local held finished 2 1 measure most 32 few Rusts (λ r o. o) top name span;
+        define-local = open-ones.define-local held finished 2 1 measure most 32 few Rusts (λ r o. o) top;
+        begin-scope = open-ones.begin-scope held finished 2 1 measure most 32 few Rusts (λ r o. o) top;
+        push-class-ctx = λ b. open-ones.push-class-ctx held finished 2 1 measure most 32 few Rusts (λ r o. o) top b;
+        pop-class-ctx = open-ones.pop-class-ctx held finished 2 1 measure most 32 few Rusts (λ r o. o) top;
+        begin-ctx = λ name arity depth type up n a. open-ones.begin-ctx held finished 2 1 measure most 32 few Rusts
+            (λ r o. o) top name arity depth type (up .0);
         emit-u8 = λ b span n. emit-u8 b span;
         emit-constant = λ v span o n. emit-constant v span;
         end-scope = λ span n. end-scope span;
@@ -383,13 +304,13 @@ within limit most stmts nested o room = by-outcome (c.compile-script limit stmts
     top : ℕ
     top = 6 * stmts-size stmts + 2
 
-    compiled : Ends (λ g k s. Spent most g k s) Rusts top most (0 + top) (c.compile-script limit stmts c.new)
+    compiled : Ends (λ g k s. Spent held finished most g k s) Rusts top most (0 + top) (c.compile-script limit stmts c.new)
     compiled =
-        (steps.compile-script (fitting most) limit limit (λ A g h n m m′. Does limit most top nested room {A = A} g h n m)
+        (steps.compile-script (fitting most) limit limit (λ A g h n w m m′. Does limit most top nested room {A = A} g h n m)
         (laws limit most top nested room) stmts most o) .run c.new 0 (omega arith)
         (record { levels = omega arith; spent = omega arith })
 
-    by-outcome : (r : Outcome (Unit {0})) → Ends (λ g k s. Spent most g k s) Rusts top most (0 + top) r →
+    by-outcome : (r : Outcome (Unit {0})) → Ends (λ g k s. Spent held finished most g k s) Rusts top most (0 + top) r →
         Within (stmts-size stmts) (go-on r (λ _. c.the (λ (s : Compiler). s .functions ++ (c.finish (s .ctx) ∷ []))))
     by-outcome (ok a s) i = omega (arith, i .spent, finished-end (s .functions) (c.finish (s .ctx)))
     by-outcome (err r) i = i

@@ -400,6 +400,11 @@ module _ (most : ℕ) where
         first here (λ end e f.
         next (need (eqb end (length tree)) (TreeForm end) tt) (λ _ x x′. return ts (z .0, omega (arith, eqb→eq end (length tree) (x′ .0)))))))))))
 
+-- a list whose every place holds a byte, as a lent slice's does
+pub bytes-of : (bs : List ℕ) → ((i : ℕ) → getD bs i 0 < 256) → Bytes bs
+bytes-of [] h = tt
+bytes-of (b ∷ bs) h = (h 0, bytes-of bs (λ i. h (suc i)))
+
 -- every tree that is read from bytes fits, and its records are no longer than the file less its header
 pub record Fitting (tree : List ℕ) (funs : ℕ) (ts : Stmts) : Type 0 where
   pub parts : Of-stmts (fitting funs) ts funs
