@@ -1,0 +1,39 @@
+-- `expr_mark` meets its contract: what its `match` names is what the rules' table has. Assumes nothing.
+use mathlib.Core.Path.{refl, sym}
+use mathlib.Core.List.{[], _∷_}
+use mathlib.Core.Logic.{⊎-elim}
+use Rattle.rules.specs.Base.{lookup, all}
+use Rattle.rules.specs.TreeFile.{expr-marks}
+use Rattle.tree.proofs.Places.{cut, there}
+use Rattle.tree.proofs.Tables.{is-some, inside, outside, known-cut, known-is, known-not}
+use borrow.Author.Needs.{needs}
+use Rattle.tree.proofs.exprs.expr_mark.Statement.{statement}
+use Rattle.tree.proofs.exprs.expr_mark.Tie as tie
+
+has-requires : tie.Need-has-requires
+has-requires c κs = search needs
+
+returns : tie.Need-returns
+returns c = sym (known-cut expr-marks (c .before .before .before .args .tree .now) (c .before .before .before .args .at) (cut (c .before .has .ensures) (c .if1 .taken)))
+
+mark-at-requires : tie.Need-mark-at-requires
+mark-at-requires c κs = there (c .before .has .ensures) (c .if1 .left)
+
+returns-2 : tie.Need-returns-2
+unfolding all lookup expr-marks is-some
+returns-2 c = sym (known-is expr-marks (c .before .before .before .before .before .args .tree .now) (c .before .before .before .before .before .args .at) (there (c .before .before .before .has .ensures) (c .before .before .if1 .left)) (c .before .mark-at .ensures)
+    (inside expr-marks (0x4541 ∷ 0x4543 ∷ 0x4547 ∷ 0x4549 ∷ 0x454C ∷ 0x4550 ∷ 0x4553 ∷ 0x4555 ∷ []) (c .before .mark-at .result) refl (c .match .keys1)))
+
+returns-3 : tie.Need-returns-3
+unfolding all lookup expr-marks is-some
+returns-3 c = sym (known-is expr-marks (c .before .before .before .before .before .args .tree .now) (c .before .before .before .before .before .args .at) (there (c .before .before .before .has .ensures) (c .before .before .if1 .left)) (c .before .mark-at .ensures)
+    (inside expr-marks (0x4556 ∷ []) (c .before .mark-at .result) refl (c .match .keys2)))
+
+returns-4 : tie.Need-returns-4
+unfolding all expr-marks
+returns-4 c = sym (known-not expr-marks (c .before .before .before .before .before .args .tree .now) (c .before .before .before .before .before .args .at) (there (c .before .before .before .has .ensures) (c .before .before .if1 .left)) (c .before .mark-at .ensures)
+    (outside (0x4556 ∷ 0x4541 ∷ 0x4543 ∷ 0x4547 ∷ 0x4549 ∷ 0x454C ∷ 0x4550 ∷ 0x4553 ∷ 0x4555 ∷ []) expr-marks (c .before .mark-at .result) refl (⊎-elim (c .match .rest .1) (c .match .rest .0 .1))))
+
+pub expr-mark-spec : {M : Type 1} → statement M
+expr-mark-spec =
+    tie.close (tie.spec has-requires returns mark-at-requires returns-2 returns-3 returns-4)

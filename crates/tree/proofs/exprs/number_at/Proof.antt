@@ -1,0 +1,37 @@
+-- `number_at` meets its contract. Assumes nothing.
+use Prim.Native.Nat.{_+_}
+use lib.ListN.{length}
+use mathlib.Core.Path.{sym, ap, _∙_}
+use native.Mathlib.Omega.{arith}
+use Rattle.rules.specs.declared.Refusal.the-variants.{TreeForm}
+use Rattle.tree.specs.Places.{place}
+use Rattle.tree.proofs.Places.{cut, there}
+use Rattle.tree.proofs.Expressions.{number-cut, number-big, number-is}
+use borrow.Author.Needs.{needs}
+use Rattle.tree.proofs.exprs.number_at.Statement.{statement}
+use Rattle.tree.proofs.exprs.number_at.Tie as tie
+
+has-requires : tie.Need-has-requires
+has-requires c κs = search needs
+
+returns : tie.Need-returns
+unfolding place
+returns c = sym (ap place (number-cut (c .before .before .before .args .tree .now) (TreeForm (c .before .before .before .args .start)) (c .before .before .before .args .at) (cut (c .before .has .ensures) (c .if1 .taken))))
+
+u64-at-requires : tie.Need-u64-at-requires
+u64-at-requires c κs = there (c .before .has .ensures) (c .if1 .left)
+
+returns-2 : tie.Need-returns-2
+unfolding place
+returns-2 c = sym (ap place (number-big (c .before .before .before .before .before .args .tree .now) (TreeForm (c .before .before .before .before .before .args .start)) (c .before .before .before .before .before .args .at) (there (c .before .before .before .has .ensures) (c .before .before .if1 .left)) (omega (arith, c .before .u64-at .ensures, c .if2 .taken))))
+
+add-t9 : tie.Need-add-t9
+add-t9 c = omega (arith, there {a = c .before .before .before .before .before .args .at + 8} {b = length (c .before .before .before .before .before .args .tree .now)} (c .before .before .before .has .ensures) (c .before .before .if1 .left))
+
+returns-3 : tie.Need-returns-3
+unfolding place
+returns-3 c = sym (ap place (number-is (c .before .before .before .before .before .args .tree .now) (TreeForm (c .before .before .before .before .before .args .start)) (c .before .before .before .before .before .args .at) (there (c .before .before .before .has .ensures) (c .before .before .if1 .left)) (omega (arith, c .before .u64-at .ensures, c .if2 .left))))
+
+pub number-at-spec : {M : Type 1} → statement M
+number-at-spec =
+    tie.close (tie.spec has-requires returns u64-at-requires returns-2 add-t9 returns-3)

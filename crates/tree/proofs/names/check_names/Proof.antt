@@ -1,0 +1,63 @@
+-- `check_names` meets its contract. The loop: what is left comes to what there was, and the last name is where the code has it. Assumes nothing.
+use borrow.Author.Needs.{needs}
+use mathlib.Core.Path.{_≡_, refl, sym, ap, _∙_}
+use mathlib.Core.List.{List}
+use mathlib.Core.Option.{Option, none}
+use Prim.Native.Nat.{ℕ, _-_, _<_}
+use native.Mathlib.Omega.{arith}
+use Rattle.rules.specs.TreeFile.{read-names}
+use Rattle.tree.specs.Places.{place}
+use Rattle.tree.specs.Names.{last-name, LastFits}
+use Rattle.tree.proofs.Texts.{last-some, names-none, names-stop, names-go, was-bad}
+use Rattle.tree.proofs.names.check_names.Statement.{statement}
+use Rattle.tree.proofs.names.check_names.Tie as tie
+
+abbrev Inv-loop : tie.InvT-loop
+Inv-loop tree count at left₀ last₀ next₀ left last next = (place (read-names tree left (last-name tree last next) next) ≡ place (read-names tree count none at)) × (LastFits tree last next × (0 < next))
+
+abbrev μ-loop : tie.MeasureT-loop
+μ-loop tree count at left₀ last₀ next₀ left last next = left
+
+loop-holds : tie.Need-loop-holds Inv-loop μ-loop
+unfolding last-name
+loop-holds c = (refl, (record { start = λ h. absurd (omega arith); bound = c .before .pre .1 }, c .before .pre .0))
+
+check-name-requires : tie.Need-check-name-requires Inv-loop μ-loop
+check-name-requires c κs = c .before .loop .inv .1 .0
+
+enum-known-step : tie.Need-enum-known-step Inv-loop μ-loop
+enum-known-step c = search needs
+
+enum-told : tie.Need-enum-told Inv-loop μ-loop
+enum-told c = search needs
+
+returns : tie.Need-returns Inv-loop μ-loop
+returns c = c .enum-told .given .1 ∙ sym (names-stop (c .before .before .before .before .before .before .args .tree .now) (c .before .before .before .before .loop .left) (last-name (c .before .before .before .before .before .before .args .tree .now) (c .before .before .before .before .loop .last) (c .before .before .before .before .loop .next)) (c .before .before .before .before .loop .next) (c .before .before .before .loop-test .taken) (was-bad _ (c .before .before .check-name .ensures .whole) (c .enum-told .given .1))) ∙ c .before .before .before .before .loop .inv .0
+
+sub-left : tie.Need-sub-left Inv-loop μ-loop
+sub-left c = search needs
+
+loop-less : tie.Need-loop-less Inv-loop μ-loop
+loop-less c = search needs
+
+loop-again : tie.Need-loop-again Inv-loop μ-loop
+loop-again c = (ap (λ (l : Option (List ℕ)). place (read-names (c .before .before .before .before .before .before .before .args .tree .now) (c .before .before .before .before .before .loop .left - 1) l (c .before .step .given .0 .0))) (last-some (c .before .before .before .before .before .before .before .args .tree .now) (c .before .before .before .before .before .loop .next) _ (c .before .before .before .before .before .loop .inv .1 .1)) ∙ names-go (c .before .before .before .before .before .before .before .args .tree .now) (c .before .before .before .before .before .loop .left) (last-name (c .before .before .before .before .before .before .before .args .tree .now) (c .before .before .before .before .before .loop .last) (c .before .before .before .before .before .loop .next)) (c .before .before .before .before .before .loop .next) (c .before .before .before .before .loop-test .taken) (c .before .before .before .check-name .ensures .is _ (c .before .step .given .1)) ∙ c .before .before .before .before .before .loop .inv .0, (record { start = λ h. c .before .before .before .check-name .ensures .start _ (c .before .step .given .1); bound = c .before .before .before .check-name .ensures .bound _ (c .before .step .given .1) }, omega (arith, c .before .before .before .check-name .ensures .start _ (c .before .step .given .1))))
+
+returns-2 : tie.Need-returns-2 Inv-loop μ-loop
+returns-2 c = sym (names-none (c .before .before .before .args .tree .now) (c .before .loop .left) (last-name (c .before .before .before .args .tree .now) (c .before .loop .last) (c .before .loop .next)) (c .before .loop .next) (c .loop-test .left)) ∙ c .before .loop .inv .0
+
+pub check-names-spec : {M : Type 1} → statement M
+check-names-spec =
+    tie.close
+    (tie.spec
+    Inv-loop
+    μ-loop
+    loop-holds
+    check-name-requires
+    enum-known-step
+    enum-told
+    returns
+    sub-left
+    loop-less
+    loop-again
+    returns-2)

@@ -1,0 +1,60 @@
+-- `may_be_written` meets its contract. Assumes nothing.
+use mathlib.Core.Path.{sym, _∙_}
+use borrow.Author.Tests.{not-true, not-false}
+use Rattle.tree.proofs.Texts.{fixed-1, fixed-2, fixed-3, fixed-4}
+use borrow.Author.Needs.{needs}
+use Rattle.tree.proofs.names.may_be_written.Statement.{statement}
+use Rattle.tree.proofs.names.may_be_written.Tie as tie
+
+slice-aggregate-is-other : tie.Need-slice-aggregate-is-other
+slice-aggregate-is-other c = search needs
+
+is-other-requires : tie.Need-is-other-requires
+is-other-requires c κs = search needs
+
+returns : tie.Need-returns
+returns c = sym (fixed-1 (c .before .before .before .before .args .text .now) (c .before .before .before .before .args .text .now) (sym (c .before .is-other .ensures) ∙ not-true (c .before .is-other .result) (c .if1 .taken)))
+
+slice-aggregate-is-other-2 : tie.Need-slice-aggregate-is-other-2
+slice-aggregate-is-other-2 c = search needs
+
+is-other-requires-2 : tie.Need-is-other-requires-2
+is-other-requires-2 c κs = search needs
+
+returns-2 : tie.Need-returns-2
+returns-2 c = sym (fixed-2 (c .before .before .before .before .before .before .before .args .text .now) (c .before .before .before .before .before .before .before .args .text .now) (sym (c .before .before .before .before .is-other .ensures) ∙ not-false (c .before .before .before .before .is-other .result) (c .before .before .before .if1 .left)) (sym (c .before .is-other2 .ensures) ∙ not-true (c .before .is-other2 .result) (c .if2 .taken)))
+
+slice-aggregate-is-other-3 : tie.Need-slice-aggregate-is-other-3
+slice-aggregate-is-other-3 c = search needs
+
+is-other-requires-3 : tie.Need-is-other-requires-3
+is-other-requires-3 c κs = search needs
+
+returns-3 : tie.Need-returns-3
+returns-3 c = sym (fixed-3 (c .before .before .before .before .before .before .before .before .before .before .args .text .now) (c .before .before .before .before .before .before .before .before .before .before .args .text .now) (sym (c .before .before .before .before .before .before .before .is-other .ensures) ∙ not-false (c .before .before .before .before .before .before .before .is-other .result) (c .before .before .before .before .before .before .if1 .left)) (sym (c .before .before .before .before .is-other2 .ensures) ∙ not-false (c .before .before .before .before .is-other2 .result) (c .before .before .before .if2 .left)) (sym (c .before .is-other3 .ensures) ∙ not-true (c .before .is-other3 .result) (c .if3 .taken)))
+
+slice-aggregate-is-other-4 : tie.Need-slice-aggregate-is-other-4
+slice-aggregate-is-other-4 c = search needs
+
+is-other-requires-4 : tie.Need-is-other-requires-4
+is-other-requires-4 c κs = search needs
+
+returns-4 : tie.Need-returns-4
+returns-4 c = c .is-other4 .ensures ∙ sym (fixed-4 (c .before .before .before .before .before .before .before .before .before .before .before .before .args .text .now) (c .before .before .before .before .before .before .before .before .before .before .before .before .args .text .now) (sym (c .before .before .before .before .before .before .before .before .before .is-other .ensures) ∙ not-false (c .before .before .before .before .before .before .before .before .before .is-other .result) (c .before .before .before .before .before .before .before .before .if1 .left)) (sym (c .before .before .before .before .before .before .is-other2 .ensures) ∙ not-false (c .before .before .before .before .before .before .is-other2 .result) (c .before .before .before .before .before .if2 .left)) (sym (c .before .before .before .is-other3 .ensures) ∙ not-false (c .before .before .before .is-other3 .result) (c .before .before .if3 .left)))
+
+pub may-be-written-spec : {M : Type 1} → statement M
+may-be-written-spec =
+    tie.close
+    (tie.spec
+    slice-aggregate-is-other
+    is-other-requires
+    returns
+    slice-aggregate-is-other-2
+    is-other-requires-2
+    returns-2
+    slice-aggregate-is-other-3
+    is-other-requires-3
+    returns-3
+    slice-aggregate-is-other-4
+    is-other-requires-4
+    returns-4)

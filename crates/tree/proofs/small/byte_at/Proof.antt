@@ -1,0 +1,29 @@
+-- `byte_at` meets its contract. Assumes nothing.
+use mathlib.Core.Path.{ap}
+use native.Mathlib.Omega.{arith}
+use Rattle.tree.specs.declared.Field.the-variants.{Is}
+use Rattle.tree.proofs.Places.{cut, there, told, byte-cut, byte-big, byte-is}
+use borrow.Author.Needs.{needs}
+use Rattle.tree.proofs.small.byte_at.Statement.{statement}
+use Rattle.tree.proofs.small.byte_at.Tie as tie
+
+has-requires : tie.Need-has-requires
+has-requires c κs = search needs
+
+returns : tie.Need-returns
+returns c = byte-cut (c .before .before .before .args .tree .now) (c .before .before .before .args .most) (c .before .before .before .args .at) (cut (c .before .has .ensures) (c .if1 .taken))
+
+u8-at-requires : tie.Need-u8-at-requires
+u8-at-requires c κs = there (c .before .has .ensures) (c .if1 .left)
+
+returns-2 : tie.Need-returns-2
+returns-2 c = byte-big (c .before .before .before .before .before .args .tree .now) (c .before .before .before .before .before .args .most) (c .before .before .before .before .before .args .at) (there (c .before .before .before .has .ensures) (c .before .before .if1 .left)) (omega (arith, c .before .u8-at .ensures, c .if2 .taken))
+
+cast-t7 : tie.Need-cast-t7
+cast-t7 c = search needs
+
+returns-3 : tie.Need-returns-3
+returns-3 c = told (ap Is (c .before .u8-at .ensures)) (byte-is (c .before .before .before .before .before .args .tree .now) (c .before .before .before .before .before .args .most) (c .before .before .before .before .before .args .at) (there (c .before .before .before .has .ensures) (c .before .before .if1 .left)) (omega (arith, c .before .u8-at .ensures, c .if2 .left)))
+
+pub byte-at-spec : {M : Type 1} → statement M
+byte-at-spec = tie.close (tie.spec has-requires returns u8-at-requires returns-2 cast-t7 returns-3)

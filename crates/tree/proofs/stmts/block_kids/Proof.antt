@@ -1,0 +1,44 @@
+-- `block_kids` meets its contract. Assumes nothing.
+use native.Mathlib.Omega.{arith}
+use Rattle.rules.specs.declared.Refusal.the-variants.{TreeForm}
+use Rattle.tree.proofs.Statements.{moved, block-no, block-is}
+use borrow.Author.Needs.{needs}
+use Rattle.tree.proofs.stmts.block_kids.Statement.{statement}
+use Rattle.tree.proofs.stmts.block_kids.Tie as tie
+
+add-count-at : tie.Need-add-count-at
+add-count-at c = search needs
+
+count-at-requires : tie.Need-count-at-requires
+count-at-requires c κs = search needs
+
+enum-known-count : tie.Need-enum-known-count
+enum-known-count c = search needs
+
+enum-told : tie.Need-enum-told
+enum-told c = search needs
+
+returns : tie.Need-returns
+returns c = block-no (c .before .before .before .before .args .tree .now) (c .before .before .before .before .args .start) (c .before .before .before .before .args .funs) (c .before .before .count-at .ensures .no (c .enum-told .given .1) (TreeForm (c .before .before .before .before .args .start)))
+
+add-planned : tie.Need-add-planned
+add-planned c = search needs
+
+planned-requires : tie.Need-planned-requires
+planned-requires c κs = search needs
+
+returns-2 : tie.Need-returns-2
+returns-2 c = block-is (c .before .before .before .before .before .before .args .tree .now) (c .before .before .before .before .before .before .args .start) (c .before .before .before .before .before .before .args .funs) (moved (c .before .before .before .before .count-at .ensures .is _ (c .before .before .count .given .1) (TreeForm (c .before .before .before .before .before .before .args .start))) (omega arith)) (c .planned .ensures)
+
+pub block-kids-spec : {M : Type 1} → statement M
+block-kids-spec =
+    tie.close
+    (tie.spec
+    add-count-at
+    count-at-requires
+    enum-known-count
+    enum-told
+    returns
+    add-planned
+    planned-requires
+    returns-2)

@@ -1,0 +1,170 @@
+// Expressions. A record's own fields are read first, and then the expressions that they announce, one after the other.
+ghost use mathlib.Core.Path.{_≡_};
+ghost use Prim.Native.Nat.{_+_, _≤_};
+ghost use lib.ListN.{length};
+ghost use Rattle.rules.specs.declared.Refusal.the-variants.{TreeForm};
+ghost use Rattle.rules.specs.declared.Span.{Span};
+ghost use Rattle.rules.specs.Reader.{u16};
+ghost use Rattle.rules.specs.TreeFile.{expr-marks, name, literal-fields, read-expr};
+ghost use Rattle.tree.specs.Places.{place, row, below, known-mark};
+ghost use Rattle.tree.specs.Exprs.{announced, with-callee, number, Announces, Opens};
+use crate::Field;
+use crate::Opened;
+use crate::Step;
+use crate::small::byte_at;
+use crate::small::count_at;
+use crate::small::name_at;
+use rules::Refusal;
+
+// The mark of the expression that starts at `at`, or 0 where none does.
+fn expr_mark(tree: &[u8], at: usize) -> u16
+    ensures { λ r. ⌜ r ≡ known-mark expr-marks (now (tree .entry)) at ⌝ }
+{
+    if !fields::has(tree, at, 2) {
+        return 0;
+    }
+    let mark = fields::mark_at(tree, at);
+    match mark {
+        0x4541 | 0x4543 | 0x4547 | 0x4549 | 0x454C | 0x4550 | 0x4553 | 0x4555 => mark,
+        0x4556 => mark,
+        _ => 0,
+    }
+}
+
+// A number's bits: no sign, no NaN.
+const MAX_BITS: u64 = 0x7FF0000000000000;
+
+fn number_at(tree: &[u8], start: usize, at: usize) -> Step
+    ensures { λ r. ⌜ r ≡ place (number (now (tree .entry)) (TreeForm start) at) ⌝ }
+{
+    if !fields::has(tree, at, 8) {
+        return Step::Bad(Refusal::TreeForm(start));
+    }
+    if MAX_BITS < fields::u64_at(tree, at) {
+        return Step::Bad(Refusal::TreeForm(start));
+    }
+    Step::At(at + 8)
+}
+
+// What follows a literal's span: its kind, and the number or the string.
+fn literal_at(tree: &[u8], names: u16, start: usize) -> Step
+    requires { ⌜ start + 10 ≤ length (now tree) ⌝ }
+    ensures { λ r. ⌜ ((s : Span) → r ≡ place (literal-fields (now (tree .entry)) names (TreeForm start) s (start + 10))) ⌝ }
+{
+    let Field::Is(kind) = byte_at(tree, 5, start + 10) else {
+        return Step::Bad(Refusal::TreeForm(start));
+    };
+    if kind < 3 {
+        return Step::At(start + 11);
+    }
+    if kind == 3 {
+        return number_at(tree, start, start + 11);
+    }
+    let Field::Is(_) = name_at(tree, names, start + 11) else {
+        return Step::Bad(Refusal::TreeForm(start));
+    };
+    Step::At(start + 13)
+}
+
+// A name and then `kids` expressions.
+fn named(tree: &[u8], names: u16, start: usize, kids: usize) -> Opened
+    requires { ⌜ start + 10 ≤ length (now tree) ⌝ }
+    ensures { λ r. ⌜ r ≡ announced (place (name (now (tree .entry)) names (TreeForm start) (start + 10))) kids ⌝ }
+{
+    let Field::Is(_) = name_at(tree, names, start + 10) else {
+        return Opened::Bad(Refusal::TreeForm(start));
+    };
+    Opened::Exprs(start + 12, kids)
+}
+
+// An operator below `most` and then `kids` expressions.
+fn operated(tree: &[u8], most: u8, start: usize, kids: usize) -> Opened
+    requires { ⌜ start + 10 ≤ length (now tree) ⌝ }
+    ensures { λ r. ⌜ r ≡ announced (place (below (now (tree .entry)) most (TreeForm start) (start + 10))) kids ⌝ }
+{
+    let Field::Is(_) = byte_at(tree, most, start + 10) else {
+        return Opened::Bad(Refusal::TreeForm(start));
+    };
+    Opened::Exprs(start + 11, kids)
+}
+
+// The number of arguments, and then the callee and they.
+fn called(tree: &[u8], start: usize) -> Opened
+    requires { ⌜ start + 10 ≤ length (now tree) ⌝ }
+    ensures { λ r. ⌜ r ≡ with-callee (u16 (now (tree .entry)) (TreeForm start) (start + 10)) ⌝ }
+{
+    let Field::Is(count) = count_at(tree, start + 10) else {
+        return Opened::Bad(Refusal::TreeForm(start));
+    };
+    Opened::Exprs(start + 12, count + 1)
+}
+
+fn literal(tree: &[u8], names: u16, start: usize) -> Opened
+    requires { ⌜ start + 10 ≤ length (now tree) ⌝ }
+    ensures { λ r. ⌜ ((s : Span) → r ≡ announced (place (literal-fields (now (tree .entry)) names (TreeForm start) s (start + 10))) 0) ⌝ }
+{
+    match literal_at(tree, names, start) {
+        Step::Bad(r) => Opened::Bad(r),
+        Step::At(next) => Opened::Exprs(next, 0),
+    }
+}
+
+// What follows the span, by the mark.
+fn expr_kids(tree: &[u8], names: u16, mark: u16, start: usize) -> Opened
+    requires { ⌜ start + 10 ≤ length (now tree) ⌝ }
+    ensures { λ r. ⌜ Announces (now (tree .entry)) names mark start r ⌝ }
+{
+    match mark {
+        0x4541 | 0x4547 => named(tree, names, start, 1),
+        0x4543 => called(tree, start),
+        0x4549 => operated(tree, 12, start, 2),
+        0x4550 => operated(tree, 2, start, 1),
+        0x4553 => named(tree, names, start, 2),
+        0x4555 => named(tree, names, start, 0),
+        0x4556 => named(tree, names, start, 0),
+        _ => literal(tree, names, start),
+    }
+}
+
+// The record at `start`, but for the expressions in it: its mark, 4, and then the rest.
+fn open_expr(tree: &[u8], names: u16, depth: usize, start: usize) -> Opened
+    ensures { λ r. ⌜ Opens (now (tree .entry)) names depth start r ⌝ }
+{
+    let mark = expr_mark(tree, start);
+    if mark == 0 {
+        return Opened::Bad(Refusal::TreeForm(start));
+    }
+    if depth == 0 {
+        return Opened::Bad(Refusal::TreeTooDeep(start));
+    }
+    if !fields::has(tree, start, 10) {
+        return Opened::Bad(Refusal::TreeForm(start));
+    }
+    expr_kids(tree, names, mark, start)
+}
+
+pub fn check_expr(tree: &[u8], names: u16, depth: usize, at: usize) -> Step
+    ensures { λ r. ⌜ r ≡ place (read-expr (now (tree .entry)) names depth at) ⌝ }
+{
+    match open_expr(tree, names, depth, at) {
+        Opened::Bad(r) => Step::Bad(r),
+        Opened::Exprs(from, count) => check_exprs(tree, names, depth - 1, count, from),
+    }
+}
+
+// `count` expressions in a row.
+pub fn check_exprs(tree: &[u8], names: u16, depth: usize, count: usize, at: usize) -> Step
+    ensures { λ r. ⌜ r ≡ row (λ n. place (read-expr (now (tree .entry)) names depth n)) count at ⌝ }
+{
+    let mut left = count;
+    let mut next = at;
+    while 0 < left {
+        let step = check_expr(tree, names, depth, next);
+        let Step::At(past) = step else {
+            return step;
+        };
+        next = past;
+        left -= 1;
+    }
+    Step::At(next)
+}
