@@ -1,19 +1,17 @@
 -- What the rules' readers of fields give, by the bytes that are there, and what is there where they gave something. One law for every width:
 -- a field of two halves is whole where both are.
-use mathlib.Core.Path.{_≡_, refl, sym, ap, ap₂, _∙_}
+use mathlib.Core.Path.{_≡_, refl, sym, ap, _∙_}
 use mathlib.Core.Bool.{Bool, true, false}
 use mathlib.Core.List.{List}
-use mathlib.Core.Logic.{_⊎_, inl, inr, ⊎-elim}
-use Prim.Native.Nat.{ℕ, zero, suc, _+_, _*_, _≤_, _<_}
+use Prim.Native.Nat.{ℕ, _+_, _*_, _≤_, _<_}
 use native.Mathlib.Omega.{arith}
 use native.Mathlib.Nat.{add-assoc}
 use lib.ListN.{length, getD}
-use lib.Dec.{ltb, leb, eqb}
+use lib.Dec.{leb, eqb}
 use borrow.Author.Tests.{lt-ltb, le-ltb, eq-eqb, ne-eqb, leb-true, leb-false, eqb-true, eqb-false}
 use Rattle.rules.specs.Base.{if_then_else_}
-use Rattle.rules.specs.declared.Span.{Span}
 use Rattle.rules.specs.declared.Refusal.{Refusal}
-use Rattle.rules.specs.Reader.{Read, got, bad, Reader, go-on, _>>=_, _>>_, return, need, u8, u16, u32, u64, mark, mark-is, span}
+use Rattle.rules.specs.Reader.{Read, got, bad, Reader, go-on, _>>=_, return, need, u8, u16, u32, u64, mark, mark-is, span}
 use Rattle.fields.specs.Words.{word8, word16, word32, word64, letters, span-of}
 
 -- a field of `size` bytes, whose value is a function of its place

@@ -2,3 +2,4 @@
 pub mod Many
 pub mod Records
 pub mod Running
+pub mod Forward

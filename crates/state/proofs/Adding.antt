@@ -1,21 +1,20 @@
 -- The ways out of add_upvalue, as facts of lists.
-use Prim.Native.Nat.{ℕ, zero, suc, _+_, _*_, _-_, _/_, _%_, _≤_, _<_}
+use Prim.Native.Nat.{ℕ, _+_, _*_, _-_, _/_, _%_, _≤_, _<_}
 use native.Mathlib.Omega.{arith}
 use mathlib.Core.Path.{_≡_, refl, sym, ap, ap₂, _∙_, subst}
 use mathlib.Core.List.{List, [], _∷_, _++_}
 use mathlib.Core.Bool.{Bool, true, false, _&&_}
 use mathlib.Core.Option.{Option, some}
 use mathlib.Core.Option.{none as nothing}
-use lib.ListN.{length, getD, set, length-set}
-use lib.Dec.{eqb, ltb, lit<}
+use lib.ListN.{length, getD, set}
+use lib.Dec.{eqb, ltb}
 use lib.Arith.{digits-div, digits-mod}
-use native.Mathlib.Nat.{le-refl}
-use borrow.Author.Tests.{eq-eqb, ne-eqb, eqb-true, eqb-false, lt-ltb, le-ltb}
+use borrow.Author.Tests.{eq-eqb, eqb-true, eqb-false, lt-ltb, le-ltb}
 use Rattle.rules.specs.Base.{if_then_else_, position}
 use Rattle.rules.specs.declared.Span.{Span}
-use Rattle.rules.specs.Compiler.{Upvalue, CompilerCtx, Resolved, captured, with-upvalues, same-upvalue, added, add-upvalue}
-use Rattle.state.specs.Layout.{levels, vec, upvalueOf, upvaluesOf, ctxAt, Wf}
-use Rattle.state.specs.Contracts.{Kept, First, Added, up-of}
+use Rattle.rules.specs.Compiler.{Upvalue, CompilerCtx, captured, with-upvalues, same-upvalue, added, add-upvalue}
+use Rattle.state.specs.Layout.{levels, upvalueOf, upvaluesOf, ctxAt, Wf}
+use Rattle.state.specs.Contracts.{Kept, First, Added}
 use Rattle.state.specs.declared.Up.the-variants as up
 use Rattle.state.proofs.Laws.{length-row, position-at, position-none, push-vec, kept-set, kept-same, kept-off, kept-then, if-true, if-false, locals-same, chunk-same, ctx-paths, wf-count, wf-entry}
 
@@ -78,6 +77,7 @@ module _ (t : List ℕ) (l a b : ℕ) (bit : a < 2) (small : b < 256) (low : l <
         let e : position (same-upvalue u) (upvaluesOf t l) ≡ some r = position-at _ _ r _ h (λ j g. other _ (half j (omega arith)) (found .none j g)) (here _ (found .here h)) in
         record {
           does = λ span nm code spans ce re above. sym (by-place (some r) e span code spans ce re above);
+          some = λ e. let z : _≡_ {A = ℕ} 0 1 = cc in omega arith;
           kept = kept-same _ _ t;
           wf = wf;
         }
@@ -93,6 +93,7 @@ module _ (t : List ℕ) (l a b : ℕ) (bit : a < 2) (small : b < 256) (low : l <
       unfolding added ctxAt
       full m = record {
         does = λ span nm code spans ce re above. sym (by-place nothing none span code spans ce re above ∙ if-false _ _ _ (counted false (le-ltb _ _ m)));
+        some = λ e. let z : _≡_ {A = ℕ} 0 1 = cc in omega arith;
         kept = kept-same _ _ t;
         wf = wf;
       }
@@ -117,6 +118,7 @@ module _ (t : List ℕ) (l a b : ℕ) (bit : a < 2) (small : b < 256) (low : l <
           us (at 771 (λ p q. omega arith)) in
           record {
             does = λ span nm code spans ce re above. ap₂ (λ (n : ℕ) (x : CompilerCtx). captured n x above) (sym len) (ctx code spans ce re) ∙ sym (by-place nothing none span code spans ce re above ∙ if-true _ _ _ (counted true (lt-ltb _ _ m)));
+            some = λ e. let z : _≡_ {A = ℕ} 0 1 = cc in omega arith;
             kept = kp;
             wf = wf-count t₁ c (k + 1) (omega arith) (subst (λ (j : ℕ). Wf (set t j (a * 256 + b))) (omega arith) (wf-entry t l (257 + k) _ (omega arith) (λ p q. omega arith) (λ e. omega arith) (λ e. omega arith) (λ e. omega arith) (λ e. omega arith) wf));
           }

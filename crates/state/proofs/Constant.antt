@@ -1,5 +1,5 @@
 -- The ways out of write_constant, as facts of lists.
-use Prim.Native.Nat.{ℕ, zero, suc, _+_, _*_, _-_, _^_, _≤_, _<_}
+use Prim.Native.Nat.{ℕ, _+_, _*_, _-_, _^_, _≤_, _<_}
 use native.Mathlib.Omega.{arith}
 use mathlib.Core.Path.{_≡_, refl, sym, ap, ap₂, _∙_, subst}
 use mathlib.Core.Logic.{⊎-elim}
@@ -7,15 +7,15 @@ use mathlib.Core.List.{List, [], _∷_, _++_}
 use mathlib.Core.Bool.{Bool, true, false}
 use mathlib.Core.Option.{Option, some}
 use mathlib.Core.Option.{none as nothing}
-use lib.ListN.{length, getD, set, length-set}
-use lib.Dec.{eqb, ltb}
+use lib.ListN.{length, getD, set}
+use lib.Dec.{ltb}
 use borrow.Author.Tests.{eq-eqb, ne-eqb, lt-ltb, le-ltb}
-use Rattle.rules.specs.Base.{if_then_else_, position}
-use Rattle.rules.specs.Chunk.{Chunk, Constant, CN, CS, CF, same-constant, written, write-constant, Written, at-place, no-room}
+use Rattle.rules.specs.Base.{position}
+use Rattle.rules.specs.Chunk.{Constant, CN, CS, CF, same-constant, written, write-constant, at-place}
 use Rattle.state.specs.Layout.{levels, constantOf, constantsOf, chunkAt, Wf}
 use Rattle.state.specs.Contracts.{Kept, First, Constants}
 use Rattle.state.specs.declared.Constanted.the-variants as constanted
-use Rattle.state.proofs.Laws.{length-row, position-at, position-none, push-vec, kept-set, kept-same, kept-off, kept-then, if-true, if-false, lt-or-le, chunk-paths, wf-count, wf-plain}
+use Rattle.state.proofs.Laws.{length-row, position-at, position-none, push-vec, kept-set, kept-same, kept-then, if-true, if-false, lt-or-le, chunk-paths, wf-count, wf-plain}
 
 same-self : (c : Constant) → same-constant c c ≡ true
 unfolding same-constant

@@ -1,26 +1,22 @@
 -- The ways out of emit_u8, as facts of lists.
+-- ## The last run
+-- the newest run is the last
 use Prim.Native.Nat.{ℕ, zero, suc, _+_, _*_, _-_, _≤_, _<_}
 use native.Mathlib.Omega.{arith}
-use native.Mathlib.Nat.{not-suc-le-zero}
-use mathlib.Core.Path.{_≡_, refl, sym, ap, ap₂, _∙_, subst}
-use mathlib.Core.Logic.{⊎-elim}
+use mathlib.Core.Path.{_≡_, refl, sym, ap, ap₂, _∙_}
 use mathlib.Core.List.{List, [], _∷_, _++_}
 use mathlib.Core.Bool.{Bool, true, false, _&&_}
 use lib.ListN.{length, getD, set, length-set}
 use lib.Dec.{eqb, ltb}
 use lib.Seq.{getD-set-same, getD-set-other}
 use borrow.Author.Tests.{lt-ltb, le-ltb, ltb-true, eq-eqb, ne-eqb}
-use Rattle.rules.specs.Base.{if_then_else_}
 use Rattle.rules.specs.declared.Span.{Span}
-use Rattle.rules.specs.Chunk.{Chunk, Run, Constant, same-span, push-span, write-u8}
-use Rattle.state.specs.Layout.{levels, code-end-at, runs-end-at, image-at, row, constantsOf, codeFrom, runsFrom, codeEnd, runsEnd, runAt, chunkAt, Wf, Coded}
+use Rattle.rules.specs.Chunk.{Run, same-span, push-span, write-u8}
+use Rattle.state.specs.Layout.{levels, code-end-at, runs-end-at, image-at, row, codeFrom, runsFrom, codeEnd, runsEnd, runAt, chunkAt, Wf, Coded}
 use Rattle.state.specs.Contracts.{Kept, grows, last-grows, top-chunk, Wrote}
 use Rattle.state.specs.declared.Emitted.the-variants as emitted
-use Rattle.state.proofs.Laws.{row-cong, row-snoc, run-same, kept-set, kept-same, kept-off, kept-then, if-true, if-false, lt-or-le, constants-same, chunk-paths, wf-plain}
+use Rattle.state.proofs.Laws.{row-cong, row-snoc, run-same, kept-set, kept-same, kept-off, kept-then, if-true, if-false, constants-same, chunk-paths, wf-plain}
 
--- ## The last run
-
--- the newest run is the last
 push-last : (xs : List Run) (r : Run) (span : Span) → push-span (xs ++ (r ∷ [])) span ≡ xs ++ push-span (r ∷ []) span
 unfolding push-span
 push-last [] r span = refl

@@ -1,5 +1,5 @@
 -- Laws on rows, stacks and the table that the proofs share.
-use Prim.Native.Nat.{ℕ, zero, suc, _+_, _*_, _-_, _/_, _%_, _≤_, _<_}
+use Prim.Native.Nat.{ℕ, zero, suc, _+_, _*_, _-_, _≤_, _<_}
 use native.Mathlib.Omega.{arith}
 use native.Mathlib.Numerals.{add-one}
 use native.Mathlib.Nat.{eq-or-lt-of-le, not-suc-le-zero}
@@ -8,14 +8,13 @@ use mathlib.Core.Logic.{_⊎_, inl, inr, ⊎-elim}
 use mathlib.Core.List.{List, [], _∷_, _++_}
 use mathlib.Core.Bool.{Bool, true, false}
 use lib.ListN.{length, getD, set, length-set}
-use lib.Dec.{eqb}
 use lib.Seq.{getD-set-same, getD-set-other, set-out}
 use borrow.Author.Tests.{eq-eqb, ne-eqb}
-use mathlib.Core.Option.{Option, some}
+use mathlib.Core.Option.{some}
 use mathlib.Core.Option.{none as nothing}
 use Rattle.rules.specs.Base.{if_then_else_, position, one-on}
 use Rattle.rules.specs.Chunk.{Chunk, Run, Constant}
-use Rattle.rules.specs.Compiler.{Local, Upvalue, CompilerCtx, Found, at-slot, uninitialized, missing, find-local, capture}
+use Rattle.rules.specs.Compiler.{Local, Upvalue, at-slot, uninitialized, find-local, capture}
 use Rattle.state.specs.Layout.{levels, deepest, row, stack, vec, pile, localOf, upvalueOf, constantOf, type-of, runAt, localsOf, upvaluesOf, constantsOf, codeFrom, runsFrom, chunkAt, ctxAt, parentsOf, Wf}
 use Rattle.state.specs.Contracts.{Kept}
 

@@ -1,17 +1,16 @@
 -- Opening a context, and a store of the scope depth, as facts of lists.
-use Prim.Native.Nat.{ℕ, zero, suc, _+_, _*_, _-_, _≤_, _<_}
+use Prim.Native.Nat.{ℕ, suc, _+_, _*_, _-_, _≤_, _<_}
 use native.Mathlib.Omega.{arith}
 use native.Mathlib.Nat.{eq-or-lt-of-le}
 use mathlib.Core.Logic.{⊎-elim}
 use mathlib.Core.Path.{_≡_, refl, sym, ap, ap₂, _∙_, subst}
-use mathlib.Core.List.{List, [], _∷_, _++_}
+use mathlib.Core.List.{List, [], _∷_}
 use lib.ListN.{length, getD, set, length-set}
 use lib.Seq.{getD-set-same, getD-set-other}
-use Rattle.rules.specs.Chunk.{Chunk, Run}
-use Rattle.rules.specs.Compiler.{CompilerCtx, new-ctx}
-use Rattle.state.specs.Layout.{levels, deepest, table-words, code-end-at, runs-end-at, row, stack, localOf, upvalueOf, constantOf, type-of, codeFrom, runsFrom, codeEnd, runsEnd, runAt, chunkAt, ctxAt, parentsOf, Wf, Coded}
+use Rattle.rules.specs.Compiler.{new-ctx}
+use Rattle.state.specs.Layout.{levels, deepest, table-words, code-end-at, runs-end-at, row, stack, localOf, upvalueOf, constantOf, type-of, codeFrom, runsFrom, codeEnd, runsEnd, runAt, chunkAt, ctxAt, parentsOf, Wf}
 use Rattle.state.specs.Contracts.{Kept, Moved, Began}
-use Rattle.state.proofs.Laws.{kept-set, kept-then, kept-off, ctx-same, parents-named, wf-count, wf-depth, wf-plain}
+use Rattle.state.proofs.Laws.{kept-set, kept-then, ctx-same, parents-named, wf-count, wf-depth, wf-plain}
 
 pub moved : (t : List ℕ) (l depth : ℕ) → l < levels → Wf t → depth ≤ deepest → Moved t (set t (l * 1024 + 771) depth) l depth
 moved t l depth low wf h = record {

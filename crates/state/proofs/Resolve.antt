@@ -1,22 +1,22 @@
 -- The ways out of resolve_local, as facts of lists.
-use Prim.Native.Nat.{ℕ, zero, suc, _+_, _*_, _-_, _/_, _%_, _≤_, _<_}
+-- the word of local i
+use Prim.Native.Nat.{ℕ, suc, _+_, _*_, _-_, _/_, _%_, _≤_, _<_}
 use native.Mathlib.Omega.{arith}
-use mathlib.Core.Path.{_≡_, refl, sym, ap, ap₂, _∙_, subst}
-use mathlib.Core.List.{List, [], _∷_, _++_}
+use mathlib.Core.Path.{_≡_, refl, sym, ap, _∙_}
+use mathlib.Core.List.{List}
 use mathlib.Core.Bool.{Bool, true, false}
-use lib.ListN.{length, getD, set, length-set}
+use lib.ListN.{getD, set}
 use lib.Dec.{eqb, lit<}
 use lib.Arith.{digits-div, digits-mod}
 use native.Mathlib.Nat.{add-mod-right, add-div-right}
 use lib.Seq.{getD-set-same, getD-set-other}
 use borrow.Author.Tests.{eq-eqb, ne-eqb}
-use Rattle.rules.specs.Compiler.{Local, Found, at-slot, uninitialized, missing, find-local, capture}
+use Rattle.rules.specs.Compiler.{at-slot, uninitialized, find-local}
 use Rattle.state.specs.Layout.{levels, stack, localOf, localsOf, Wf}
-use Rattle.state.specs.Contracts.{Kept, Topmost, Looked}
+use Rattle.state.specs.Contracts.{Topmost, Looked}
 use Rattle.state.specs.declared.Slot.the-variants as slot
-use Rattle.state.proofs.Laws.{stack-cong, find-up, find-at, caught, capture-up, capture-at, kept-set, kept-same, if-true, if-false, wf-plain}
+use Rattle.state.proofs.Laws.{find-up, find-at, caught, capture-up, capture-at, kept-set, kept-same, if-true, if-false, wf-plain}
 
--- the word of local i
 abbrev word : List ℕ → ℕ → ℕ → ℕ
 word t l i = getD t (l * 1024 + i) 0
 
@@ -39,8 +39,8 @@ marked-local w z =
 module _ (t : List ℕ) (l nm : ℕ) (low : l < levels) (wf : Wf t) where
   pub nothing : (mark : Bool) → Topmost t (l * 1024) (word t l 256) nm 0 → Looked t t l nm mark slot.Nothing
   unfolding find-local stack
-  nothing true top = record { answer = sym (find-up _ nm 0 _ (top .within) (top .none)); locals = refl; kept = kept-same _ _ t; wf = wf }
-  nothing false top = record { answer = sym (find-up _ nm 0 _ (top .within) (top .none)); locals = refl; kept = kept-same _ _ t; wf = wf }
+  nothing true top = record { answer = sym (find-up _ nm 0 _ (top .within) (top .none)); locals = refl; quiet = λ e. refl; unmarked = λ e. refl; kept = kept-same _ _ t; wf = wf }
+  nothing false top = record { answer = sym (find-up _ nm 0 _ (top .within) (top .none)); locals = refl; quiet = λ e. refl; unmarked = λ e. refl; kept = kept-same _ _ t; wf = wf }
 
   module _ (j : ℕ) (top : Topmost t (l * 1024) (word t l 256) nm (suc j)) where
     pub unready : (mark : Bool) → word t l j / 65536 % 2 ≡ 0 → Looked t t l nm mark slot.Unready
@@ -50,8 +50,8 @@ module _ (t : List ℕ) (l nm : ℕ) (low : l < levels) (wf : Wf t) where
         made mark a
       where
         made : (mark : Bool) → uninitialized ≡ find-local nm (localsOf t l) → Looked t t l nm mark slot.Unready
-        made true a = record { answer = a; locals = refl; kept = kept-same _ _ t; wf = wf }
-        made false a = record { answer = a; locals = refl; kept = kept-same _ _ t; wf = wf }
+        made true a = record { answer = a; locals = refl; quiet = λ e. refl; unmarked = λ e. refl; kept = kept-same _ _ t; wf = wf }
+        made false a = record { answer = a; locals = refl; quiet = λ e. refl; unmarked = λ e. refl; kept = kept-same _ _ t; wf = wf }
 
     module _ (z : (word t l j / 65536 % 2 ≡ 0) → ⊥) where
       yes′ : eqb (word t l j / 65536 % 2) 1 ≡ true
@@ -61,12 +61,14 @@ module _ (t : List ℕ) (l nm : ℕ) (low : l < levels) (wf : Wf t) where
       found = sym (find-up _ nm (suc j) _ (top .within) (top .none) ∙ find-at _ nm j (top .here j refl) ∙ if-true _ _ _ yes′)
 
       pub plain : Looked t t l nm false (slot.At j)
-      plain = record { answer = found; locals = refl; kept = kept-same _ _ t; wf = wf }
+      plain = record { answer = found; locals = refl; quiet = λ e. refl; unmarked = λ e. refl; kept = kept-same _ _ t; wf = wf }
 
       pub again : (word t l j / 65536 / 2 % 2 ≡ 0 → ⊥) → Looked t t l nm true (slot.At j)
       again b = record {
         answer = found;
         locals = sym (capture-up _ _ nm (suc j) _ (top .within) (top .none) (λ j a b. refl) (capture-at _ _ nm j (top .here j refl) (marked-local _ b) (λ i a. refl)));
+        quiet = λ e. refl;
+        unmarked = λ e. refl;
         kept = kept-same _ _ t;
         wf = wf;
       }
@@ -84,6 +86,8 @@ module _ (t : List ℕ) (l nm : ℕ) (low : l < levels) (wf : Wf t) where
             locals = ap (stack _) count ∙ sym (capture-up _ _ nm (suc j) _ (top .within) (top .none)
                 (λ i a b. ap localOf (other i (λ e. omega arith)))
                 (capture-at _ _ nm j (top .here j refl) same (λ i a. ap localOf (other i (λ e. omega arith)))));
+            unmarked = λ e. let z : _≡_ {A = ℕ} 0 1 = cc in absurd (omega arith);
+            quiet = λ e. let z : _≡_ {A = ℕ} 0 1 = cc in absurd (omega arith);
             kept = kept-set _ _ t _ _ (omega arith) (omega arith);
             wf = wf-plain t l j _ (omega arith) (λ a b. omega arith) (λ e. omega arith) (λ e. omega arith) wf;
           }

@@ -1,17 +1,17 @@
 -- What each function of src/ answers and leaves, in the rules' own terms. Each record says which words it may have changed: every other is as it was,
 -- the image writer's among them.
+-- t′ is t but for the words from lo up to hi
 use mathlib.Core.Path.{_≡_}
 use mathlib.Core.Bool.{Bool, true, false, _&&_}
-use mathlib.Core.List.{List, [], _∷_, _++_}
-use Prim.Native.Nat.{ℕ, zero, suc, _+_, _*_, _-_, _/_, _%_, _≤_, _<_}
+use mathlib.Core.List.{List, _∷_}
+use Prim.Native.Nat.{ℕ, suc, _+_, _*_, _-_, _/_, _%_, _≤_, _<_}
 use lib.ListN.{length, getD}
-use lib.Dec.{eqb, ltb}
+use lib.Dec.{ltb}
 use Rattle.rules.specs.declared.Span.{Span}
-use Rattle.rules.specs.declared.Refusal.{Refusal}
 use Rattle.rules.specs.declared.Refusal.the-variants.{AccessInsideInitializer, TooManyUpvalues}
-use Rattle.rules.specs.Chunk.{Chunk, Run, Constant, same-span, write-u8, write-constant, Written, at-place, no-room}
+use Rattle.rules.specs.Chunk.{Chunk, Run, same-span, write-u8, write-constant, Written, at-place, no-room}
 use Rattle.rules.specs.Compiler.{Local, Upvalue, CompilerCtx, new-ctx, Found, at-slot, uninitialized, missing, find-local, capture, Resolved, captured, nowhere, failed, add-upvalue, resolve-upvalue, declared, initialize}
-use Rattle.state.specs.Layout.{levels, code-end-at, image-at, localsOf, upvaluesOf, constantOf, codeFrom, runsFrom, codeEnd, runsEnd, runAt, chunkAt, ctxAt, parentsOf, type-of, Wf, Coded}
+use Rattle.state.specs.Layout.{code-end-at, image-at, localsOf, constantOf, runsFrom, codeEnd, runsEnd, runAt, chunkAt, ctxAt, parentsOf, type-of, Wf, Coded}
 use Rattle.state.specs.declared.Slot.{Slot}
 use Rattle.state.specs.declared.Slot.the-variants as slot
 use Rattle.state.specs.declared.Up.{Up}
@@ -23,7 +23,6 @@ use Rattle.state.specs.declared.Declared.the-variants as decl
 use Rattle.state.specs.declared.Constanted.{Constanted}
 use Rattle.state.specs.declared.Constanted.the-variants as constanted
 
--- t′ is t but for the words from lo up to hi
 pub record Kept (lo hi : ℕ) (t t′ : List ℕ) : Type 0 where
   pub below : (i : ℕ) → i < lo → getD t′ i 0 ≡ getD t i 0
   pub above : (i : ℕ) → hi ≤ i → getD t′ i 0 ≡ getD t i 0
@@ -61,6 +60,8 @@ marked false slot.Unready nm ls = ls
 pub record Looked (t t′ : List ℕ) (l nm : ℕ) (mark : Bool) (r : Slot) : Type 0 where
   pub answer : found r ≡ find-local nm (localsOf t l)
   pub locals : localsOf t′ l ≡ marked mark r nm (localsOf t l)
+  pub quiet : r ≡ slot.Nothing → t′ ≡ t
+  pub unmarked : mark ≡ false → t′ ≡ t
   pub kept : Kept (l * 1024) (l * 1024 + 256) t t′
   pub wf : Wf t′
 
@@ -74,12 +75,14 @@ up-of span nm up.Full ctx parents = failed (TooManyUpvalues span)
 -- whatever the code is, and what is around
 pub record Added (t t′ : List ℕ) (l : ℕ) (u : Upvalue) (r : Up) : Type 0 where
   pub does : (span : Span) (nm : ℕ) (code spans : List ℕ) (ce re : ℕ) (above : List CompilerCtx) → up-of span nm r (ctxAt t′ code spans l ce re) above ≡ add-upvalue u span (ctxAt t code spans l ce re) above
+  pub some : r ≡ up.Nothing → ⊥
   pub kept : Kept (l * 1024 + 257) (l * 1024 + 514) t t′
   pub wf : Wf t′
 
 -- of the level and those around it only locals' marks and upvalues change
 pub record Captured (t t′ : List ℕ) (l nm : ℕ) (r : Up) : Type 0 where
   pub does : (span : Span) (code spans : List ℕ) (ce re : ℕ) → up-of span nm r (ctxAt t′ code spans l ce re) (parentsOf t′ code spans l) ≡ resolve-upvalue nm span (ctxAt t code spans l ce re) (parentsOf t code spans l)
+  pub quiet : r ≡ up.Nothing → t′ ≡ t
   pub kept : Kept 0 (l * 1024 + 514) t t′
   pub rest : (k i : ℕ) → k ≤ l → 514 ≤ i → i < 1024 → getD t′ (k * 1024 + i) 0 ≡ getD t (k * 1024 + i) 0
   pub wf : Wf t′

@@ -2,29 +2,29 @@
 -- expressions inside and where they were read, and the tree that was made. A walk over the bytes of a checked file goes by these.
 use mathlib.Core.Path.{_≡_, refl, sym, ap, _∙_}
 use mathlib.Core.Bool.{Bool, true, false}
-use mathlib.Core.Option.{Option, some}
-use mathlib.Core.List.{List}
-use Prim.Native.Nat.{ℕ, zero, suc, _+_, _-_, _≤_, _<_}
+use mathlib.Core.Option.{some}
+use mathlib.Core.List.{List, [], _∷_}
+use Prim.Native.Nat.{ℕ, _+_, _-_, _≤_, _<_}
 use native.Mathlib.Omega.{arith}
 use native.Mathlib.Nat.{add-assoc}
 use lib.ListN.{length}
 use lib.Dec.{leb, eqb}
 use borrow.Author.Tests.{leb-true, leb-false, eqb-true, eqb-false}
-use Rattle.rules.specs.Base.{lookup}
+use types.Run.{OneOf}
+use Rattle.rules.specs.Base.{lookup, all}
 use Rattle.rules.specs.Limits.{max-bits}
 use Rattle.rules.specs.declared.Span.{Span}
 use Rattle.rules.specs.declared.Refusal.{Refusal}
 use Rattle.rules.specs.declared.Refusal.the-variants.{TreeForm}
 use Rattle.rules.specs.Tree.{Expr, Exprs, ExprAssign, ExprCall, ExprGet, ExprInfix, Literal, ExprPrefix, ExprSet, ExprSuper, ExprVar, OpInfix, OpPrefix, ExprLiteral, LitBool, LitNil, LitNumber, LitString}
-use Rattle.rules.specs.Reader.{Read, got, bad, Reader, go-on, _>>=_, _>>_, return, need, one-of, u8, u16, u64}
+use Rattle.rules.specs.Reader.{Read, got, Reader, go-on, _>>=_, _>>_, return, need, one-of, u8, u64}
 use Rattle.rules.specs.TreeFile.{ExprMark, EA, EC, EG, EI, EL, EP, ES, EU, EV, LiteralKind, a-false, a-true, a-nil, a-number, a-string, expr-marks, infix-ops, prefix-ops, literal-kinds, name, read-exprs, assign-fields, call-fields, get-fields, infix-fields, literal-of, literal-fields, prefix-fields, set-fields, super-fields, var-fields, expr-fields, read-expr}
 use Rattle.fields.specs.Words.{word8, word16, word64, letters, span-of}
-use Rattle.fields.proofs.Reading.{Found, found, a-u16, a-u64, same-got, bad-got}
+use Rattle.fields.proofs.Reading.{found, a-u64, bad-got}
 use Rattle.tree.specs.Places.{known-mark}
-use Rattle.tree.specs.Exprs.{number}
-use Rattle.tree.proofs.Tables.{Marked, known-some}
-use Rattle.tree.proofs.Expressions.{no-expr, deep-expr, cut-expr, expr-is, number-cut, number-big, number-is}
-use Rattle.tree.proofs.Found.{First, first, Last, last, on, shifted, got-thing, got-next, ends-at, NameFound, name-found, name-field, named, counted, RowFound, row-found, row-field}
+use Rattle.tree.proofs.Tables.{known-some, keyed}
+use Rattle.tree.proofs.Expressions.{no-expr, deep-expr, cut-expr, expr-is}
+use Rattle.tree.proofs.Found.{first, last, on, shifted, got-thing, got-next, name-found, name-field, named, counted, row-found, row-field}
 
 module _ (tree : List ℕ) (names : ℕ) where
   -- ## Any expression
@@ -64,6 +64,12 @@ module _ (tree : List ℕ) (names : ℕ) where
       let y : some kind ≡ some (t .kind) = sym l ∙ ap (λ (j : ℕ). lookup j expr-marks) (sym q) ∙ t .look in
       let z : kind ≡ t .kind = cc in
       ap (λ (k : ExprMark). expr-fields tree names (read-expr tree names (depth - 1)) (TreeForm at) k (span-of tree (at + 2)) (at + 10)) z ∙ t .fields
+
+  -- its mark is one of nine
+  pub expr-marks-are : {kind : ExprMark} (m : ℕ) → lookup m expr-marks ≡ some kind
+      → OneOf (0x4541 ∷ 0x4543 ∷ 0x4547 ∷ 0x4549 ∷ 0x454C ∷ 0x4550 ∷ 0x4553 ∷ 0x4555 ∷ 0x4556 ∷ []) m
+  unfolding all expr-marks
+  expr-marks-are m l = keyed (0x4541 ∷ 0x4543 ∷ 0x4547 ∷ 0x4549 ∷ 0x454C ∷ 0x4550 ∷ 0x4553 ∷ 0x4555 ∷ 0x4556 ∷ []) expr-marks m refl l
 
   -- ## Those that open with a name
 

@@ -12,23 +12,22 @@ use lib.ListN.{length}
 use lib.Dec.{leb, eqb}
 use borrow.Author.Tests.{lt-leb, le-leb, eqb-true, eqb-false}
 use types.Run.{OneOf}
-use mir.Val.{hasKey}
-use Rattle.rules.specs.Base.{if_then_else_, lookup, all}
+use Rattle.rules.specs.Base.{lookup, all}
 use Rattle.rules.specs.Limits.{max-bits}
 use Rattle.rules.specs.declared.Span.{Span}
 use Rattle.rules.specs.declared.Refusal.{Refusal}
 use Rattle.rules.specs.declared.Refusal.the-variants.{TreeForm, TreeTooDeep}
 use Rattle.rules.specs.Tree.{Expr, Exprs}
-use Rattle.rules.specs.Reader.{Read, got, bad, Reader, go-on, _>>=_, _>>_, return, refuse, here, need, one-of, u8, u16, u64, span}
-use Rattle.rules.specs.TreeFile.{ExprMark, EA, EC, EG, EI, EL, EP, ES, EU, EV, expr-marks, infix-ops, prefix-ops, literal-kinds, name, read-exprs, assign-fields, call-fields, get-fields, infix-fields, literal-of, literal-fields, prefix-fields, set-fields, super-fields, var-fields, expr-fields, expr-mark, expr-record, read-expr, a-false, a-true, a-nil, a-number, a-string}
-use Rattle.fields.specs.Words.{word64, letters, span-of}
+use Rattle.rules.specs.Reader.{Read, got, bad, Reader, go-on, _>>=_, _>>_, return, refuse, here, need, one-of, u8, u16, u64}
+use Rattle.rules.specs.TreeFile.{ExprMark, EA, EC, EG, EI, EL, EP, ES, EU, EV, expr-marks, infix-ops, prefix-ops, literal-kinds, name, read-exprs, assign-fields, call-fields, get-fields, infix-fields, literal-of, literal-fields, prefix-fields, set-fields, super-fields, var-fields, expr-fields, expr-mark, expr-record, read-expr, a-number, a-string}
+use Rattle.fields.specs.Words.{word64, span-of}
 use Rattle.fields.proofs.Reading.{a-u64, a-span, then-on, then-bad}
 use Rattle.tree.specs.Places.{place, and-then, row, below, known-mark}
 use Rattle.tree.specs.Exprs.{number, announced, with-callee, follow, Announces, Opens}
 use Rattle.tree.specs.declared.Step.{Step}
 use Rattle.tree.specs.declared.Opened.{Opened}
-use Rattle.tree.proofs.Places.{chain, made, goes, stops, and-then-end, and-then-same, row-one, exprs-row}
-use Rattle.tree.proofs.Tables.{inside, outside, is-some, Marked, known-some, known-none, Alike, alike, full-infix, full-prefix, full-kinds}
+use Rattle.tree.proofs.Places.{chain, made, and-then-end, row-one, exprs-row}
+use Rattle.tree.proofs.Tables.{outside, Marked, known-none, alike, full-infix, full-prefix, full-kinds}
 
 -- ## A number's bits
 

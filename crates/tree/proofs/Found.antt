@@ -5,8 +5,7 @@ use mathlib.Core.Option.{Option, none, some}
 use mathlib.Core.List.{List, [], _∷_}
 use Prim.Native.Nat.{ℕ, zero, suc, _+_, _-_, _*_, _≤_, _<_}
 use native.Mathlib.Omega.{arith}
-use native.Mathlib.Nat.{add-assoc}
-use lib.ListN.{length, getD}
+use lib.ListN.{length}
 use lib.Dec.{ltb, leb, eqb}
 use borrow.Author.Tests.{leb-true, leb-false, ltb-true, ltb-false}
 use Rattle.rules.specs.Base.{lookup}
@@ -14,12 +13,12 @@ use Rattle.rules.specs.declared.Refusal.{Refusal}
 use Rattle.rules.specs.declared.Span.{Span}
 use Rattle.rules.specs.Tree.{Expr, Exprs, []ᵉ, _∷ᵉ_, Stmt, Stmts, []ˢ, _∷ˢ_, Fun, Methods, []ᵐ, method}
 use Rattle.rules.specs.Reader.{Read, got, bad, Reader, go-on, _>>=_, return, one-of, u8, u16, many}
-use Rattle.rules.specs.TreeFile.{name, flag, flags, read-exprs, read-stmts, read-methods, maybe, maybe-stmt}
+use Rattle.rules.specs.TreeFile.{name, flag, read-exprs, read-stmts, read-methods, maybe, maybe-stmt}
 use Rattle.fields.specs.Words.{word8, word16}
 use Rattle.fields.proofs.Reading.{Found, found, a-u16, same-got, bad-got}
 use Rattle.tree.specs.Places.{below}
 use Rattle.tree.proofs.Places.{name-cut, name-big, name-is}
-use Rattle.tree.proofs.Tables.{byte-of, byte-none, byte-short, below-is, below-big, below-short, Full, full-flags, alike}
+use Rattle.tree.proofs.Tables.{byte-of, byte-none, byte-short, below-is, below-big, below-short}
 use Rattle.tree.proofs.Statements.{flag-is, flag-no}
 
 pub record First {A B : Type 0} (r : Read A) (f : A → Reader B) (b : B) (n : ℕ) : Type 0 where

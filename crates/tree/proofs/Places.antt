@@ -1,24 +1,22 @@
 -- Steps one after the other, a row of them, a field that an answer tells, and a mark of a table.
-use mathlib.Core.Path.{_≡_, refl, sym, ap, ap₂, _∙_}
+use mathlib.Core.Path.{_≡_, refl, sym, ap, _∙_}
 use mathlib.Core.Bool.{Bool, true, false, not}
-use mathlib.Core.Option.{Option, none, some}
-use mathlib.Core.List.{List, [], _∷_}
-use mathlib.Core.Logic.{_⊎_, inl, inr}
-use Prim.Native.Nat.{ℕ, zero, suc, _+_, _-_, _*_, _≤_, _<_}
+use mathlib.Core.Option.{some}
+use mathlib.Core.List.{List, _∷_}
+use Prim.Native.Nat.{ℕ, zero, suc, _+_, _-_, _≤_, _<_}
 use native.Mathlib.Omega.{arith}
-use lib.ListN.{length, getD}
-use lib.Dec.{ltb, leb, eqb}
-use borrow.Author.Tests.{lt-ltb, le-ltb, lt-leb, le-leb, leb-true, leb-false, ltb-true, not-true, not-false}
-use Rattle.rules.specs.Base.{if_then_else_, lookup}
+use lib.ListN.{length}
+use lib.Dec.{ltb, leb}
+use borrow.Author.Tests.{lt-ltb, le-ltb, leb-true, leb-false, not-true, not-false}
 use Rattle.rules.specs.declared.Refusal.{Refusal}
-use Rattle.rules.specs.Tree.{Expr, Exprs, _∷ᵉ_, Stmt, _∷ˢ_, Fun, method}
+use Rattle.rules.specs.Tree.{Expr, _∷ᵉ_, Stmt, _∷ˢ_, Fun, method}
 use Rattle.rules.specs.declared.Span.{Span}
-use Rattle.rules.specs.Reader.{Read, got, bad, Reader, go-on, _>>=_, _>>_, return, refuse, need, known, one-of, u8, u16, mark, many}
-use Rattle.rules.specs.TreeFile.{read-exprs, read-stmts, read-methods, maybe, maybe-stmt, name}
-use Rattle.fields.specs.Words.{word8, word16, letters}
+use Rattle.rules.specs.Reader.{Read, got, bad, Reader, go-on, _>>=_, _>>_, return, need, u16, many}
+use Rattle.rules.specs.TreeFile.{read-exprs, read-stmts, read-methods, maybe, name}
+use Rattle.fields.specs.Words.{word8, word16}
 use Rattle.fields.proofs.Reading as Fields
-use Rattle.fields.proofs.Reading.{a-u8, a-u16, a-mark, then-on, then-bad, bad-got}
-use Rattle.tree.specs.Places.{place, and-then, row, below, Tells, kept, known-mark}
+use Rattle.fields.proofs.Reading.{a-u8, a-u16, then-on, then-bad}
+use Rattle.tree.specs.Places.{place, and-then, row, below, Tells}
 use Rattle.tree.specs.declared.Step.{Step}
 use Rattle.tree.specs.declared.Step.the-variants.{At, Bad}
 use Rattle.tree.specs.declared.Field.{Field}

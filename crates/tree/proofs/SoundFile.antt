@@ -3,17 +3,16 @@ use mathlib.Core.Path.{_≡_, refl, sym, ap, _∙_}
 use mathlib.Core.Bool.{Bool, true, false}
 use mathlib.Core.Option.{none}
 use mathlib.Core.List.{List}
-use Prim.Native.Nat.{ℕ, _+_, _≤_, _<_}
+use Prim.Native.Nat.{ℕ, _≤_}
 use native.Mathlib.Omega.{arith}
 use lib.ListN.{length}
 use lib.Dec.{leb, eqb}
 use borrow.Author.Tests.{leb-true, leb-false, eqb-true, eqb-false}
-use Rattle.rules.specs.Base.{if_then_else_}
 use Rattle.rules.specs.Limits.{first-limits, max-names, max-tree}
 use Rattle.rules.specs.declared.Refusal.{Refusal}
 use Rattle.rules.specs.declared.Refusal.the-variants.{TreeForm, TreeTooLong}
 use Rattle.rules.specs.Tree.{Stmts}
-use Rattle.rules.specs.Reader.{Read, got, bad, Reader, go-on, _>>=_, _>>_, return, here, need}
+use Rattle.rules.specs.Reader.{Read, got, bad, go-on, _>>=_, _>>_, return, here, need}
 use Rattle.rules.specs.Compiler.{compile-functions}
 use Rattle.rules.specs.Entry.{refused, from-outcome, from-read, compile-tree}
 use Rattle.rules.specs.TreeFile.{read-stmts, read-stmt, read-names, read-tree}
@@ -24,7 +23,7 @@ use Rattle.tree.specs.Checked.{place-or-0, script-of, checked, checked-f
 use Rattle.tree.specs.declared.Script.{Script}
 use Rattle.tree.specs.declared.Checked.{Checked}
 use Rattle.tree.proofs.Whole.{file-cut, mark-not, too-many, from-names, from-stmts}
-use Rattle.tree.proofs.Found.{First, first, got-thing, got-next}
+use Rattle.tree.proofs.Found.{first, got-thing, got-next}
 
 pub record SoundFile (tree : List ℕ) (depth funs : ℕ) (script : Script) : Type 0 where
   pub bound : 6 ≤ length tree

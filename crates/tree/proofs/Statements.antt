@@ -10,24 +10,23 @@ use native.Mathlib.Omega.{arith}
 use lib.ListN.{length}
 use lib.Dec.{ltb, leb, eqb, lit<}
 use native.Mathlib.Nat.{mod-lt}
-use borrow.Author.Tests.{lt-ltb, le-ltb, leb-true, leb-false, ltb-true, ltb-false, eqb-true, eqb-false, ne-eqb, eq-eqb}
+use borrow.Author.Tests.{lt-ltb, le-ltb, leb-true, leb-false, ltb-true, ltb-false, eqb-true, eqb-false, ne-eqb}
 use types.Run.{OneOf}
 use Rattle.rules.specs.Base.{if_then_else_, lookup, all}
 use Rattle.rules.specs.declared.Span.{Span}
 use Rattle.rules.specs.declared.Refusal.{Refusal}
 use Rattle.rules.specs.declared.Refusal.the-variants.{TreeForm, TreeTooDeep, TooManyOpen}
 use Rattle.rules.specs.Tree.{Expr, Stmt, Stmts, StmtFor, Fun, []ˢ, _∷ˢ_}
-use Rattle.rules.specs.Reader.{Read, got, bad, Reader, go-on, _>>=_, _>>_, return, refuse, here, need, one-of, u8, u16, mark-is, span, many}
-use Rattle.rules.specs.TreeFile.{StmtMark, SB, SC, SE, SF, SI, SO, SP, SR, SV, SW, stmt-marks, flags, flag, name, maybe, maybe-stmt, may-open, Children, read-stmts, read-methods, block-fields, class-fields, expression-fields, fun-fields, if-fields, for-fields, print-fields, return-fields, var-stmt-fields, while-fields, stmt-fields, stmt-mark, stmt-record, method-record, read-expr, read-superclass, read-stmt, read-method}
+use Rattle.rules.specs.Reader.{Read, got, bad, Reader, go-on, _>>=_, _>>_, return, refuse, here, need, u8, u16, mark-is, span, many}
+use Rattle.rules.specs.TreeFile.{StmtMark, SB, SC, SE, SF, SI, SO, SP, SR, SV, SW, stmt-marks, flags, flag, name, maybe, maybe-stmt, may-open, read-stmts, read-methods, block-fields, class-fields, expression-fields, fun-fields, if-fields, for-fields, print-fields, return-fields, var-stmt-fields, while-fields, stmt-fields, stmt-mark, stmt-record, method-record, read-expr, read-superclass, read-stmt, read-method}
 use Rattle.fields.specs.Words.{word8, letters, span-of}
 use Rattle.fields.proofs.Reading.{a-u8, a-span, then-on, then-bad, bad-got, mark-is-it, mark-is-not, mark-is-cut}
 use Rattle.tree.specs.Places.{place, and-then, row, below, known-mark}
 use Rattle.tree.specs.Stmts.{method-marks, known-stmt, plain, body-from, stmt-place, kids-place, follow-head, children, BlockKids, ClassKids, FunKids, IfKids, ForKids, ReturnKids, VarKids, StmtKids, StmtOpens}
 use Rattle.tree.specs.declared.Step.{Step}
-use Rattle.tree.specs.declared.Plan.{Plan}
 use Rattle.tree.specs.declared.Head.{Head}
 use Rattle.tree.proofs.Places.{chain, made, goes, stops, and-then-end, and-then-same, row-one, row-some, stmts-row, methods-row, many-row}
-use Rattle.tree.proofs.Tables.{Row, if-true, known-not, inside, outside, Marked, known-some, known-none, known-is, Alike, alike, full-flags, below-is, below-big, below-short}
+use Rattle.tree.proofs.Tables.{if-true, known-not, outside, Marked, known-some, known-none, known-is, alike, full-flags, below-is, below-big, below-short}
 
 pub moved : {A : Type 0} {a : A} {r : Read A} {n m : ℕ} → r ≡ got a n → n ≡ m → r ≡ got a m
 moved {a = a} e h = e ∙ ap (got a) h

@@ -3,29 +3,29 @@
 use mathlib.Core.Path.{_≡_, refl, sym, ap, _∙_}
 use mathlib.Core.Bool.{Bool, true, false}
 use mathlib.Core.Option.{Option, some}
-use mathlib.Core.List.{List}
-use Prim.Native.Nat.{ℕ, zero, suc, _+_, _-_, _*_, _/_, _%_, _≤_, _<_}
-use native.Mathlib.Omega.{arith}
+use mathlib.Core.List.{List, [], _∷_}
+use Prim.Native.Nat.{ℕ, _+_, _-_, _*_, _/_, _%_, _≤_, _<_}
 use native.Mathlib.Nat.{add-assoc}
 use lib.ListN.{length}
 use lib.Dec.{ltb, leb, eqb}
 use borrow.Author.Tests.{leb-true, leb-false, ltb-true, eqb-true, eqb-false}
-use Rattle.rules.specs.Base.{if_then_else_, lookup}
+use types.Run.{OneOf}
+use Rattle.rules.specs.Base.{lookup, all}
 use Rattle.rules.specs.declared.Span.{Span}
 use Rattle.rules.specs.declared.Refusal.{Refusal}
 use Rattle.rules.specs.declared.Refusal.the-variants.{TreeForm}
 use Rattle.rules.specs.Tree.{Expr, Superclass, Stmt, Stmts, StmtBlock, StmtClass, StmtExpr, StmtFor, StmtFun, StmtIf, StmtPrint, StmtReturn, StmtVar, StmtWhile, Fun, fun, Methods}
-use Rattle.rules.specs.Reader.{Read, got, bad, Reader, go-on, _>>=_, _>>_, return, need, u8, u16, many}
-use Rattle.rules.specs.TreeFile.{StmtMark, SB, SC, SE, SF, SI, SO, SP, SR, SV, SW, stmt-marks, flag, name, maybe, maybe-stmt, read-stmts, read-methods, block-fields, class-fields, expression-fields, fun-fields, if-fields, for-fields, print-fields, return-fields, var-stmt-fields, while-fields, stmt-fields, read-expr, read-superclass, read-stmt, read-method}
+use Rattle.rules.specs.Reader.{Read, got, Reader, go-on, _>>=_, _>>_, return, need, u8, many}
+use Rattle.rules.specs.TreeFile.{StmtMark, SB, SC, SE, SF, SI, SO, SP, SR, SV, SW, stmt-marks, name, maybe, maybe-stmt, read-stmts, read-methods, block-fields, class-fields, expression-fields, fun-fields, if-fields, for-fields, print-fields, return-fields, var-stmt-fields, while-fields, stmt-fields, read-expr, read-superclass, read-stmt, read-method}
 use Rattle.fields.specs.Words.{word8, word16, letters, span-of}
-use Rattle.fields.proofs.Reading.{Found, found, a-u8, a-u16, bad-got}
-use Rattle.tree.specs.Places.{place, known-mark}
-use Rattle.tree.specs.Stmts.{method-marks, known-stmt, stmt-place, children}
+use Rattle.fields.proofs.Reading.{found, a-u8, bad-got}
+use Rattle.tree.specs.Places.{place}
+use Rattle.tree.specs.Stmts.{known-stmt, stmt-place, children}
 use Rattle.tree.specs.declared.Step.{Step}
-use Rattle.tree.proofs.Tables.{Marked, known-some}
+use Rattle.tree.proofs.Tables.{keyed}
 use Rattle.tree.proofs.Texts.{bad-at}
 use Rattle.tree.proofs.Statements.{StmtMarked, stmt-known, some-left, method-letters, no-stmt, deep-stmt, full-stmt, cut-stmt, stmt-is, method-has, super-cut, super-not, super-deep, super-span, super-from}
-use Rattle.tree.proofs.Found.{First, first, Last, last, on, shifted, got-thing, got-next, ends-at, NameFound, name-found, name-field, counted, named, flagged, WordsFound, words-found, words}
+use Rattle.tree.proofs.Found.{first, last, on, shifted, got-thing, got-next, name-found, name-field, counted, named, flagged, words-found, words}
 
 module _ (tree : List ℕ) (names : ℕ) where
   -- ## Any statement
@@ -86,6 +86,12 @@ module _ (tree : List ℕ) (names : ℕ) where
       let y : some kind ≡ some (t .kind) = sym l ∙ ap (λ (j : ℕ). lookup j stmt-marks) (sym q) ∙ t .look in
       let z : kind ≡ t .kind = cc in
       ap (λ (k : StmtMark). stmt-fields tree names (children tree names (depth - 1) funs) (TreeForm at) k (span-of tree (at + 2)) (at + 10)) z ∙ t .fields
+
+  -- its mark is one of ten
+  pub stmt-marks-are : {kind : StmtMark} (m : ℕ) → lookup m stmt-marks ≡ some kind
+      → OneOf (0x5342 ∷ 0x5343 ∷ 0x5345 ∷ 0x5346 ∷ 0x5349 ∷ 0x534F ∷ 0x5350 ∷ 0x5352 ∷ 0x5356 ∷ 0x5357 ∷ []) m
+  unfolding all stmt-marks
+  stmt-marks-are m l = keyed (0x5342 ∷ 0x5343 ∷ 0x5345 ∷ 0x5346 ∷ 0x5349 ∷ 0x534F ∷ 0x5350 ∷ 0x5352 ∷ 0x5356 ∷ 0x5357 ∷ []) stmt-marks m refl l
 
   -- ## Those with no fields
 

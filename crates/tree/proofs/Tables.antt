@@ -3,18 +3,18 @@ use mathlib.Core.Path.{_≡_, refl, sym, ap, subst, _∙_}
 use mathlib.Core.Bool.{Bool, true, false, not}
 use mathlib.Core.Option.{Option, none, some}
 use mathlib.Core.List.{List, [], _∷_}
-use mathlib.Core.Logic.{_⊎_, inl, inr}
+use mathlib.Core.Logic.{inl, inr}
 use Prim.Native.Nat.{ℕ, zero, suc, _+_, _≤_, _<_}
 use native.Mathlib.Omega.{arith}
 use lib.ListN.{length}
 use lib.Dec.{T, ltb, leb, eqb}
 use borrow.Author.Tests.{lt-ltb, le-ltb, lt-leb, le-leb, leb-true, leb-false, ltb-true, ltb-false, eqb-true, eqb-false, ne-eqb}
-use types.Run.{OneOf, hit}
+use types.Run.{OneOf, hit, miss}
 use mir.Val.{hasKey}
 use Rattle.rules.specs.Base.{if_then_else_, lookup, all, all-below}
 use Rattle.rules.specs.declared.Refusal.{Refusal}
-use Rattle.rules.specs.Reader.{Read, got, bad, Reader, go-on, _>>=_, _>>_, return, refuse, need, known, one-of, u8, mark}
-use Rattle.rules.specs.TreeFile.{flags, flag, infix-ops, prefix-ops, literal-kinds}
+use Rattle.rules.specs.Reader.{got, bad, go-on, _>>=_, _>>_, return, refuse, need, known, one-of, u8, mark}
+use Rattle.rules.specs.TreeFile.{flags, infix-ops, prefix-ops, literal-kinds}
 use Rattle.fields.specs.Words.{word8, letters}
 use Rattle.fields.proofs.Reading.{a-u8, a-mark, then-on, then-bad, bad-got}
 use Rattle.tree.specs.Places.{place, below, kept, known-mark}
@@ -59,6 +59,17 @@ outside keys (r ∷ rows) x h n =
     let q : eqb x (r .0) ≡ false = ne-eqb x (r .0) (λ e. n (hit keys x (yes (ap (hasKey keys) e ∙ w .0)))) in
     rw q (outside keys rows x (w .1) n)
 
+keyed-if : {A : Type 0} (keys : List ℕ) (table : List (ℕ × A)) (x : ℕ) (t : Bool) → hasKey keys x ≡ t → all (λ row. hasKey keys (row .0)) table ≡ true
+    → {a : A} → lookup x table ≡ some a → OneOf keys x
+keyed-if keys table x true e h l = hit keys x (yes e)
+keyed-if {A} keys table x false e h {a} l =
+    let q : _≡_ {A = Option A} (some a) none = sym l ∙ outside keys table x h (miss keys x (yes (ap not e))) in
+    let z : _≡_ {A = ℕ} 0 1 = cc in absurd (omega arith)
+
+-- what a table has is one of its keys
+pub keyed : {A : Type 0} (keys : List ℕ) (table : List (ℕ × A)) (x : ℕ) → all (λ row. hasKey keys (row .0)) table ≡ true → {a : A} → lookup x table ≡ some a → OneOf keys x
+keyed keys table x h l = keyed-if keys table x _ refl h l
+
 -- ## A table whose keys are the numbers below a bound
 
 pub record Full {A : Type 0} (table : List (ℕ × A)) (most : ℕ) : Type 0 where
@@ -68,6 +79,15 @@ pub record Full {A : Type 0} (table : List (ℕ × A)) (most : ℕ) : Type 0 whe
 last-or : (t : Bool) (p : ℕ → Bool) {n k : ℕ} → eqb n k ≡ t → p k ≡ true → ((n ≡ k → ⊥) → p n ≡ true) → p n ≡ true
 last-or true p e h f = ap p (eqb-true _ _ e) ∙ h
 last-or false p e h f = f (eqb-false _ _ e)
+
+in-full-if : {A : Type 0} {table : List (ℕ × A)} {most : ℕ} → Full table most → (n : ℕ) (t : Bool) → ltb n most ≡ t → {a : A} → lookup n table ≡ some a → n < most
+in-full-if f n true e l = ltb-true _ _ e
+in-full-if {A} f n false e {a} l =
+    let q : _≡_ {A = Option A} (some a) none = sym l ∙ f .no n (ltb-false _ _ e) in
+    let z : _≡_ {A = ℕ} 0 1 = cc in absurd (omega arith)
+
+pub in-full : {A : Type 0} {table : List (ℕ × A)} {most : ℕ} → Full table most → (n : ℕ) {a : A} → lookup n table ≡ some a → n < most
+in-full f n l = in-full-if f n _ refl l
 
 below-all : (k : ℕ) (p : ℕ → Bool) (n : ℕ) → all-below k p ≡ true → n < k → p n ≡ true
 unfolding all-below

@@ -1,7 +1,7 @@
 -- Names: the order of two texts as a walk over both, the bytes of a text, and one law for each way out of a name's record.
 use mathlib.Core.Path.{_≡_, refl, sym, ap, _∙_}
 use mathlib.Core.Bool.{Bool, true, false}
-use mathlib.Core.Option.{Option, none, some}
+use mathlib.Core.Option.{Option, some}
 use mathlib.Core.List.{List, [], _∷_}
 use Prim.Native.Nat.{ℕ, zero, suc, _+_, _-_, _≤_, _<_}
 use native.Mathlib.Omega.{arith}
@@ -13,12 +13,12 @@ use borrow.Author.Tests.{lt-ltb, le-ltb, ltb-true, ltb-false, leb-true, leb-fals
 use Rattle.rules.specs.Base.{if_then_else_, before, all}
 use Rattle.rules.specs.declared.Refusal.{Refusal}
 use Rattle.rules.specs.declared.Refusal.the-variants.{TreeForm}
-use Rattle.rules.specs.Reader.{Read, got, bad, Reader, go-on, _>>=_, _>>_, return, here, need, u8, u16, mark-is, many}
+use Rattle.rules.specs.Reader.{Read, got, bad, Reader, go-on, _>>=_, _>>_, return, here, need, u8, many}
 use Rattle.rules.specs.TreeFile.{fixed-names, rises, differs, read-name, read-names}
-use Rattle.fields.specs.Words.{word8, word16, letters}
+use Rattle.fields.specs.Words.{word16, letters}
 use Rattle.fields.proofs.Reading.{a-u8, a-u16, then-on, then-bad, mark-is-it, mark-is-not, mark-is-cut}
 use Rattle.tree.specs.Places.{place}
-use Rattle.tree.specs.Names.{text, last-name, LastFits, NameRead}
+use Rattle.tree.specs.Names.{text, last-name, NameRead}
 use Rattle.tree.specs.declared.Step.{Step}
 
 -- ## Two texts, from a place on

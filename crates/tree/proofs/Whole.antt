@@ -3,17 +3,17 @@ use mathlib.Core.Path.{_≡_, refl, sym, ap, _∙_}
 use mathlib.Core.Bool.{Bool, true, false}
 use mathlib.Core.Option.{none}
 use mathlib.Core.List.{List}
-use Prim.Native.Nat.{ℕ, _+_, _≤_, _<_}
+use Prim.Native.Nat.{ℕ, _≤_, _<_}
 use native.Mathlib.Omega.{arith}
 use lib.ListN.{length}
 use lib.Dec.{leb, eqb}
-use borrow.Author.Tests.{leb-true, leb-false, eqb-true, eqb-false, eq-eqb, ne-eqb, le-leb, lt-leb}
+use borrow.Author.Tests.{leb-true, leb-false, eqb-true, eqb-false, le-leb, lt-leb}
 use Rattle.rules.specs.Base.{if_then_else_}
 use Rattle.rules.specs.Limits.{max-names}
 use Rattle.rules.specs.declared.Refusal.{Refusal}
 use Rattle.rules.specs.declared.Refusal.the-variants.{TreeForm}
 use Rattle.rules.specs.Tree.{Stmts}
-use Rattle.rules.specs.Reader.{Read, got, bad, Reader, go-on, _>>=_, _>>_, return, here, need, u16, mark-is}
+use Rattle.rules.specs.Reader.{Read, got, bad, Reader, go-on, _>>=_, _>>_, return, here, need}
 use Rattle.rules.specs.TreeFile.{read-stmts, read-stmt, read-names, read-file, read-tree}
 use Rattle.fields.specs.Words.{word16, letters}
 use Rattle.fields.proofs.Reading.{a-u16, then-on, then-bad, mark-is-it, mark-is-not, mark-is-cut}
@@ -21,7 +21,6 @@ use Rattle.tree.specs.Places.{place, row}
 use Rattle.tree.specs.Stmts.{stmt-place}
 use Rattle.tree.specs.Checked.{place-or-0, script-of, ends, checked}
 use Rattle.tree.specs.declared.Step.{Step}
-use Rattle.tree.specs.declared.Script.{Script}
 use Rattle.tree.specs.declared.Checked.{Checked}
 use Rattle.tree.proofs.Texts.{was-bad, bad-at}
 use Rattle.tree.proofs.Statements.{stmts-place}

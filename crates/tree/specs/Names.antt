@@ -1,5 +1,4 @@
 -- Names: the one before is known by the place of its record, and ends where the next starts.
-use mathlib.Core.Bool.{Bool, true, false}
 use mathlib.Core.List.{List}
 use mathlib.Core.Option.{Option, none, some}
 use mathlib.Core.Path.{_≡_}

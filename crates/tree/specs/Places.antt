@@ -1,5 +1,4 @@
 -- Where a reader of the rules gets to: what it read is left out, and the place after it stays, or the refusal.
-use mathlib.Core.Bool.{Bool, true, false}
 use mathlib.Core.Option.{Option, none, some}
 use mathlib.Core.List.{List}
 use mathlib.Core.Path.{_≡_}

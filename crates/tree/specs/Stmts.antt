@@ -6,10 +6,8 @@ use mathlib.Core.Path.{_≡_}
 use Prim.Native.Nat.{ℕ, _+_, _-_, _<_}
 use Rattle.rules.specs.Base.{if_then_else_, lookup}
 use Rattle.rules.specs.declared.Span.{Span}
-use Rattle.rules.specs.declared.Refusal.{Refusal}
 use Rattle.rules.specs.declared.Refusal.the-variants.{TreeForm}
-use Rattle.rules.specs.Tree.{Stmt, Fun}
-use Rattle.rules.specs.Reader.{Read, got, bad, Reader}
+use Rattle.rules.specs.Reader.{Read, got, bad}
 use Rattle.rules.specs.TreeFile.{StmtMark, SF, stmt-marks, Children, read-expr, read-superclass, read-stmt, read-method, stmt-fields, block-fields, class-fields, fun-fields, if-fields, for-fields, return-fields, var-stmt-fields}
 use Rattle.tree.specs.Places.{place, and-then, row, known-mark}
 use Rattle.tree.specs.declared.Step.{Step}

@@ -187,6 +187,27 @@ pub fn small_set() -> Vec<Tree> {
     set
 }
 
+/// One tree with every record kind.
+pub fn every_kind() -> Tree {
+    let of_this = |at| get((at, at + 6), C, name((at, at + 4), 0));
+    let method = fun((20, 60), 2, &[A], vec![eval((24, 34), set_this(B)), return_((35, 42), None)]);
+    let other = fun((61, 90), C, &[], vec![return_((65, 80), Some(call((72, 79), super_((72, 79), C), vec![])))]);
+    let loop_ = while_((100, 130), prefix((107, 109), 1, name((108, 109), A)), print((111, 128), of_this(117)));
+    tree(
+        3,
+        vec![
+            class((0, 95), B, Some(name((10, 11), A)), vec![method, other]),
+            for_(
+                (96, 200),
+                Some(var((101, 111), A, Some(number((109, 110), ONE)))),
+                Some(infix((112, 117), 4, name((112, 113), A), string((116, 117), C))),
+                block((130, 190), vec![if_((131, 180), word((135, 139), 1), loop_, Some(block((170, 172), vec![])))]),
+                Some(assign((118, 127), A, word((122, 125), 2))),
+            ),
+        ],
+    )
+}
+
 fn set_this(field: u16) -> Node {
     set((1, 8), field, word((4, 7), 2), name((1, 2), 0))
 }

@@ -10,6 +10,7 @@ mod limits;
 mod node;
 mod pack;
 mod random;
+mod replay;
 mod selftest;
 mod small;
 mod vectors;

@@ -12,6 +12,7 @@ use crate::images;
 use crate::kinds::generate;
 use crate::limits::{limits, Limit};
 use crate::pack::{pack_cases, pack_images, Checked};
+use crate::replay;
 
 const SEED: u64 = 20_301;
 const NUMBERS: [u32; 21] = [0, 2, 3, 4, 5, 10, 11, 12, 13, 14, 15, 16, 17, 18, 19, 20, 21, 22, 23, 30, 31];
@@ -121,6 +122,8 @@ pub fn write(folder: &str) -> io::Result<()> {
     for (name, bytes) in &files {
         fs::write(Path::new(folder).join(format!("{name}.pack")), bytes)?;
     }
+    let for_reader: Vec<Answered> = tree.iter().chain(&limit).cloned().collect();
+    replay::tree_replay(Path::new(folder), &for_reader)?;
     let sizes: Vec<String> = files.iter().map(|(name, bytes)| format!("{name}.pack {}", bytes.len())).collect();
     println!("bytes: {}", sizes.join(", "));
     print_numbers("tree.pack", tree.iter().map(|(_, answer)| answer.number));

@@ -1,14 +1,13 @@
-use mathlib.Core.Path.{_≡_, subst, sym}
-use mathlib.Core.Bool.{true}
-use Rattle.state.specs.Contracts.{Looked, Added, Captured}
-use Rattle.state.specs.declared.Slot.{Slot}
-use Rattle.state.specs.declared.Up.the-variants as up
-use Rattle.state.proofs.Outward as outward
-use borrow.Author.Needs.{needs}
+-- `resolve_upvalue` meets its contract. The measure is the level. Assumes nothing.
+use Prim.Native.Nat.{ℕ, _-_, _<_}
 use native.Mathlib.Omega.{arith}
-use Prim.Native.Nat.{ℕ, suc, _-_, _<_}
+use mathlib.Core.Path.{subst, sym}
+use borrow.Author.Needs.{needs}
 use borrow.Fn.Kinds.{In}
 use borrow.Fn.PlainCycle.{Measures, is, falls, and}
+use Rattle.state.specs.Contracts.{Captured}
+use Rattle.state.specs.declared.Up.the-variants as up
+use Rattle.state.proofs.Outward as outward
 use Rattle.state.proofs.resolve_upvalue.Reads as resolve-upvalue
 use Rattle.state.proofs.resolve_upvalue.Kinds as resolve-upvalue-kinds
 use Rattle.state.proofs.+resolve_upvalue.Lts-resolve_upvalue as resolve-upvalue-lts

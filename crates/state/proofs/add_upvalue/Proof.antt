@@ -1,14 +1,11 @@
-use Rattle.state.proofs.Adding as ways
-use lib.ListN.{getD, length-set}
-use mathlib.Core.Path.{_≡_, subst, sym}
+-- `add_upvalue` meets its contract. Assumes nothing.
+use Prim.Native.Nat.{_+_, _*_, _-_, _≤_}
 use native.Mathlib.Omega.{arith}
-use Prim.Native.Nat.{ℕ, suc, _+_, _*_, _-_, _≤_, _<_}
+use lib.ListN.{getD, length-set}
 use borrow.Author.Needs.{needs}
+use Rattle.state.proofs.Adding as ways
 use Rattle.state.proofs.add_upvalue.Statement.{statement}
 use Rattle.state.proofs.add_upvalue.Tie as tie
-use Rattle.state.proofs.add_upvalue.Reads as reads
-use Rattle.state.proofs.add_upvalue.Lts as lts
-use Rattle.state.proofs.first.Reads as first-reads
 
 few : (s : tie.Start) → getD (s .args .t .now) (s .args .level * 1024 + 513) 0 ≤ 256
 few s = s .pre .1 .fewUpvalues (s .args .level) (s .pre .0)

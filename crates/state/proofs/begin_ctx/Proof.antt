@@ -1,11 +1,10 @@
-use Rattle.state.proofs.Opening as ways
+-- `begin_ctx` meets its contract. Assumes nothing.
 use native.Mathlib.Omega.{arith}
 use lib.ListN.{length-set}
 use borrow.Author.Needs.{needs}
+use Rattle.state.proofs.Opening as ways
 use Rattle.state.proofs.begin_ctx.Statement.{statement}
 use Rattle.state.proofs.begin_ctx.Tie as tie
-use Rattle.state.proofs.begin_ctx.Reads as reads
-use Rattle.state.proofs.begin_ctx.Lts as lts
 
 add-base : tie.Need-add-base
 add-base c = search needs

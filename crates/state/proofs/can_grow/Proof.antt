@@ -1,9 +1,8 @@
-use Rattle.state.proofs.Emit as ways
+-- `can_grow` meets its contract. Assumes nothing.
 use borrow.Author.Needs.{needs}
+use Rattle.state.proofs.Emit as ways
 use Rattle.state.proofs.can_grow.Statement.{statement}
 use Rattle.state.proofs.can_grow.Tie as tie
-use Rattle.state.proofs.can_grow.Reads as reads
-use Rattle.state.proofs.can_grow.Lts as lts
 
 returns : tie.Need-returns
 returns c = let a = c .before .args in ways.no-run (a .spans .now) (a .first) (a .m) (a .span) (c .if1 .taken)

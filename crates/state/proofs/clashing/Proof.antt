@@ -1,16 +1,15 @@
-use Rattle.state.proofs.Declare as ways
-use Rattle.rules.specs.Compiler.{Local, declared}
-use Rattle.state.specs.Layout.{stack, localOf}
-use borrow.Author.Tests.{lt-ltb, le-ltb}
-use lib.ListN.{getD}
-use mathlib.Core.Path.{_≡_, subst, sym, _∙_}
+-- `clashing` meets its contract. A scan from the top down: what it has passed decides nothing. Assumes nothing.
+use Prim.Native.Nat.{ℕ, _+_, _-_, _≤_, _<_}
 use native.Mathlib.Omega.{arith}
-use Prim.Native.Nat.{ℕ, suc, _+_, _-_, _≤_, _<_}
+use mathlib.Core.Path.{_≡_, sym, _∙_}
+use lib.ListN.{getD}
+use borrow.Author.Tests.{lt-ltb}
 use borrow.Author.Needs.{needs}
+use Rattle.rules.specs.Compiler.{Local, declared}
+use Rattle.state.proofs.Declare as ways
+use Rattle.state.specs.Layout.{stack, localOf}
 use Rattle.state.proofs.clashing.Statement.{statement}
 use Rattle.state.proofs.clashing.Tie as tie
-use Rattle.state.proofs.clashing.Reads as reads
-use Rattle.state.proofs.clashing.Lts as lts
 
 abbrev Inv-loop : tie.InvT-loop
 Inv-loop t base n depth name i₀ i = (i ≤ n) × (declared depth name (stack (λ j. localOf (getD t (base + j) 0)) i) ≡ declared depth name (stack (λ j. localOf (getD t (base + j) 0)) n))

@@ -1,15 +1,13 @@
-use Rattle.state.proofs.Declare as ways
-use borrow.Author.Tests.{lt-ltb, le-ltb}
-use lib.ListN.{getD, length-set}
-use mathlib.Core.Path.{_≡_, subst, sym, _∙_}
+-- `declare_local` meets its contract. Assumes nothing.
+use Prim.Native.Nat.{_-_}
 use native.Mathlib.Omega.{arith}
-use Prim.Native.Nat.{ℕ, suc, _+_, _*_, _-_, _≤_, _<_}
+use mathlib.Core.Path.{sym, _∙_}
+use lib.ListN.{length-set}
+use borrow.Author.Tests.{lt-ltb, le-ltb}
 use borrow.Author.Needs.{needs}
+use Rattle.state.proofs.Declare as ways
 use Rattle.state.proofs.declare_local.Statement.{statement}
 use Rattle.state.proofs.declare_local.Tie as tie
-use Rattle.state.proofs.declare_local.Reads as reads
-use Rattle.state.proofs.declare_local.Lts as lts
-use Rattle.state.proofs.clashing.Reads as clashing-reads
 
 mul-base : tie.Need-mul-base
 mul-base c = search needs

@@ -1,13 +1,11 @@
-use Rattle.state.proofs.Declare as ways
-use lib.ListN.{getD, length-set}
-use mathlib.Core.Path.{_≡_, subst, sym, _∙_}
+-- `define_local` meets its contract. Assumes nothing.
+use Prim.Native.Nat.{_+_, _*_, _-_, _≤_}
 use native.Mathlib.Omega.{arith}
-use Prim.Native.Nat.{ℕ, suc, _+_, _*_, _-_, _≤_, _<_}
+use lib.ListN.{getD}
 use borrow.Author.Needs.{needs}
+use Rattle.state.proofs.Declare as ways
 use Rattle.state.proofs.define_local.Statement.{statement}
 use Rattle.state.proofs.define_local.Tie as tie
-use Rattle.state.proofs.define_local.Reads as reads
-use Rattle.state.proofs.define_local.Lts as lts
 
 few : (s : tie.Start) → getD (s .args .t .now) (s .args .level * 1024 + 256) 0 ≤ 256
 few s = s .pre .1 .fewLocals (s .args .level) (s .pre .0)

@@ -1,10 +1,9 @@
-use Rattle.state.proofs.Declare as ways
+-- `drop_local` meets its contract. Assumes nothing.
 use native.Mathlib.Omega.{arith}
 use borrow.Author.Needs.{needs}
+use Rattle.state.proofs.Declare as ways
 use Rattle.state.proofs.drop_local.Statement.{statement}
 use Rattle.state.proofs.drop_local.Tie as tie
-use Rattle.state.proofs.drop_local.Reads as reads
-use Rattle.state.proofs.drop_local.Lts as lts
 
 mul-count : tie.Need-mul-count
 mul-count c = search needs

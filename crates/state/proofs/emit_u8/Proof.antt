@@ -1,15 +1,13 @@
+-- `emit_u8` meets its contract. Assumes nothing.
+use Prim.Native.Nat.{_-_}
+use native.Mathlib.Omega.{arith}
+use mathlib.Core.Path.{sym, _∙_}
+use lib.ListN.{length-set}
+use borrow.Author.Needs.{needs}
 use Rattle.state.specs.Layout.{runsFrom, runsEnd}
 use Rattle.state.proofs.Emit as ways
-use lib.ListN.{getD, length-set}
-use mathlib.Core.Path.{_≡_, subst, sym, _∙_}
-use native.Mathlib.Omega.{arith}
-use Prim.Native.Nat.{ℕ, suc, _+_, _*_, _-_, _≤_, _<_}
-use borrow.Author.Needs.{needs}
 use Rattle.state.proofs.emit_u8.Statement.{statement}
 use Rattle.state.proofs.emit_u8.Tie as tie
-use Rattle.state.proofs.emit_u8.Reads as reads
-use Rattle.state.proofs.emit_u8.Lts as lts
-use Rattle.state.proofs.can_grow.Reads as can-grow-reads
 
 slice-read-n : tie.Need-slice-read-n
 slice-read-n c = search needs

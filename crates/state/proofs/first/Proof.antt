@@ -1,13 +1,12 @@
-use lib.ListN.{getD}
-use mathlib.Core.Path.{_≡_, subst, sym}
+-- `first` meets its contract. A scan upwards: what it has passed are other words. Assumes nothing.
+use Prim.Native.Nat.{ℕ, _+_, _-_, _≤_, _<_}
 use native.Mathlib.Omega.{arith}
-use Prim.Native.Nat.{ℕ, suc, _+_, _-_, _≤_, _<_}
+use mathlib.Core.Path.{_≡_}
+use lib.ListN.{getD}
 use borrow.Author.Count.{below-more}
 use borrow.Author.Needs.{needs}
 use Rattle.state.proofs.first.Statement.{statement}
 use Rattle.state.proofs.first.Tie as tie
-use Rattle.state.proofs.first.Reads as reads
-use Rattle.state.proofs.first.Lts as lts
 
 abbrev Inv-loop : tie.InvT-loop
 Inv-loop t base n w i₀ i = (i ≤ n) × ((j : ℕ) → j < i → getD t (base + j) 0 ≡ w → ⊥)

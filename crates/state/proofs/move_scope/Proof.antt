@@ -1,9 +1,8 @@
-use Rattle.state.proofs.Opening as ways
+-- `move_scope` meets its contract. Assumes nothing.
 use borrow.Author.Needs.{needs}
+use Rattle.state.proofs.Opening as ways
 use Rattle.state.proofs.move_scope.Statement.{statement}
 use Rattle.state.proofs.move_scope.Tie as tie
-use Rattle.state.proofs.move_scope.Reads as reads
-use Rattle.state.proofs.move_scope.Lts as lts
 
 mul-t : tie.Need-mul-t
 mul-t c = search needs

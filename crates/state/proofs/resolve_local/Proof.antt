@@ -1,16 +1,13 @@
-use Rattle.state.proofs.Resolve as ways
-use Rattle.state.specs.Contracts.{Topmost, Looked}
-use lib.ListN.{getD}
-use mathlib.Core.Bool.{Bool, true, false}
-use mathlib.Core.Path.{_≡_, subst, sym}
+-- `resolve_local` meets its contract. Assumes nothing.
+use Prim.Native.Nat.{ℕ, suc, _+_, _*_, _-_, _≤_}
 use native.Mathlib.Omega.{arith}
-use Prim.Native.Nat.{ℕ, suc, _+_, _*_, _-_, _≤_, _<_}
+use mathlib.Core.Path.{_≡_, subst}
+use lib.ListN.{getD}
 use borrow.Author.Needs.{needs}
+use Rattle.state.proofs.Resolve as ways
+use Rattle.state.specs.Contracts.{Topmost}
 use Rattle.state.proofs.resolve_local.Statement.{statement}
 use Rattle.state.proofs.resolve_local.Tie as tie
-use Rattle.state.proofs.resolve_local.Reads as reads
-use Rattle.state.proofs.resolve_local.Lts as lts
-use Rattle.state.proofs.topmost.Reads as topmost-reads
 
 few : (s : tie.Start) → getD (s .args .t .now) (s .args .level * 1024 + 256) 0 ≤ 256
 few s = s .pre .1 .fewLocals (s .args .level) (s .pre .0)

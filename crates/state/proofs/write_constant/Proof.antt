@@ -1,14 +1,11 @@
-use Rattle.state.proofs.Constant as ways
-use lib.ListN.{getD, length-set}
-use mathlib.Core.Path.{_≡_, subst, sym}
+-- `write_constant` meets its contract. Assumes nothing.
+use Prim.Native.Nat.{_+_, _*_, _-_, _≤_}
 use native.Mathlib.Omega.{arith}
-use Prim.Native.Nat.{ℕ, suc, _+_, _*_, _-_, _≤_, _<_}
+use lib.ListN.{getD, length-set}
 use borrow.Author.Needs.{needs}
+use Rattle.state.proofs.Constant as ways
 use Rattle.state.proofs.write_constant.Statement.{statement}
 use Rattle.state.proofs.write_constant.Tie as tie
-use Rattle.state.proofs.write_constant.Reads as reads
-use Rattle.state.proofs.write_constant.Lts as lts
-use Rattle.state.proofs.first.Reads as first-reads
 
 few : (s : tie.Start) → getD (s .args .t .now) (s .args .level * 1024 + 770) 0 ≤ 256
 few s = s .pre .1 .fewConstants (s .args .level) (s .pre .0)

@@ -1,7 +1,7 @@
 -- `number_at` meets its contract. Assumes nothing.
 use Prim.Native.Nat.{_+_}
 use lib.ListN.{length}
-use mathlib.Core.Path.{sym, ap, _∙_}
+use mathlib.Core.Path.{sym, ap}
 use native.Mathlib.Omega.{arith}
 use Rattle.rules.specs.declared.Refusal.the-variants.{TreeForm}
 use Rattle.tree.specs.Places.{place}

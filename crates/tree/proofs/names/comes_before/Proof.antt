@@ -1,9 +1,9 @@
 -- `comes_before` meets its contract. The loop: what is left of the two texts is ordered as they are. Assumes nothing.
 use borrow.Author.Needs.{needs}
 use mathlib.Core.Path.{_≡_, refl, sym, _∙_}
-use Prim.Native.Nat.{_+_, _-_, _≤_}
+use Prim.Native.Nat.{_-_, _≤_}
 use native.Mathlib.Omega.{arith}
-use lib.ListN.{length, getD, drop}
+use lib.ListN.{length, drop}
 use Rattle.rules.specs.Base.{before}
 use Rattle.tree.proofs.Texts.{before-end, before-out, before-less, before-more, before-same}
 use Rattle.tree.proofs.names.comes_before.Statement.{statement}

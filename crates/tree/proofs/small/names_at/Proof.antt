@@ -1,7 +1,6 @@
 -- `names_at` meets its contract. The loop: what is left comes to what there was. Assumes nothing.
 use borrow.Author.Needs.{needs}
 use mathlib.Core.Path.{_≡_, refl, sym, ap, _∙_}
-use Prim.Native.Nat.{ℕ, _-_}
 use native.Mathlib.Omega.{arith}
 use Rattle.rules.specs.declared.Refusal.the-variants.{TreeForm}
 use Rattle.rules.specs.TreeFile.{name}

@@ -3,8 +3,7 @@ use borrow.Author.Needs.{needs}
 use native.Mathlib.Omega.{arith}
 use mathlib.Core.Path.{_≡_, refl, sym, ap, _∙_}
 use Prim.Native.Nat.{_+_, _-_, _*_}
-use Rattle.rules.specs.TreeFile.{read-expr}
-use Rattle.tree.specs.Places.{place, row}
+use Rattle.tree.specs.Places.{row}
 use Rattle.tree.specs.Stmts.{stmt-place, kids-place, follow-head}
 use Rattle.tree.proofs.Places.{goes, stops, row-none, row-stops, row-goes}
 use Prim.Native.Nat.{ℕ, _<_}

@@ -1,11 +1,9 @@
 -- `stmt_mark` meets its contract: what its tests name is what the rules' tables have. Assumes nothing.
-use mathlib.Core.Path.{refl, sym, ap, _∙_}
-use mathlib.Core.Bool.{Bool, true, false}
+use mathlib.Core.Path.{refl, sym, _∙_}
 use mathlib.Core.List.{[], _∷_}
 use mathlib.Core.Logic.{⊎-elim, inl, inr}
 use Rattle.rules.specs.Base.{if_then_else_, lookup, all}
 use Rattle.rules.specs.TreeFile.{stmt-marks}
-use Rattle.tree.specs.Places.{known-mark}
 use Rattle.tree.specs.Stmts.{known-stmt, method-marks}
 use Rattle.tree.proofs.Places.{cut, there}
 use Rattle.tree.proofs.Tables.{is-some, inside, outside, known-cut, known-is, known-not}

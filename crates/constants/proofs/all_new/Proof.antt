@@ -1,0 +1,91 @@
+-- `all_new` meets its contract: the words that are passed are different, and their slots have the mark. Assumes nothing.
+use Prim.Native.Nat.{ℕ, _+_, _-_, _*_, _/_, _%_, _<_, _≤_}
+use native.Mathlib.Omega.{arith}
+use mathlib.Core.Path.{_≡_, refl, sym, _∙_, ap}
+use lib.ListN.{length, getD}
+use borrow.Author.Needs.{needs}
+use borrow.Author.Count.{below-more}
+use Rattle.constants.proofs.New.{News, news-begin, news-looked, news-stamped, news-done, news-broken}
+use Rattle.constants.proofs.all_new.Statement.{statement}
+use Rattle.constants.proofs.all_new.Tie as tie
+
+abbrev Inv-loop : tie.InvT-loop
+Inv-loop words n mark stamps₀ i₀ stamps i = (i ≤ n) × News words stamps mark i
+
+abbrev μ-loop : tie.MeasureT-loop
+μ-loop words n mark stamps₀ i₀ stamps i = n - i
+
+loop-holds : tie.Need-loop-holds Inv-loop μ-loop
+loop-holds c = (omega arith, news-begin (c .args .words .now) (c .args .mark) (c .args .stamps .now) (c .pre .1 .1))
+
+mul-word : tie.Need-mul-word Inv-loop μ-loop
+mul-word c = omega (arith, c .before .before .pre .0, c .loop-test .taken)
+
+element-copy-out-word : tie.Need-element-copy-out-word Inv-loop μ-loop
+element-copy-out-word c = omega (arith, c .before .before .pre .0, c .loop-test .taken)
+
+slot-of-requires : tie.Need-slot-of-requires Inv-loop μ-loop
+slot-of-requires c κs = search needs
+
+mul-stamp : tie.Need-mul-stamp Inv-loop μ-loop
+mul-stamp c = omega (arith, c .slot-of .ensures .1)
+
+element-copy-out-stamp : tie.Need-element-copy-out-stamp Inv-loop μ-loop
+element-copy-out-stamp c = omega (arith, c .slot-of .ensures .1)
+
+find-requires : tie.Need-find-requires Inv-loop μ-loop
+find-requires c κs = omega (arith, c .before .before .before .before .before .before .pre .0, c .before .before .before .before .loop-test .taken)
+
+returns : tie.Need-returns Inv-loop μ-loop
+returns c = (news-broken (c .before .before .before .before .before .before .before .before .args .words .now) (c .before .before .before .before .before .before .before .before .args .mark) (c .before .before .before .before .before .before .before .before .args .n) (omega (arith, c .before .before .before .before .before .before .before .before .pre .0, c .before .before .before .before .before .before .before .before .pre .1 .0)) (c .before .before .before .before .before .before .before .loop .i) (c .before .find .result) _ (c .before .before .before .before .before .before .loop-test .taken) refl (c .if2 .taken) (c .before .find .ensures .there (c .if2 .taken)), c .before .before .before .before .before .before .before .loop .inv .1 .size)
+
+add-i : tie.Need-add-i Inv-loop μ-loop
+add-i c = omega (arith, c .before .before .before .before .before .before .before .before .pre .0, c .before .before .before .before .before .before .loop-test .taken)
+
+loop-less : tie.Need-loop-less Inv-loop μ-loop
+loop-less c = omega (arith, c .before .before .before .before .before .before .before .before .pre .0, c .before .before .before .before .before .before .loop-test .taken)
+
+loop-again : tie.Need-loop-again Inv-loop μ-loop
+loop-again c = (omega (arith, c .before .before .before .before .before .before .loop-test .taken), news-looked (c .before .before .before .before .before .before .before .before .args .words .now) (c .before .before .before .before .before .before .before .before .args .mark) (c .before .before .before .before .before .before .before .loop .stamps) (c .before .before .before .before .before .before .before .loop .i) _ (c .before .before .before .before .slot-of .result) (c .before .before .before .before .before .before .before .loop .inv .1) refl (c .before .before .before .before .slot-of .ensures .0) (c .before .before .if1 .taken) (λ j h. c .before .find .ensures .before j (omega (arith, h, c .if2 .left))))
+
+mul-stamps : tie.Need-mul-stamps Inv-loop μ-loop
+mul-stamps c = omega (arith, c .before .before .slot-of .ensures .1)
+
+element-write-stamps : tie.Need-element-write-stamps Inv-loop μ-loop
+element-write-stamps c = omega (arith, c .before .before .slot-of .ensures .1)
+
+add-i-2 : tie.Need-add-i-2 Inv-loop μ-loop
+add-i-2 c = omega (arith, c .before .before .before .before .before .before .pre .0, c .before .before .before .before .loop-test .taken)
+
+loop-less-2 : tie.Need-loop-less-2 Inv-loop μ-loop
+loop-less-2 c = omega (arith, c .before .before .before .before .before .before .pre .0, c .before .before .before .before .loop-test .taken)
+
+loop-again-2 : tie.Need-loop-again-2 Inv-loop μ-loop
+loop-again-2 c = (omega (arith, c .before .before .before .before .loop-test .taken), news-stamped (c .before .before .before .before .before .before .args .words .now) (c .before .before .before .before .before .before .args .mark) (c .before .before .before .before .before .loop .stamps) (c .before .before .before .before .before .loop .i) _ (c .before .before .slot-of .result) (c .before .before .before .before .before .loop .inv .1) refl (c .before .before .slot-of .ensures .0) (c .if1 .left) (c .before .before .slot-of .ensures .1))
+
+returns-2 : tie.Need-returns-2 Inv-loop μ-loop
+returns-2 c = (news-done (c .before .before .args .words .now) (c .before .before .args .mark) (c .before .before .args .n) (omega (arith, c .before .before .pre .0, c .before .before .pre .1 .0)) (c .before .loop .stamps) (c .before .loop .i) (c .before .loop .inv .1) (c .loop-test .left), c .before .loop .inv .1 .size)
+
+pub all-new-spec : {M : Type 1} → statement M
+all-new-spec =
+    tie.close
+    (tie.spec
+    Inv-loop
+    μ-loop
+    loop-holds
+    mul-word
+    element-copy-out-word
+    slot-of-requires
+    mul-stamp
+    element-copy-out-stamp
+    find-requires
+    returns
+    add-i
+    loop-less
+    loop-again
+    mul-stamps
+    element-write-stamps
+    add-i-2
+    loop-less-2
+    loop-again-2
+    returns-2)

@@ -1,0 +1,159 @@
+// The functions of an image, one after the other: the constants, runs and code of each are judged by the functions before it.
+
+ghost use mathlib.Core.Path.{_≡_};
+ghost use mathlib.Core.List.{[]};
+ghost use Prim.Native.Nat.{ℕ, _+_, _<_, _≤_};
+ghost use lib.ListN.{length, getD};
+ghost use Rattle.rules.specs.Reader.{many};
+ghost use Rattle.rules.specs.ImageFile.{read-function};
+ghost use Rattle.code.specs.Table.{kinds-in};
+ghost use Rattle.records.specs.Told.{code-told};
+ghost use Rattle.constants.specs.Earlier.{Counts};
+ghost use Rattle.functions.specs.declared.Done.the-variants as done;
+ghost use Rattle.functions.specs.Judged.{Constants-right, code-done, Judged, Next-is, functions-done};
+use code::Verdict;
+use records::Head;
+use records::Place;
+use records::Summed;
+
+// How many instructions a function has, and where it ends.
+pub enum Done {
+    Is(usize, usize),
+    Bad,
+}
+
+// The `n` constants of function `k`: that they are right, where they end, and their kinds.
+fn constants_right(
+    s: &[u8],
+    at: usize,
+    n: usize,
+    k: usize,
+    counts: &[u16; 65536],
+    words: &mut [u64; 65536],
+    stamps: &mut [u32; 65536],
+    kinds: &mut [u32; 256],
+) -> Place
+    requires { ⌜ (n < 65536) × ((k < 4294967295) × Counts (now s) k (now counts)) ⌝ }
+    requires { ⌜ (length (now words) ≡ 65536) × (length (now stamps) ≡ 65536) ⌝ }
+    requires { ⌜ (length (now kinds) ≡ 256) × ((p : ℕ) → getD (now kinds) p 0 ≡ 0) ⌝ }
+    ensures { λ r. ⌜ Constants-right (now (s .entry)) k at n r (now (kinds .exit)) ⌝ }
+    ensures { λ r. ⌜ (length (now (words .exit)) ≡ 65536) × (length (now (stamps .exit)) ≡ 65536) ⌝ }
+{
+    let Place::At(next) = constants::gather(s, at, n, words) else {
+        return Place::Bad;
+    };
+    let mark = (k + 1) as u32;
+    if !constants::all_new(words, n, mark, stamps) {
+        return Place::Bad;
+    }
+    if !constants::kinds_of(s, words, n, k, counts, kinds) {
+        return Place::Bad;
+    }
+    Place::At(next)
+}
+
+fn long(n: usize) -> u64
+    ensures { λ r. ⌜ r ≡ n ⌝ }
+{
+    n as u64
+}
+
+// The code of `size` bytes whose mark is at `at`, beside runs that stand for `sum` bytes.
+fn code_right(
+    s: &[u8],
+    at: usize,
+    size: usize,
+    sum: u64,
+    upvalues: usize,
+    kinds: &[u32; 256],
+    ring: &mut [u8; 131072],
+) -> Done
+    requires { ⌜ length (now ring) ≡ 131072 ⌝ }
+    ensures { λ r. ⌜ r ≡ code-done (kinds-in (now (kinds .entry))) upvalues sum size (now (s .entry)) (code-told (now (s .entry)) size at) ⌝ }
+    ensures { λ r. ⌜ ((n next : ℕ) → r ≡ done.Is n next → (at + n ≤ next) × (next ≤ length (now (s .entry)))) × (length (now (ring .exit)) ≡ 131072) ⌝ }
+{
+    let Place::At(first) = records::code_at(s, at, size) else {
+        return Done::Bad;
+    };
+    if sum != long(size) {
+        return Done::Bad;
+    }
+    let end = first + size;
+    let Verdict::Yes(n) = code::code_fits(&s[first..end], kinds, upvalues, ring) else {
+        return Done::Bad;
+    };
+    Done::Is(n, end)
+}
+
+// Function `k`, which begins at `at`.
+pub fn function(
+    s: &[u8],
+    at: usize,
+    k: usize,
+    counts: &[u16; 65536],
+    words: &mut [u64; 65536],
+    stamps: &mut [u32; 65536],
+    ring: &mut [u8; 131072],
+) -> Done
+    requires { ⌜ (k < 4294967295) × Counts (now s) k (now counts) ⌝ }
+    requires { ⌜ (length (now words) ≡ 65536) × ((length (now stamps) ≡ 65536) × (length (now ring) ≡ 131072)) ⌝ }
+    ensures { λ r. ⌜ Judged (now (s .entry)) k at r ⌝ }
+    ensures { λ r. ⌜ (length (now (words .exit)) ≡ 65536) × ((length (now (stamps .exit)) ≡ 65536) × (length (now (ring .exit)) ≡ 131072)) ⌝ }
+{
+    let Head::Is(h) = records::head_of(s, at) else {
+        return Done::Bad;
+    };
+    let mut kinds = [0u32; 256];
+    let Place::At(runs_at) = constants_right(s, at + 17, records::wide16(h.constants), k, counts, words, stamps, &mut kinds) else {
+        return Done::Bad;
+    };
+    let Summed::Are(sum, code_at) = records::runs(s, runs_at, records::wide32(h.runs)) else {
+        return Done::Bad;
+    };
+    code_right(s, code_at, records::wide32(h.code), sum, records::wide16(h.upvalues), &kinds, ring)
+}
+
+// Function `k`, which begins at `at`, joins the table of captured variables.
+fn note_count(s: &[u8], at: usize, k: usize, counts: &mut [u16; 65536])
+    requires { ⌜ Counts (now s) k (now counts) ⌝ }
+    requires { ⌜ Next-is (now s) k at ⌝ }
+    ensures { λ r. ⌜ Counts (now (s .entry)) (k + 1) (now (counts .exit)) ⌝ }
+{
+    let Head::Is(h) = records::head_of(s, at) else {
+        return;
+    };
+    if k < 65536 {
+        counts[k] = h.upvalues;
+    }
+}
+
+// All `count` functions, to the image's last byte: how many instructions they have.
+pub fn judge_all(
+    s: &[u8],
+    count: usize,
+    counts: &mut [u16; 65536],
+    words: &mut [u64; 65536],
+    stamps: &mut [u32; 65536],
+    ring: &mut [u8; 131072],
+) -> Verdict
+    requires { ⌜ (count < 4294967296) × ((6 ≤ length (now s)) × (length (now counts) ≡ 65536)) ⌝ }
+    requires { ⌜ (length (now words) ≡ 65536) × ((length (now stamps) ≡ 65536) × (length (now ring) ≡ 131072)) ⌝ }
+    ensures { λ r. ⌜ r ≡ functions-done 0 [] (length (now (s .entry))) (many count (read-function (now (s .entry))) 6) ⌝ }
+{
+    let mut at: usize = 6;
+    let mut k: usize = 0;
+    let mut total: usize = 0;
+    while k < count {
+        let Done::Is(n, next) = function(s, at, k, counts, words, stamps, ring) else {
+            return Verdict::No;
+        };
+        note_count(s, at, k, counts);
+        total += n;
+        at = next;
+        k += 1;
+    }
+    if at == s.len() {
+        return Verdict::Yes(total);
+    }
+    Verdict::No
+}

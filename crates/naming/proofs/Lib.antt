@@ -1,0 +1,3 @@
+-- Laws for the proofs of this crate.
+pub mod Counting
+pub mod Walking

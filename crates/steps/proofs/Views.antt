@@ -1,0 +1,145 @@
+-- What a change of the areas is to the rules' state: which context it is, what stays, and how much code there is.
+-- ## How much code
+use mathlib.Core.Path.{_≡_, refl, sym, ap₂, subst, _∙_}
+use mathlib.Core.List.{List, [], _∷_}
+use Prim.Native.Nat.{ℕ, zero, suc, _+_, _*_, _-_, _≤_, _<_}
+use native.Mathlib.Omega.{arith}
+use native.Mathlib.Nat.{eq-or-lt-of-le}
+use mathlib.Core.Logic.{⊎-elim}
+use lib.ListN.{length, getD}
+use Rattle.rules.specs.Chunk.{Chunk}
+use Rattle.rules.specs.Compiler.{Local, CompilerCtx, Compiler, with-ctx, with-chunk, with-locals, with-scope-depth, open-code}
+use Rattle.state.specs.Layout.{levels, code-end-at, runs-end-at, image-at, localsOf, codeFrom, runsFrom, codeEnd, runsEnd, chunkAt, ctxAt, parentsOf, Wf, Coded}
+use Rattle.state.specs.Contracts.{Kept}
+use Rattle.state.proofs.Laws.{length-row, kept-off, ctx-paths, chunk-same, upvalues-same, locals-same, parents-named}
+use Rattle.steps.specs.View.{Mem, mem, t-of, Rest, view, Agrees, Fit, code-len, depth-at, Turn, steady, Ahead}
+
+ops-length : (t code spans : List ℕ) (l ce re : ℕ) → length (ctxAt t code spans l ce re .chunk .ops) ≡ ce - codeFrom t l
+unfolding ctxAt chunkAt
+ops-length t code spans l ce re = length-row _ _
+
+more-code : (x y : Compiler) → x .parents ≡ y .ctx ∷ y .parents → open-code x ≡ length (x .ctx .chunk .ops) + open-code y
+unfolding open-code
+more-code x y e = rw e
+
+last-code : (x : Compiler) → x .parents ≡ [] → open-code x ≡ length (x .ctx .chunk .ops) + 0
+unfolding open-code
+last-code x e = rw e
+
+abbrev at-level : (t code spans : List ℕ) → (l ce re : ℕ) → Rest → Compiler
+at-level t code spans l ce re rest = record { ctx = ctxAt t code spans l ce re; parents = parentsOf t code spans l; class-ctx = rest .classes; functions = rest .functions }
+
+-- the code of the open functions, summed, ends where the innermost one's does
+open-at : (t code spans : List ℕ) (rest : Rest) (l ce re : ℕ) → codeFrom t 0 ≡ 0 → ((k : ℕ) → k < l → codeFrom t k ≤ codeFrom t (suc k)) → codeFrom t l ≤ ce → open-code (at-level t code spans l ce re rest) ≡ ce
+unfolding parentsOf
+open-at t code spans rest zero ce re z ord top = omega (arith, last-code (at-level t code spans zero ce re rest) refl, ops-length t code spans zero ce re)
+open-at t code spans rest (suc l) ce re z ord top =
+    omega (
+      arith,
+      more-code (at-level t code spans (suc l) ce re rest) (at-level t code spans l (codeFrom t (suc l)) (runsFrom t (suc l)) rest) refl,
+      ops-length t code spans (suc l) ce re,
+      open-at t code spans rest l (codeFrom t (suc l)) (runsFrom t (suc l)) z (λ k h. ord k (omega arith)) (ord l (omega arith)),
+    )
+
+pub open-is : (t code spans : List ℕ) (l limit : ℕ) (rest : Rest) → Coded t code spans l limit → open-code (view (mem t code spans) l rest) ≡ codeEnd t
+unfolding view
+open-is t code spans l limit rest ok = open-at t code spans rest l (codeEnd t) (runsEnd t) (ok .fromZero) (ok .order) (ok .top)
+
+pub view-len : (m : Mem) (l : ℕ) (rest : Rest) → length (view m l rest .ctx .chunk .ops) ≡ code-len m l
+unfolding view code-len
+view-len (mem t code spans) l rest = ops-length t code spans l (codeEnd t) (runsEnd t)
+
+pub view-depth : (m : Mem) (l : ℕ) (rest : Rest) → view m l rest .ctx .scope-depth ≡ depth-at m l
+unfolding view depth-at ctxAt
+view-depth (mem t code spans) l rest = refl
+
+-- ## What a step leaves alone
+
+pub still-agrees : {class : ℕ} {before now : Mem} {rest : Rest} → getD (t-of now) image-at 0 ≡ getD (t-of before) image-at 0 → Agrees class before rest → Agrees class now rest
+still-agrees e h = record { innermost = h .innermost; made = h .made ∙ sym e }
+
+-- a change of the table that is neither a start of code or runs nor an end of them
+module _ (e : Turn) (t code spans t′ : List ℕ) (l limit : ℕ) (fit : Fit (mem t code spans) l limit) (wf′ : Wf t′)
+    (deep : getD t′ (l * 1024 + 771) 0 ≡ e .depth (getD t (l * 1024 + 771) 0))
+    (head : (o : ℕ) → 772 ≤ o → o ≤ 776 → getD t′ (l * 1024 + o) 0 ≡ getD t (l * 1024 + o) 0)
+    (under : (k o : ℕ) → k < l → 771 ≤ o → o ≤ 776 → getD t′ (k * 1024 + o) 0 ≡ getD t (k * 1024 + o) 0)
+    (ends : (i : ℕ) → code-end-at ≤ i → getD t′ i 0 ≡ getD t i 0) where
+  words : (k o : ℕ) → k ≤ l → 772 ≤ o → o ≤ 776 → getD t′ (k * 1024 + o) 0 ≡ getD t (k * 1024 + o) 0
+  words k o h a b = ⊎-elim (λ (q : k ≡ l). subst (λ (j : ℕ). getD t′ (j * 1024 + o) 0 ≡ getD t (j * 1024 + o) 0) (sym q) (head o a b)) (λ (q : k < l). under k o q (omega arith) b) (eq-or-lt-of-le h)
+
+  coded-same : Coded t′ code spans l limit
+  coded-same =
+      let ok′ = fit .coded in
+      let ce = ends code-end-at (omega arith) in
+      let re = ends runs-end-at (omega arith) in
+      record {
+        roomCode = ok′ .roomCode;
+        roomRuns = ok′ .roomRuns;
+        within = omega (arith, ok′ .within);
+        fewer = omega (arith, ok′ .fewer);
+        fromZero = words 0 772 (omega arith) (omega arith) (omega arith) ∙ ok′ .fromZero;
+        top = omega (arith, ok′ .top, words l 772 (omega arith) (omega arith) (omega arith));
+        topRuns = omega (arith, ok′ .topRuns, words l 773 (omega arith) (omega arith) (omega arith));
+        order = λ k z. omega (arith, words k 772 (omega arith) (omega arith) (omega arith), words (suc k) 772 (omega arith) (omega arith) (omega arith), ok′ .order k z);
+        orderRuns = λ k z. omega (arith, words k 773 (omega arith) (omega arith) (omega arith), words (suc k) 773 (omega arith) (omega arith) (omega arith), ok′ .orderRuns k z);
+      }
+
+  pub ahead-named : Ahead l limit e (mem t code spans) (mem t′ code spans)
+  unfolding code-len depth-at
+  ahead-named = record {
+    fit = record { low = fit .low; wf = wf′; coded = coded-same };
+    up = omega (arith, ends code-end-at (omega arith), head 772 (omega arith) (omega arith));
+    deep = deep;
+    head = head;
+    under = under;
+    beyond = λ i h. ends i (omega arith);
+  }
+
+-- the same of a change within the level's names
+pub ahead-kept : (t code spans t′ : List ℕ) (l limit lo hi : ℕ) → Fit (mem t code spans) l limit → Wf t′ → Kept (l * 1024 + lo) (l * 1024 + hi) t t′ → hi ≤ 771 → Ahead l limit steady (mem t code spans) (mem t′ code spans)
+ahead-kept t code spans t′ l limit lo hi fit wf′ kp h =
+    let low = fit .low in
+    ahead-named steady t code spans t′ l limit fit wf′ (kp .above _ (omega arith)) (λ o a b. kp .above _ (omega arith)) (λ k o a b c. kept-off _ _ t t′ _ kp (λ x y. omega arith)) (λ i a. kp .above _ (omega arith))
+
+-- ## One context changes
+
+-- the contexts around are the same after a change within the level
+pub around-kept : (t t′ : List ℕ) (l lo hi : ℕ) → Wf t → l < levels → Kept (l * 1024 + lo) (l * 1024 + hi) t t′ → hi ≤ 772 → (code spans : List ℕ) → parentsOf t′ code spans l ≡ parentsOf t code spans l
+around-kept t t′ l lo hi wf low kp h code spans =
+    parents-named t t′ l wf low (λ k o a b. kept-off _ _ t t′ _ kp (λ x y. omega arith)) (kp .above _ (omega arith)) (kp .above _ (omega arith)) code spans
+
+pub view-with : (t code spans t′ : List ℕ) (l : ℕ) (c : CompilerCtx) → codeEnd t′ ≡ codeEnd t → runsEnd t′ ≡ runsEnd t → parentsOf t′ code spans l ≡ parentsOf t code spans l → ctxAt t′ code spans l (codeEnd t) (runsEnd t) ≡ c → (rest : Rest) → view (mem t′ code spans) l rest ≡ with-ctx (view (mem t code spans) l rest) c
+unfolding view
+view-with t code spans t′ l c ce re ps e rest =
+    let q : ctxAt t′ code spans l (codeEnd t′) (runsEnd t′) ≡ c = ap₂ (ctxAt t′ code spans l) ce re ∙ e in
+    λ i. record { ctx = q i; parents = ps i; class-ctx = rest .classes; functions = rest .functions }
+
+-- only its locals
+pub view-locals : (t code spans t′ : List ℕ) (l hi : ℕ) (ls : List Local) → Wf t → l < levels → Kept (l * 1024) (l * 1024 + hi) t t′ → hi ≤ 257 → localsOf t′ l ≡ ls → (rest : Rest) → view (mem t′ code spans) l rest ≡ with-ctx (view (mem t code spans) l rest) (with-locals (view (mem t code spans) l rest .ctx) ls)
+unfolding view ctxAt
+view-locals t code spans t′ l hi ls wf low kp h e rest =
+    let at : (o : ℕ) → 257 ≤ o → getD t′ (l * 1024 + o) 0 ≡ getD t (l * 1024 + o) 0 = λ o a. kp .above _ (omega arith) in
+    let kp′ : Kept (l * 1024 + 0) (l * 1024 + hi) t t′ = record { below = λ i a. kp .below i (omega arith); above = kp .above } in
+    view-with t code spans t′ l _ (kp .above _ (omega arith)) (kp .above _ (omega arith)) (around-kept t t′ l 0 hi wf low kp′ (omega arith) code spans)
+    (ctx-paths t code spans t′ code spans l (codeEnd t) (runsEnd t) (codeEnd t) (runsEnd t) (λ o a b. at o (omega arith))
+    (chunk-same t code spans t′ code spans l (codeEnd t) (runsEnd t) (wf .fewConstants l low) (λ o a b n. at o (omega arith)) (λ i z. refl) (λ i z. refl))
+    e (upvalues-same t t′ l (wf .fewUpvalues l low) (λ o a b. at o (omega arith))) (at 771 (omega arith))) rest
+
+-- only its chunk
+pub view-chunk : (t code spans t′ : List ℕ) (l : ℕ) (c : Chunk) → Wf t → l < levels → Kept (l * 1024 + 514) (l * 1024 + 771) t t′ → chunkAt t′ code spans l (codeEnd t) (runsEnd t) ≡ c → (rest : Rest) → view (mem t′ code spans) l rest ≡ with-ctx (view (mem t code spans) l rest) (with-chunk (view (mem t code spans) l rest .ctx) c)
+unfolding view ctxAt
+view-chunk t code spans t′ l c wf low kp e rest =
+    let at : (o : ℕ) → (514 ≤ o → o < 771 → ⊥) → getD t′ (l * 1024 + o) 0 ≡ getD t (l * 1024 + o) 0 = λ o off. kept-off _ _ t t′ _ kp (λ x y. off (omega arith) (omega arith)) in
+    view-with t code spans t′ l _ (kp .above _ (omega arith)) (kp .above _ (omega arith)) (around-kept t t′ l 514 771 wf low kp (omega arith) code spans)
+    (ctx-paths t code spans t′ code spans l (codeEnd t) (runsEnd t) (codeEnd t) (runsEnd t) (λ o a b. at o (λ x y. omega arith)) e
+    (locals-same t t′ l (wf .fewLocals l low) (λ o a. at o (λ x y. omega arith))) (upvalues-same t t′ l (wf .fewUpvalues l low) (λ o a b. at o (λ x y. omega arith))) (at 771 (λ x y. omega arith))) rest
+
+-- only its depth
+pub view-scope : (t code spans t′ : List ℕ) (l d : ℕ) → Wf t → l < levels → Kept (l * 1024 + 771) (l * 1024 + 772) t t′ → getD t′ (l * 1024 + 771) 0 ≡ d → (rest : Rest) → view (mem t′ code spans) l rest ≡ with-ctx (view (mem t code spans) l rest) (with-scope-depth (view (mem t code spans) l rest .ctx) d)
+unfolding view ctxAt
+view-scope t code spans t′ l d wf low kp e rest =
+    let at : (o : ℕ) → (o ≡ 771 → ⊥) → getD t′ (l * 1024 + o) 0 ≡ getD t (l * 1024 + o) 0 = λ o off. kept-off _ _ t t′ _ kp (λ x y. off (omega arith)) in
+    view-with t code spans t′ l _ (kp .above _ (omega arith)) (kp .above _ (omega arith)) (around-kept t t′ l 771 772 wf low kp (omega arith) code spans)
+    (ctx-paths t code spans t′ code spans l (codeEnd t) (runsEnd t) (codeEnd t) (runsEnd t) (λ o a b. at o (λ z. omega arith))
+    (chunk-same t code spans t′ code spans l (codeEnd t) (runsEnd t) (wf .fewConstants l low) (λ o a b n. at o n) (λ i z. refl) (λ i z. refl))
+    (locals-same t t′ l (wf .fewLocals l low) (λ o a. at o (λ z. omega arith))) (upvalues-same t t′ l (wf .fewUpvalues l low) (λ o a b. at o (λ z. omega arith))) e) rest

@@ -1,0 +1,43 @@
+-- `begin_scope` meets its contract. Assumes nothing.
+use mathlib.Core.Path.{refl}
+use borrow.Author.Needs.{needs}
+use Rattle.steps.proofs.Scopes as ways
+use Rattle.steps.proofs.begin_scope.Statement.{statement}
+use Rattle.steps.proofs.begin_scope.Tie as tie
+
+mul-depth : tie.Need-mul-depth
+mul-depth c = search needs
+
+add-depth : tie.Need-add-depth
+add-depth c = search needs
+
+mul-depth-2 : tie.Need-mul-depth-2
+mul-depth-2 c = search needs
+
+slice-read-depth : tie.Need-slice-read-depth
+slice-read-depth c = search needs
+
+add-move-scope : tie.Need-add-move-scope
+add-move-scope c = search needs
+
+move-scope-requires : tie.Need-move-scope-requires
+move-scope-requires c κs = search needs
+
+same-length : tie.Need-same-length
+same-length c = search needs
+
+returns : tie.Need-returns
+returns c = let a = c .before .before .before .before .before .before .args in ways.scope-begun (a .level) _ _ _ (c .before .before .move-scope .ensures) refl
+
+pub begin-scope-spec : {M : Type 1} → statement M
+begin-scope-spec =
+    tie.close
+    (tie.spec
+    mul-depth
+    add-depth
+    mul-depth-2
+    slice-read-depth
+    add-move-scope
+    move-scope-requires
+    same-length
+    returns)

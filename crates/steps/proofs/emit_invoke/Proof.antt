@@ -1,0 +1,95 @@
+-- `emit_invoke` meets its contract. Assumes nothing.
+use borrow.Author.Needs.{needs}
+use Rattle.rules.specs.Compiler.{emit-op, emit-invoke}
+use Rattle.steps.proofs.Steps.{went, halt, then}
+use Rattle.steps.proofs.Bytes as ways
+use Rattle.steps.proofs.emit_invoke.Statement.{statement}
+use Rattle.steps.proofs.emit_invoke.Tie as tie
+
+emit-op-requires : tie.Need-emit-op-requires
+emit-op-requires c κs = search needs
+
+enum-told : tie.Need-enum-told
+enum-told c = search needs
+
+enum-told-2 : tie.Need-enum-told-2
+enum-told-2 c = search needs
+
+same-length : tie.Need-same-length
+same-length c = search needs
+
+same-length-2 : tie.Need-same-length-2
+same-length-2 c = search needs
+
+same-length-3 : tie.Need-same-length-3
+same-length-3 c = search needs
+
+returns : tie.Need-returns
+unfolding emit-op emit-invoke
+returns c = λ class. halt _ (c .before .before .before .before .before .before .before .before .emit-op .ensures class) (c .enum-told2 .given .1)
+
+name-word-requires : tie.Need-name-word-requires
+name-word-requires c κs = search needs
+
+emit-constant-requires : tie.Need-emit-constant-requires
+emit-constant-requires c κs = went (c .before .before .before .before .before .before .before .before .before .before .before .before .emit-op .ensures 0) (c .before .before .before .before .enum-told .given .1) .ahead .fit
+
+enum-told-3 : tie.Need-enum-told-3
+enum-told-3 c = search needs
+
+enum-told-4 : tie.Need-enum-told-4
+enum-told-4 c = search needs
+
+same-length-4 : tie.Need-same-length-4
+same-length-4 c = search needs
+
+same-length-5 : tie.Need-same-length-5
+same-length-5 c = search needs
+
+same-length-6 : tie.Need-same-length-6
+same-length-6 c = search needs
+
+returns-2 : tie.Need-returns-2
+unfolding emit-op emit-invoke
+returns-2 c = λ class. then _ (c .before .before .before .before .before .before .before .before .before .before .before .before .before .before .before .before .before .before .before .before .before .emit-op .ensures class) (c .before .before .before .before .before .before .before .before .before .before .before .before .before .enum-told .given .1) (halt _ (ways.constant-is (c .before .before .before .before .before .before .before .before .before .before .before .before .before .before .before .before .before .before .before .before .before .before .before .before .before .before .before .before .args .span) (c .before .before .before .before .before .before .before .before .before .name-word .ensures) (c .before .before .before .before .before .before .before .before .emit-constant .ensures class)) (c .enum-told4 .given .1))
+
+emit-op-requires-2 : tie.Need-emit-op-requires-2
+emit-op-requires-2 c κs = went (c .before .before .before .before .before .before .before .before .before .before .before .emit-constant .ensures 0) (c .before .before .before .enum-told3 .given .1) .ahead .fit
+
+same-length-7 : tie.Need-same-length-7
+same-length-7 c = search needs
+
+same-length-8 : tie.Need-same-length-8
+same-length-8 c = search needs
+
+same-length-9 : tie.Need-same-length-9
+same-length-9 c = search needs
+
+returns-3 : tie.Need-returns-3
+unfolding emit-op emit-invoke
+returns-3 c = λ class. then _ (c .before .before .before .before .before .before .before .before .before .before .before .before .before .before .before .before .before .before .before .before .before .before .before .before .before .before .before .before .before .before .before .emit-op .ensures class) (c .before .before .before .before .before .before .before .before .before .before .before .before .before .before .before .before .before .before .before .before .before .before .before .enum-told .given .1) (then _ (ways.constant-is (c .before .before .before .before .before .before .before .before .before .before .before .before .before .before .before .before .before .before .before .before .before .before .before .before .before .before .before .before .before .before .before .before .before .before .before .before .before .before .args .span) (c .before .before .before .before .before .before .before .before .before .before .before .before .before .before .before .before .before .before .before .name-word .ensures) (c .before .before .before .before .before .before .before .before .before .before .before .before .before .before .before .before .before .before .emit-constant .ensures class)) (c .before .before .before .before .before .before .before .before .before .before .enum-told3 .given .1) (c .before .before .before .before .before .before .emit-op2 .ensures class))
+
+pub emit-invoke-spec : {M : Type 1} → statement M
+emit-invoke-spec =
+    tie.close
+    (tie.spec
+    emit-op-requires
+    enum-told
+    enum-told-2
+    same-length
+    same-length-2
+    same-length-3
+    returns
+    name-word-requires
+    emit-constant-requires
+    enum-told-3
+    enum-told-4
+    same-length-4
+    same-length-5
+    same-length-6
+    returns-2
+    emit-op-requires-2
+    same-length-7
+    same-length-8
+    same-length-9
+    returns-3)
