@@ -104,13 +104,30 @@ pub fn function(
         return Done::Bad;
     };
     let mut kinds = [0u32; 256];
-    let Place::At(runs_at) = constants_right(s, at + 17, records::wide16(h.constants), k, counts, words, stamps, &mut kinds) else {
+    let Place::At(runs_at) = constants_right(
+        s,
+        at + 17,
+        records::wide16(h.constants),
+        k,
+        counts,
+        words,
+        stamps,
+        &mut kinds,
+    ) else {
         return Done::Bad;
     };
     let Summed::Are(sum, code_at) = records::runs(s, runs_at, records::wide32(h.runs)) else {
         return Done::Bad;
     };
-    code_right(s, code_at, records::wide32(h.code), sum, records::wide16(h.upvalues), &kinds, ring)
+    code_right(
+        s,
+        code_at,
+        records::wide32(h.code),
+        sum,
+        records::wide16(h.upvalues),
+        &kinds,
+        ring,
+    )
 }
 
 // Function `k`, which begins at `at`, joins the table of captured variables.

@@ -28,7 +28,14 @@ fn count_of(image: &[u8]) -> Verdict
     let mut words = [0u64; 65536];
     let mut stamps = [0u32; 65536];
     let mut ring = [0u8; 131072];
-    let Verdict::Yes(n) = functions::judge_all(image, count, &mut counts, &mut words, &mut stamps, &mut ring) else {
+    let Verdict::Yes(n) = functions::judge_all(
+        image,
+        count,
+        &mut counts,
+        &mut words,
+        &mut stamps,
+        &mut ring,
+    ) else {
         return Verdict::No;
     };
     if naming::all_named_once(image, count) {

@@ -71,7 +71,8 @@ fn note_function(s: &[u8], at: usize, base: usize, seen: &mut [u8; 65536]) -> Pl
     let Head::Is(h) = records::head_of(s, at) else {
         return Place::Bad;
     };
-    let Place::At(runs_at) = note_constants(s, at + 17, records::wide16(h.constants), base, seen) else {
+    let Place::At(runs_at) = note_constants(s, at + 17, records::wide16(h.constants), base, seen)
+    else {
         return Place::Bad;
     };
     records::skip_function(s, at)

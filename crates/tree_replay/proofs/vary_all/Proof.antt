@@ -54,4 +54,3 @@ vary-all-spec =
     loop-less
     loop-again
     returns-2)
-
