@@ -1,3 +1,4 @@
 -- Laws for the proofs of this crate.
 pub mod Sound
 pub mod Whole
+pub mod Lookup

@@ -74,7 +74,7 @@ module _ (s : List ℕ) (bytes : (i : ℕ) → getD s i 0 < 256) where
 
 -- ## The header
 
-unfoldable after : (size : ℕ) → Read (List ObjectFunction) → Option (List ObjectFunction)
+unfoldable pub after : (size : ℕ) → Read (List ObjectFunction) → Option (List ObjectFunction)
 after size (bad fault) = none
 after size (got fs end) = if eqb end size then (if sound fs then some fs else none) else none
 
@@ -121,7 +121,7 @@ module _ (s : List ℕ) where
         by true = refl
         by false = refl
 
-    image-is : 0 < count → image-of s ≡ after (length s) (many count (read-function s) 6)
+    pub image-is : 0 < count → image-of s ≡ after (length s) (many count (read-function s) 6)
     unfolding image-of read-image read-functions _>>=_ _>>_ go-on need
     image-is p =
         let l : 0 < word32 s 2 = omega arith in

@@ -1,2 +1,3 @@
 -- What the contracts of this crate cite beside the rules.
 pub mod Words
+pub mod Runs

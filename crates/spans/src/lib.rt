@@ -2,7 +2,9 @@
 
 ghost use mathlib.Core.Path.{_≡_};
 ghost use Rattle.rules.specs.Checker.{span-of};
+ghost use Rattle.rules.specs.Checker as Checker;
 ghost use Rattle.spans.specs.Words.{runs-of};
+ghost use Rattle.spans.specs.Runs.{runs-in};
 use rules::Answer;
 
 fn wide(n: u32) -> usize
@@ -36,6 +38,46 @@ pub fn span_of_words(words: &[u32], offset: usize) -> Answer
         }
         left -= count;
         at += 3;
+    }
+    Answer {
+        number: 42,
+        at: 0,
+        end: 0,
+        name: 0,
+        length: 0,
+    }
+}
+
+// Neighbouring code bytes of one span.
+#[repr(C)]
+pub struct Run {
+    pub start: u32,
+    pub end: u32,
+    pub count: u8,
+}
+
+// The same over a lent slice of runs.
+pub fn span_of(runs: &[Run], offset: usize) -> Answer
+    ensures { λ r. ⌜ r ≡ Checker.span-of (runs-in (now (runs .entry))) offset ⌝ }
+{
+    let mut i = 0;
+    let mut left = offset;
+    while i < runs.len() {
+        let r = runs[i];
+        let n = r.count as usize;
+        let a = r.start as u64;
+        let e = r.end as u64;
+        if left < n {
+            return Answer {
+                number: 0,
+                at: a,
+                end: e,
+                name: 0,
+                length: 0,
+            };
+        }
+        left = left - n;
+        i = i + 1;
     }
     Answer {
         number: 42,

@@ -176,6 +176,7 @@ module _ (t code spans : List ℕ) (l limit byte : ℕ) (span : Span) (low : l <
           roomRuns = omega (arith, ok .roomRuns);
           within = omega arith;
           fewer = omega arith;
+          fewerAt = λ k z. omega (arith, at k 772 (omega arith) (omega arith), at k 773 (omega arith) (omega arith), ok .fewerAt k z);
           fromZero = at 0 772 (omega arith) (omega arith) ∙ ok .fromZero;
           top = omega (arith, ok .top);
           topRuns = omega (arith, ok .topRuns);

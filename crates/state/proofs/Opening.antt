@@ -9,7 +9,7 @@ use lib.ListN.{length, getD, set, length-set}
 use lib.Seq.{getD-set-same, getD-set-other}
 use Rattle.rules.specs.Compiler.{new-ctx}
 use Rattle.state.specs.Layout.{levels, deepest, table-words, code-end-at, runs-end-at, row, stack, localOf, upvalueOf, constantOf, type-of, codeFrom, runsFrom, codeEnd, runsEnd, runAt, chunkAt, ctxAt, parentsOf, Wf}
-use Rattle.state.specs.Contracts.{Kept, Moved, Began}
+use Rattle.state.specs.Contracts.{Kept, Moved, Closed, Began}
 use Rattle.state.proofs.Laws.{kept-set, kept-then, ctx-same, parents-named, wf-count, wf-depth, wf-plain}
 
 pub moved : (t : List ℕ) (l depth : ℕ) → l < levels → Wf t → depth ≤ deepest → Moved t (set t (l * 1024 + 771) depth) l depth
@@ -18,6 +18,16 @@ moved t l depth low wf h = record {
   kept = kept-set _ _ t _ _ (omega arith) (omega arith);
   wf = wf-depth t l depth h wf;
 }
+
+pub closed : (t : List ℕ) (l : ℕ) → l < levels → Wf t → Closed t (set (set t code-end-at (codeFrom t l)) runs-end-at (runsFrom t l)) l
+closed t l low wf =
+    let t₁ : List ℕ = set t code-end-at (codeFrom t l) in
+    record {
+      code = getD-set-other t₁ runs-end-at code-end-at (runsFrom t l) 0 (omega arith) ∙ getD-set-same t code-end-at (codeFrom t l) 0 (omega (arith, wf .size));
+      runs = getD-set-same t₁ runs-end-at (runsFrom t l) 0 (omega (arith, wf .size, length-set t code-end-at (codeFrom t l)));
+      kept = kept-then _ _ t t₁ _ _ (kept-set _ _ t _ _ (omega arith) (omega arith)) (omega arith) (omega arith);
+      wf = wf-plain t₁ levels 1 _ (omega arith) (λ a b. omega arith) (λ z. omega arith) (λ z. omega arith) (wf-plain t levels 0 _ (omega arith) (λ a b. omega arith) (λ z. omega arith) (λ z. omega arith) wf);
+    }
 
 none-row : {A : Type 0} (f : ℕ → A) (n : ℕ) → n ≡ 0 → row f n ≡ []
 unfolding row
@@ -192,6 +202,8 @@ module _ (t : List ℕ) (l name arity kind : ℕ) (low : l + 1 < levels) (wf : W
           roomRuns = ok .roomRuns;
           within = omega (arith, ok .within, ce);
           fewer = omega (arith, ok .fewer, ce, re);
+          fewerAt = λ j h. ⊎-elim (λ (q : j ≡ suc l). subst (λ (m : ℕ). runsFrom t₉ m ≤ codeFrom t₉ m) (sym q) (omega (arith, ok .fewer)))
+              (λ (q : j < suc l). omega (arith, same j 772 (omega arith) (omega arith), same j 773 (omega arith) (omega arith), ok .fewerAt j (le-of-lt-suc j l q))) (eq-or-lt-of-le h);
           fromZero = same 0 772 (omega arith) (omega arith) ∙ ok .fromZero;
           top = omega (arith, ce);
           topRuns = omega (arith, re);

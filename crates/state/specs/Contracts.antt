@@ -11,7 +11,7 @@ use Rattle.rules.specs.declared.Span.{Span}
 use Rattle.rules.specs.declared.Refusal.the-variants.{AccessInsideInitializer, TooManyUpvalues}
 use Rattle.rules.specs.Chunk.{Chunk, Run, same-span, write-u8, write-constant, Written, at-place, no-room}
 use Rattle.rules.specs.Compiler.{Local, Upvalue, CompilerCtx, new-ctx, Found, at-slot, uninitialized, missing, find-local, capture, Resolved, captured, nowhere, failed, add-upvalue, resolve-upvalue, declared, initialize}
-use Rattle.state.specs.Layout.{code-end-at, image-at, localsOf, constantOf, runsFrom, codeEnd, runsEnd, runAt, chunkAt, ctxAt, parentsOf, type-of, Wf, Coded}
+use Rattle.state.specs.Layout.{code-end-at, image-at, codeFrom, localsOf, constantOf, runsFrom, codeEnd, runsEnd, runAt, chunkAt, ctxAt, parentsOf, type-of, Wf, Coded}
 use Rattle.state.specs.declared.Slot.{Slot}
 use Rattle.state.specs.declared.Slot.the-variants as slot
 use Rattle.state.specs.declared.Up.{Up}
@@ -154,6 +154,13 @@ pub record Dropped (t t′ : List ℕ) (l : ℕ) (newest : Local) : Type 0 where
 pub record Moved (t t′ : List ℕ) (l depth : ℕ) : Type 0 where
   pub does : getD t′ (l * 1024 + 771) 0 ≡ depth
   pub kept : Kept (l * 1024 + 771) (l * 1024 + 772) t t′
+  pub wf : Wf t′
+
+-- code and runs end where the level's begin
+pub record Closed (t t′ : List ℕ) (l : ℕ) : Type 0 where
+  pub code : codeEnd t′ ≡ codeFrom t l
+  pub runs : runsEnd t′ ≡ runsFrom t l
+  pub kept : Kept code-end-at image-at t t′
   pub wf : Wf t′
 
 -- the context above level l, whatever the code and the runs are

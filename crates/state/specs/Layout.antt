@@ -159,6 +159,7 @@ pub record Coded (t code spans : List ℕ) (l limit : ℕ) : Type 0 where
   pub roomRuns : limit * 3 ≤ length spans
   pub within : codeEnd t ≤ limit
   pub fewer : runsEnd t ≤ codeEnd t
+  pub fewerAt : (k : ℕ) → k ≤ l → runsFrom t k ≤ codeFrom t k
   pub fromZero : codeFrom t 0 ≡ 0
   pub top : codeFrom t l ≤ codeEnd t
   pub topRuns : runsFrom t l ≤ runsEnd t

@@ -6,7 +6,7 @@ ghost use lib.Dec.{ltb, eqb};
 ghost use lib.ListN.{length, getD, replicate};
 ghost use Rattle.rules.specs.Compiler.{declared};
 ghost use Rattle.state.specs.Layout.{levels, deepest, localOf, stack, codeFrom, codeEnd, Wf, Coded};
-ghost use Rattle.state.specs.Contracts.{Topmost, First, Looked, Added, Captured, last-grows, Wrote, Constants, DeclaredAt, DefinedAt, Dropped, Moved, Began};
+ghost use Rattle.state.specs.Contracts.{Topmost, First, Looked, Added, Captured, last-grows, Wrote, Constants, DeclaredAt, DefinedAt, Dropped, Moved, Closed, Began};
 use rules::Span;
 
 // The script, and the functions that may be open in one another.
@@ -311,4 +311,15 @@ pub fn begin_ctx(t: &mut [u64], level: usize, name: u16, arity: u8, kind: u8)
     t[base + 774] = name as u64;
     t[base + 775] = arity as u64;
     t[base + 776] = kind as u64;
+}
+
+// Leaves a context: the code and the runs end where its own began.
+pub fn end_ctx(t: &mut [u64], level: usize)
+    requires { ⌜ (level < levels) × (Wf (now t)) ⌝ }
+    ensures { λ r. ⌜ Closed (now (t .entry)) (now (t .exit)) level ⌝ }
+{
+    let code = t[level * 1024 + 772];
+    let runs = t[level * 1024 + 773];
+    t[CODE_END] = code;
+    t[RUNS_END] = runs;
 }

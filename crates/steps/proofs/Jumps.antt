@@ -110,6 +110,7 @@ module _ {limit : ℕ} (l place d : ℕ) (span : Span) (t code spans : List ℕ)
               roomRuns = ok′ .roomRuns;
               within = ok′ .within;
               fewer = ok′ .fewer;
+              fewerAt = ok′ .fewerAt;
               fromZero = ok′ .fromZero;
               top = ok′ .top;
               topRuns = ok′ .topRuns;

@@ -5,3 +5,4 @@ pub mod Bytes
 pub mod Jumps
 pub mod Scopes
 pub mod Names
+pub mod Returns

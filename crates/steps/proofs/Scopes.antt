@@ -4,7 +4,7 @@
 use mathlib.Core.Path.{_≡_, refl, sym, ap, ap₂, subst, _∙_}
 use mathlib.Core.Bool.{Bool, true, false, not}
 use mathlib.Core.List.{List, [], _∷_}
-use Prim.Native.Nat.{ℕ, suc, _+_, _*_, _-_, _≤_, _<_}
+use Prim.Native.Nat.{ℕ, zero, suc, _+_, _*_, _-_, _≤_, _<_}
 use native.Mathlib.Omega.{arith}
 use lib.ListN.{length, getD}
 use lib.Dec.{ltb, eqb}
@@ -13,15 +13,15 @@ use Rattle.rules.specs.Base.{if_then_else_}
 use Rattle.rules.specs.Op as op
 use Rattle.rules.specs.declared.Span.{Span}
 use Rattle.rules.specs.declared.Refusal.the-variants.{AlreadyDefined, TooManyLocals, CodeFull}
-use Rattle.rules.specs.Compiler.{Local, CompilerCtx, Compiler, with-ctx, with-locals, with-scope-depth, Outcome, ok, err, Compile, go-on, _>>=_, _>>_, done, return, need, the, update-ctx, declared, declare-local, define-local, is-global, begin-scope, begin-ctx, emit-u8, emit-op, pop-locals, end-scope}
-use Rattle.state.specs.Layout.{levels, stack, localOf, localsOf, codeEnd, runsEnd, ctxAt}
-use Rattle.state.specs.Contracts.{DeclaredAs, DeclaredAt, DefinedAt, Moved, Began, Wrote, Dropped}
+use Rattle.rules.specs.Compiler.{Local, CompilerCtx, Compiler, with-ctx, with-locals, with-scope-depth, Outcome, ok, err, Compile, go-on, _>>=_, _>>_, done, return, need, the, update-ctx, declared, declare-local, define-local, is-global, begin-scope, begin-ctx, emit-u8, emit-op, pop-locals, end-scope, end-ctx, back-to}
+use Rattle.state.specs.Layout.{levels, stack, localOf, localsOf, codeEnd, runsEnd, ctxAt, codeFrom, runsFrom, upvaluesOf, parentsOf, Wf}
+use Rattle.state.specs.Contracts.{DeclaredAs, DeclaredAt, DefinedAt, Moved, Began, Wrote, Dropped, Closed}
 use Rattle.state.specs.declared.Declared.{Declared}
 use Rattle.state.specs.declared.Declared.the-variants as decl
 use Rattle.state.specs.declared.Emitted.{Emitted}
 use Rattle.state.specs.declared.Emitted.the-variants as emitted
-use Rattle.state.proofs.Laws.{kept-off, locals-same}
-use Rattle.steps.specs.View.{Mem, mem, Rest, view, Agrees, Fit, depth-at, Turn, steady, deeper, shallower, Gave, Refused, Changed, Tried, Asked, pops, Passing, PoppedAt, Entered}
+use Rattle.state.proofs.Laws.{kept-off, locals-same, ctx-same, parents-named}
+use Rattle.steps.specs.View.{Mem, mem, Rest, view, Agrees, Fit, depth-at, Turn, steady, deeper, shallower, Gave, Refused, Changed, Tried, Asked, pops, Passing, PoppedAt, Entered, Left, finished}
 use Rattle.steps.specs.declared.Step.the-variants.{Next, Stop}
 use Rattle.steps.specs.declared.Popped.{Popped}
 use Rattle.steps.specs.declared.Popped.the-variants as popped
@@ -265,3 +265,51 @@ entered l name arity kind t t′ low w = record {
   deep = λ code spans. scope-of t′ code spans (suc l) _ (w .fresh code spans);
   kept = w .kept;
 }
+
+-- the level above l is left
+leave-is : (l : ℕ) (t code spans : List ℕ) (rest : Rest) → end-ctx (view (mem t code spans) (suc l) rest) ≡ ok (length (rest .functions), upvaluesOf t (suc l)) (record {
+  ctx = ctxAt t code spans l (codeFrom t (suc l)) (runsFrom t (suc l));
+  parents = parentsOf t code spans l;
+  class-ctx = rest .classes;
+  functions = finished (mem t code spans) (suc l) rest .functions;
+})
+unfolding end-ctx back-to _>>=_ the go-on view parentsOf ctxAt
+leave-is l t code spans rest = refl
+
+left-up : (l : ℕ) (t t′ : List ℕ) → suc l < levels → Wf t → Closed t t′ (suc l) → Left (suc l) t t′
+unfolding view
+left-up l t t′ low wf w =
+    let at : (k o : ℕ) → k < levels → o < 1024 → getD t′ (k * 1024 + o) 0 ≡ getD t (k * 1024 + o) 0 = λ k o a b. kept-off _ _ t t′ _ (w .kept) (λ x y. omega arith) in
+    let q : suc l - 1 ≡ l = omega arith in
+    record {
+      fit = λ {limit} code spans fit.
+          let ok′ = fit .coded in
+          subst (λ (k : ℕ). Fit (mem t′ code spans) k limit) (sym q) (record {
+            low = omega arith;
+            wf = w .wf;
+            coded = record {
+              roomCode = ok′ .roomCode;
+              roomRuns = ok′ .roomRuns;
+              within = omega (arith, w .code, ok′ .top, ok′ .within);
+              fewer = omega (arith, w .code, w .runs, ok′ .fewerAt (suc l) (omega arith));
+              fewerAt = λ k z. omega (arith, at k 772 (omega arith) (omega arith), at k 773 (omega arith) (omega arith), ok′ .fewerAt k (omega arith));
+              fromZero = at 0 772 (omega arith) (omega arith) ∙ ok′ .fromZero;
+              top = omega (arith, w .code, at l 772 (omega arith) (omega arith), ok′ .order l (omega arith));
+              topRuns = omega (arith, w .runs, at l 773 (omega arith) (omega arith), ok′ .orderRuns l (omega arith));
+              order = λ k z. omega (arith, at k 772 (omega arith) (omega arith), at (suc k) 772 (omega arith) (omega arith), ok′ .order k (omega arith));
+              orderRuns = λ k z. omega (arith, at k 773 (omega arith) (omega arith), at (suc k) 773 (omega arith) (omega arith), ok′ .orderRuns k (omega arith));
+            };
+          });
+      comes = λ code spans rest.
+          let c : ctxAt t code spans l (codeFrom t (suc l)) (runsFrom t (suc l)) ≡ ctxAt t′ code spans l (codeEnd t′) (runsEnd t′) =
+          sym (ap₂ (ctxAt t′ code spans l) (w .code) (w .runs) ∙ ctx-same t code spans t′ code spans l (codeFrom t (suc l)) (runsFrom t (suc l)) wf (omega arith) (λ o h. at l o (omega arith) (omega arith)) (λ i h. refl) (λ i h. refl)) in
+          let ps : parentsOf t code spans l ≡ parentsOf t′ code spans l = sym (parents-named t t′ l wf (omega arith) (λ k o a b. at k o (omega arith) (omega arith)) (at l 772 (omega arith) (omega arith)) (at l 773 (omega arith) (omega arith)) code spans) in
+          leave-is l t code spans rest
+          ∙ ap (ok (length (rest .functions), upvaluesOf t (suc l))) (λ i. record { ctx = c i; parents = ps i; class-ctx = rest .classes; functions = finished (mem t code spans) (suc l) rest .functions })
+          ∙ ap (λ (k : ℕ). ok (length (rest .functions), upvaluesOf t (suc l)) (view (mem t′ code spans) k (finished (mem t code spans) (suc l) rest))) (sym q);
+      kept = w .kept;
+    }
+
+pub left : (l : ℕ) (t t′ : List ℕ) → 0 < l → l < levels → Wf t → Closed t t′ l → Left l t t′
+left zero t t′ h low wf w = absurd (omega arith)
+left (suc l) t t′ h low wf w = left-up l t t′ low wf w

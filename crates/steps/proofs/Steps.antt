@@ -5,8 +5,9 @@ use mathlib.Core.Bool.{Bool, true, false}
 use Prim.Native.Nat.{ℕ, _+_, _-_, _≤_}
 use native.Mathlib.Omega.{arith}
 use native.Mathlib.Nat.{le-trans}
+use Rattle.rules.specs.Base.{if_then_else_}
 use Rattle.rules.specs.declared.Refusal.{Refusal}
-use Rattle.rules.specs.Compiler.{Outcome, ok, Compile, go-on, _>>=_, _>>_, need}
+use Rattle.rules.specs.Compiler.{Compiler, Outcome, ok, err, Compile, go-on, _>>=_, _>>_, need}
 use Rattle.steps.specs.View.{Mem, Rest, view, Agrees, code-len, depth-at, Turn, _⨾_, Ahead, Gave, Refused, DidAs, Did, OpenedAs, Opened, Told}
 use Rattle.steps.specs.declared.Step.{Step}
 use Rattle.steps.specs.declared.Step.the-variants.{Next, Stop}
@@ -134,8 +135,8 @@ module _ {class limit l : ℕ} {e : Turn} {A : Type 0} {m : Compile A} {v : A} {
 pub halt : {class limit l n k : ℕ} {e f : Turn} {m : Compile Unit} (next : Compile Unit) {before now : Mem} {r : Step} {x : Refusal} → Did class limit l n e m before now r → r ≡ Stop x → Did class limit l k f (m >> next) before now r
 halt next d q = stopped q (refused-seq (stuck d q) next)
 
-pub then : {class limit l n k v : ℕ} {e f : Turn} {m : Compile Unit} (next : Compile Unit) {before mid now : Mem} {r r′ : Step} → Did class limit l n e m before mid r → r ≡ Next v → Did (e .class class) limit l k f next mid now r′ → Did class limit l k (e ⨾ f) (m >> next) before now r′
-then next d q d′ = did-seq (went d q) next d′
+pub then-on : {class limit l n k v : ℕ} {e f : Turn} {m : Compile Unit} (next : Compile Unit) {before mid now : Mem} {r r′ : Step} → Did class limit l n e m before mid r → r ≡ Next v → Did (e .class class) limit l k f next mid now r′ → Did class limit l k (e ⨾ f) (m >> next) before now r′
+then-on next d q d′ = did-seq (went d q) next d′
 
 -- towards a place
 pub halt-to : {class limit l n : ℕ} {e f : Turn} {m : Compile Unit} (next : Compile ℕ) {before now : Mem} {r : Step} {x : Refusal} → Did class limit l n e m before now r → r ≡ Stop x → Opened class limit l f (m >> next) before now r
@@ -188,7 +189,33 @@ pub failed : {class l : ℕ} (b : Bool) {x : Refusal} {m : Mem} → b ≡ false 
 unfolding need
 failed {l = l} b {x = x} {m = m} q = record { refuses = λ rest _. ap (λ (b : Bool). need b x (view m l rest)) q }
 
--- a step by another name, and with another turn
+-- ## The same as equations, where the level or the classes change within a block
+
+module _ {A B : Type 0} (m : Compile A) (x : Compiler) where
+  pub seq-ok : {v : A} {y : Compiler} (next : Compile B) → m x ≡ ok v y → (m >> next) x ≡ next y
+  unfolding _>>_ go-on
+  seq-ok next e = ap (λ (o : Outcome A). go-on o (λ _. next)) e
+
+  pub bind-ok : {v : A} {y : Compiler} (next : A → Compile B) → m x ≡ ok v y → (m >>= next) x ≡ next v y
+  unfolding _>>=_ go-on
+  bind-ok next e = ap (λ (o : Outcome A). go-on o next) e
+
+  pub seq-err : {r : Refusal} (next : Compile B) → m x ≡ err r → (m >> next) x ≡ err r
+  unfolding _>>_ go-on
+  seq-err next e = ap (λ (o : Outcome A). go-on o (λ _. next)) e
+
+  pub bind-err : {r : Refusal} (next : A → Compile B) → m x ≡ err r → (m >>= next) x ≡ err r
+  unfolding _>>=_ go-on
+  bind-err next e = ap (λ (o : Outcome A). go-on o next) e
+
+-- ## A choice, another name, another turn
+
+pub chosen : {class limit l n : ℕ} {e : Turn} (m m′ : Compile Unit) {before now : Mem} {r : Step} (b : Bool) → b ≡ true → Did class limit l n e m before now r → Did class limit l n e (if b then m else m′) before now r
+chosen {class} {limit} {l} {n} {e} m m′ {before} {now} {r} b q d = subst (λ (b : Bool). Did class limit l n e (if b then m else m′) before now r) (sym q) d
+
+pub otherwise : {class limit l n : ℕ} {e : Turn} (m m′ : Compile Unit) {before now : Mem} {r : Step} (b : Bool) → b ≡ false → Did class limit l n e m′ before now r → Did class limit l n e (if b then m else m′) before now r
+otherwise {class} {limit} {l} {n} {e} m m′ {before} {now} {r} b q d = subst (λ (b : Bool). Did class limit l n e (if b then m else m′) before now r) (sym q) d
+
 pub by-name : {class limit l n : ℕ} {e : Turn} {m m′ : Compile Unit} {before now : Mem} {r : Step} → m ≡ m′ → Did class limit l n e m before now r → Did class limit l n e m′ before now r
 by-name {class} {limit} {l} {n} {e} {before = before} {now = now} {r = r} q d = subst (λ (m : Compile Unit). Did class limit l n e m before now r) q d
 

@@ -77,6 +77,7 @@ module _ (e : Turn) (t code spans t′ : List ℕ) (l limit : ℕ) (fit : Fit (m
         roomRuns = ok′ .roomRuns;
         within = omega (arith, ok′ .within);
         fewer = omega (arith, ok′ .fewer);
+        fewerAt = λ k z. omega (arith, words k 772 z (omega arith) (omega arith), words k 773 z (omega arith) (omega arith), ok′ .fewerAt k z);
         fromZero = words 0 772 (omega arith) (omega arith) (omega arith) ∙ ok′ .fromZero;
         top = omega (arith, ok′ .top, words l 772 (omega arith) (omega arith) (omega arith));
         topRuns = omega (arith, ok′ .topRuns, words l 773 (omega arith) (omega arith) (omega arith));

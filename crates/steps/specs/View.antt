@@ -3,15 +3,15 @@
 -- the three lent areas
 use mathlib.Core.Path.{_≡_}
 use mathlib.Core.Bool.{Bool, true, false}
-use mathlib.Core.List.{List, [], _∷_}
+use mathlib.Core.List.{List, [], _∷_, _++_}
 use Prim.Native.Nat.{ℕ, suc, _+_, _*_, _-_, _≤_, _<_}
 use lib.ListN.{length, getD}
 use Rattle.rules.specs.declared.Span.{Span}
 use Rattle.rules.specs.declared.Refusal.{Refusal}
 use Rattle.rules.specs.declared.Refusal.the-variants.{CodeFull}
 use Rattle.rules.specs.Chunk.{ObjectFunction}
-use Rattle.rules.specs.Compiler.{Compiler, new-ctx, ok, err, Compile, _>>=_, the, local-at, upvalue-at, global-named, resolve, code-length, begin-ctx, pop-locals}
-use Rattle.state.specs.Layout.{levels, image-at, codeFrom, codeEnd, runsEnd, ctxAt, parentsOf, type-of, Wf, Coded}
+use Rattle.rules.specs.Compiler.{Compiler, new, new-ctx, finish, end-ctx, ends-in-return, ok, err, Compile, _>>=_, the, local-at, upvalue-at, global-named, resolve, code-length, begin-ctx, pop-locals}
+use Rattle.state.specs.Layout.{levels, image-at, codeFrom, codeEnd, runsEnd, ctxAt, parentsOf, type-of, Wf, Coded, code-end-at, upvaluesOf}
 use Rattle.state.specs.Contracts.{Kept}
 use Rattle.steps.specs.declared.Step.{Step}
 use Rattle.steps.specs.declared.Step.the-variants.{Next, Stop}
@@ -189,3 +189,32 @@ pub record Entered (l name arity kind : ℕ) (t t′ : List ℕ) : Type 0 where
   pub deep : (code spans : List ℕ) → depth-at (mem t′ code spans) (suc l) ≡ depth-at (mem t code spans) l + 1
   -- nothing of the levels below is changed, nor what lies after the levels
   pub kept : Kept (suc l * 1024) (suc l * 1024 + 1024) t t′
+
+-- ## What asks for no area
+
+-- a test of the class alone
+pub record Judged (class n : ℕ) (m : Compile Unit) (r : Step) : Type 0 where
+  pub gives : {limit l : ℕ} (now : Mem) → Fit now l limit → Did class limit l n steady m now now r
+
+-- whether the code ends in the byte of RETURN, whatever the runs are
+pub record Ending (t code : List ℕ) (l : ℕ) (r : Bool) : Type 0 where
+  pub is : (spans : List ℕ) (rest : Rest) → ends-in-return (view (mem t code spans) l rest .ctx .chunk .ops) ≡ r
+
+-- ## The start: the script's context, and nothing in it
+
+pub record Started (t : List ℕ) : Type 0 where
+  pub fit : (code spans : List ℕ) (limit : ℕ) → limit ≤ length code → limit * 3 ≤ length spans → Fit (mem t code spans) 0 limit
+  pub is : (code spans : List ℕ) → view (mem t code spans) 0 (record { classes = []; functions = [] }) ≡ new
+  pub image : (i : ℕ) → image-at ≤ i → getD t i 0 ≡ 0
+
+-- ## A context is left: the level below is the innermost again
+
+-- the rest, with the level's function finished
+abbrev pub finished : Mem → (level : ℕ) → Rest → Rest
+finished m l rest = record { classes = rest .classes; functions = rest .functions ++ (finish (view m l rest .ctx) ∷ []) }
+
+pub record Left (l : ℕ) (t t′ : List ℕ) : Type 0 where
+  pub fit : {limit : ℕ} (code spans : List ℕ) → Fit (mem t code spans) l limit → Fit (mem t′ code spans) (l - 1) limit
+  pub comes : (code spans : List ℕ) (rest : Rest) → end-ctx (view (mem t code spans) l rest) ≡ ok (length (rest .functions), upvaluesOf t l) (view (mem t′ code spans) (l - 1) (finished (mem t code spans) l rest))
+  -- only the ends of code and runs are changed
+  pub kept : Kept code-end-at image-at t t′

@@ -3,15 +3,17 @@
 ghost use mathlib.Core.Path.{_≡_};
 ghost use Prim.Native.Nat.{ℕ, _+_, _*_, _-_, _/_, _%_, _≤_, _<_};
 ghost use mathlib.Core.Bool.{_&&_};
-ghost use lib.ListN.{length, getD};
+ghost use mathlib.Core.Option.{none};
+ghost use lib.ListN.{length, getD, replicate};
 ghost use lib.Dec.{eqb};
 ghost use Rattle.rules.specs.Chunk.{CS, CF};
-ghost use Rattle.rules.specs.Compiler.{emit-op, emit-op-u8, emit-constant, emit-op-constant, emit-invoke, emit-jump, patch-jump, emit-loop, declare-local, define-local, is-global, begin-scope, end-scope, get-variable, set-variable};
+ghost use Rattle.rules.specs.Compiler.{emit-op, emit-op-u8, emit-constant, emit-op-constant, emit-invoke, emit-jump, patch-jump, emit-loop, declare-local, define-local, is-global, begin-scope, end-scope, get-variable, set-variable, need-super, define-name, return-value, compile-return, implicit-return};
 ghost use Rattle.rules.specs.Tree.{this};
+ghost use Rattle.rules.specs.Answer.{NO-SPAN};
 ghost use Rattle.rules.specs.Op as ops;
 ghost use Rattle.rules.specs.Base.{if_then_else_};
-ghost use Rattle.state.specs.Layout.{levels, deepest, table-words, localOf, constantOf, codeFrom, codeEnd, Wf};
-ghost use Rattle.steps.specs.View.{mem, Fit, code-len, depth-at, steady, deeper, shallower, Did, Opened, Measured, Changed, Tried, Asked, Placed, PoppedAt, Entered};
+ghost use Rattle.state.specs.Layout.{levels, deepest, table-words, localOf, constantOf, type-of, codeFrom, codeEnd, Wf};
+ghost use Rattle.steps.specs.View.{mem, Fit, code-len, depth-at, steady, deeper, shallower, Did, Opened, Measured, Changed, Tried, Asked, Placed, PoppedAt, Entered, Judged, Ending, Started, Left};
 use op::Op;
 use rules::Refusal;
 use rules::Span;
@@ -521,6 +523,138 @@ pub fn set_variable(
     }
 }
 
+// `super`, which a class with a superclass must be around.
+pub fn need_super(class: u8, span: Span, next: usize) -> Step
+    ensures { λ r. ⌜ Judged class next (need-super span) r ⌝ }
+{
+    if class == 0 {
+        return Step::Stop(Refusal::SuperOutsideClass(span));
+    }
+    if class == 1 {
+        return Step::Stop(Refusal::SuperWithoutSuperclass(span));
+    }
+    Step::Next(next)
+}
+
+// A global is defined, or a local declared and defined.
+pub fn define_name(
+    t: &mut [u64],
+    code: &mut [u8],
+    spans: &mut [u32],
+    level: usize,
+    limit: usize,
+    name: u16,
+    span: Span,
+    next: usize,
+) -> Step
+    requires { ⌜ Fit (mem (now t) (now code) (now spans)) level limit ⌝ }
+    ensures { λ r. ⌜ ((class : ℕ) → Did class limit level next steady (define-name limit name span) (mem (now (t .entry)) (now (code .entry)) (now (spans .entry))) (mem (now (t .exit)) (now (code .exit)) (now (spans .exit))) r) ⌝ }
+{
+    if is_global(&t[..], level) {
+        return emit_op_name(
+            t,
+            code,
+            spans,
+            level,
+            limit,
+            Op::DEFINE_GLOBAL,
+            name,
+            span,
+            next,
+        );
+    }
+    let a = declare_local(t, level, name, span, next);
+    let Step::Next(_) = a else {
+        return a;
+    };
+    define_local(t, level);
+    Step::Next(next)
+}
+
+// ## Returning nothing
+
+// The code's last byte is RETURN's, an operand or not.
+pub fn ends_in_return(t: &[u64], code: &[u8], level: usize) -> bool
+    requires { ⌜ (level < levels) × (length (now t) ≡ table-words) × (codeEnd (now t) ≤ length (now code)) ⌝ }
+    ensures { λ r. ⌜ Ending (now (t .entry)) (now (code .entry)) level r ⌝ }
+{
+    let from = t[level * 1024 + 772] as usize;
+    let end = t[state::CODE_END] as usize;
+    if end <= from {
+        return false;
+    }
+    code[end - 1] == Op::RETURN
+}
+
+// What a function of this kind returns with no value: an initializer its own object, any other NIL.
+pub fn emit_nothing(
+    t: &mut [u64],
+    code: &mut [u8],
+    spans: &mut [u32],
+    level: usize,
+    limit: usize,
+    kind: u64,
+    span: Span,
+    next: usize,
+) -> Step
+    requires { ⌜ (Fit (mem (now t) (now code) (now spans)) level limit) × (0 < kind) ⌝ }
+    ensures { λ r. ⌜ ((class : ℕ) → Did class limit level next steady (return-value limit (type-of kind) none span) (mem (now (t .entry)) (now (code .entry)) (now (spans .entry))) (mem (now (t .exit)) (now (code .exit)) (now (spans .exit))) r) ⌝ }
+{
+    if 3 <= kind {
+        return emit_op_u8(t, code, spans, level, limit, Op::GET_LOCAL, 0, span, next);
+    }
+    emit_op(t, code, spans, level, limit, Op::NIL, span, next)
+}
+
+// A return with no value.
+pub fn return_nothing(
+    t: &mut [u64],
+    code: &mut [u8],
+    spans: &mut [u32],
+    level: usize,
+    limit: usize,
+    span: Span,
+    next: usize,
+) -> Step
+    requires { ⌜ Fit (mem (now t) (now code) (now spans)) level limit ⌝ }
+    ensures { λ r. ⌜ ((class : ℕ) → Did class limit level next steady (compile-return limit none span) (mem (now (t .entry)) (now (code .entry)) (now (spans .entry))) (mem (now (t .exit)) (now (code .exit)) (now (spans .exit))) r) ⌝ }
+{
+    let kind = t[level * 1024 + 776];
+    if kind == 0 {
+        return Step::Stop(Refusal::ReturnOutsideFunction(span));
+    }
+    let a = emit_nothing(t, code, spans, level, limit, kind, span, next);
+    let Step::Next(_) = a else {
+        return a;
+    };
+    emit_op(t, code, spans, level, limit, Op::RETURN, span, next)
+}
+
+pub fn implicit_return(
+    t: &mut [u64],
+    code: &mut [u8],
+    spans: &mut [u32],
+    level: usize,
+    limit: usize,
+    next: usize,
+) -> Step
+    requires { ⌜ Fit (mem (now t) (now code) (now spans)) level limit ⌝ }
+    ensures { λ r. ⌜ ((class : ℕ) → Did class limit level next steady (implicit-return limit) (mem (now (t .entry)) (now (code .entry)) (now (spans .entry))) (mem (now (t .exit)) (now (code .exit)) (now (spans .exit))) r) ⌝ }
+{
+    if ends_in_return(&t[..], &code[..], level) {
+        return Step::Next(next);
+    }
+    return_nothing(
+        t,
+        code,
+        spans,
+        level,
+        limit,
+        Span { start: 0, end: 0 },
+        next,
+    )
+}
+
 // ## Contexts
 
 // The context of a function is the innermost now, one scope deeper: its level is one more.
@@ -529,4 +663,20 @@ pub fn begin_ctx(t: &mut [u64], level: usize, name: u16, arity: u8, kind: u8)
     ensures { λ r. ⌜ Entered level name arity kind (now (t .entry)) (now (t .exit)) ⌝ }
 {
     state::begin_ctx(t, level, name, arity, kind);
+}
+
+// The function is finished: its level's words stay, its code and runs are no more. Who calls this has taken what the image needs of it, and counts it.
+pub fn end_ctx(t: &mut [u64], level: usize)
+    requires { ⌜ (0 < level) × (level < levels) × (Wf (now t)) ⌝ }
+    ensures { λ r. ⌜ Left level (now (t .entry)) (now (t .exit)) ⌝ }
+{
+    state::end_ctx(t, level);
+}
+
+// The script's context in a table of zeros.
+pub fn begin_script(t: &mut [u64])
+    requires { ⌜ now t ≡ replicate table-words 0 ⌝ }
+    ensures { λ r. ⌜ Started (now (t .exit)) ⌝ }
+{
+    t[774] = 3;
 }

@@ -10,10 +10,6 @@ use Rattle.image.proofs.Whole.{check-no, check-yes}
 use borrow.Author.Needs.{needs}
 use Rattle.image.proofs.check.Statement.{statement}
 use Rattle.image.proofs.check.Tie as tie
-use Rattle.image.proofs.check.Reads as reads
-use Rattle.image.proofs.check.Lts as lts
-use Rattle.image.proofs.count_of.Reads as count-of-reads
-use Rattle.image.proofs.long.Reads as long-reads
 
 count-of-requires : tie.Need-count-of-requires
 count-of-requires c κs = search needs

@@ -9,14 +9,6 @@ use Rattle.image.proofs.Whole.{no-room, no-mark, no-functions, answered
 use borrow.Author.Needs.{needs}
 use Rattle.image.proofs.count_of.Statement.{statement}
 use Rattle.image.proofs.count_of.Tie as tie
-use Rattle.image.proofs.count_of.Reads as reads
-use Rattle.image.proofs.count_of.Lts as lts
-use Rattle.fields.proofs.has.Reads as has-reads
-use Rattle.fields.proofs.mark_at.Reads as mark-at-reads
-use Rattle.fields.proofs.u32_at.Reads as u32-at-reads
-use Rattle.functions.proofs.judge_all.Reads as judge-all-reads
-use Rattle.naming.proofs.all_named_once.Reads as all-named-once-reads
-use Rattle.records.proofs.wide32.Reads as wide32-reads
 
 has-requires : tie.Need-has-requires
 has-requires c κs = search needs

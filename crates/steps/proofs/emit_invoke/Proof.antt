@@ -1,7 +1,7 @@
 -- `emit_invoke` meets its contract. Assumes nothing.
 use borrow.Author.Needs.{needs}
 use Rattle.rules.specs.Compiler.{emit-op, emit-invoke}
-use Rattle.steps.proofs.Steps.{went, halt, then}
+use Rattle.steps.proofs.Steps.{went, halt, then-on}
 use Rattle.steps.proofs.Bytes as ways
 use Rattle.steps.proofs.emit_invoke.Statement.{statement}
 use Rattle.steps.proofs.emit_invoke.Tie as tie
@@ -51,7 +51,7 @@ same-length-6 c = search needs
 
 returns-2 : tie.Need-returns-2
 unfolding emit-op emit-invoke
-returns-2 c = λ class. then _ (c .before .before .before .before .before .before .before .before .before .before .before .before .before .before .before .before .before .before .before .before .before .emit-op .ensures class) (c .before .before .before .before .before .before .before .before .before .before .before .before .before .enum-told .given .1) (halt _ (ways.constant-is (c .before .before .before .before .before .before .before .before .before .before .before .before .before .before .before .before .before .before .before .before .before .before .before .before .before .before .before .before .args .span) (c .before .before .before .before .before .before .before .before .before .name-word .ensures) (c .before .before .before .before .before .before .before .before .emit-constant .ensures class)) (c .enum-told4 .given .1))
+returns-2 c = λ class. then-on _ (c .before .before .before .before .before .before .before .before .before .before .before .before .before .before .before .before .before .before .before .before .before .emit-op .ensures class) (c .before .before .before .before .before .before .before .before .before .before .before .before .before .enum-told .given .1) (halt _ (ways.constant-is (c .before .before .before .before .before .before .before .before .before .before .before .before .before .before .before .before .before .before .before .before .before .before .before .before .before .before .before .before .args .span) (c .before .before .before .before .before .before .before .before .before .name-word .ensures) (c .before .before .before .before .before .before .before .before .emit-constant .ensures class)) (c .enum-told4 .given .1))
 
 emit-op-requires-2 : tie.Need-emit-op-requires-2
 emit-op-requires-2 c κs = went (c .before .before .before .before .before .before .before .before .before .before .before .emit-constant .ensures 0) (c .before .before .before .enum-told3 .given .1) .ahead .fit
@@ -67,7 +67,7 @@ same-length-9 c = search needs
 
 returns-3 : tie.Need-returns-3
 unfolding emit-op emit-invoke
-returns-3 c = λ class. then _ (c .before .before .before .before .before .before .before .before .before .before .before .before .before .before .before .before .before .before .before .before .before .before .before .before .before .before .before .before .before .before .before .emit-op .ensures class) (c .before .before .before .before .before .before .before .before .before .before .before .before .before .before .before .before .before .before .before .before .before .before .before .enum-told .given .1) (then _ (ways.constant-is (c .before .before .before .before .before .before .before .before .before .before .before .before .before .before .before .before .before .before .before .before .before .before .before .before .before .before .before .before .before .before .before .before .before .before .before .before .before .before .args .span) (c .before .before .before .before .before .before .before .before .before .before .before .before .before .before .before .before .before .before .before .name-word .ensures) (c .before .before .before .before .before .before .before .before .before .before .before .before .before .before .before .before .before .before .emit-constant .ensures class)) (c .before .before .before .before .before .before .before .before .before .before .enum-told3 .given .1) (c .before .before .before .before .before .before .emit-op2 .ensures class))
+returns-3 c = λ class. then-on _ (c .before .before .before .before .before .before .before .before .before .before .before .before .before .before .before .before .before .before .before .before .before .before .before .before .before .before .before .before .before .before .before .emit-op .ensures class) (c .before .before .before .before .before .before .before .before .before .before .before .before .before .before .before .before .before .before .before .before .before .before .before .enum-told .given .1) (then-on _ (ways.constant-is (c .before .before .before .before .before .before .before .before .before .before .before .before .before .before .before .before .before .before .before .before .before .before .before .before .before .before .before .before .before .before .before .before .before .before .before .before .before .before .args .span) (c .before .before .before .before .before .before .before .before .before .before .before .before .before .before .before .before .before .before .before .name-word .ensures) (c .before .before .before .before .before .before .before .before .before .before .before .before .before .before .before .before .before .before .emit-constant .ensures class)) (c .before .before .before .before .before .before .before .before .before .before .enum-told3 .given .1) (c .before .before .before .before .before .before .emit-op2 .ensures class))
 
 pub emit-invoke-spec : {M : Type 1} → statement M
 emit-invoke-spec =

@@ -4,7 +4,7 @@ use mathlib.Core.List.{[]}
 use borrow.Author.Tests.{le-leb, lt-leb}
 use borrow.Author.Needs.{needs}
 use Rattle.rules.specs.Compiler.{emit-op, emit-loop}
-use Rattle.steps.proofs.Steps.{went, halt, then, stop, ask, ask-seq, ask-refused, refused-seq, passed, failed}
+use Rattle.steps.proofs.Steps.{went, halt, then-on, stop, ask, ask-seq, ask-refused, refused-seq, passed, failed}
 use Rattle.steps.specs.View.{code-len}
 use Rattle.steps.proofs.emit_loop.Statement.{statement}
 use Rattle.steps.proofs.emit_loop.Tie as tie
@@ -72,7 +72,7 @@ same-length-7 c = search needs
 
 returns-3 : tie.Need-returns-3
 unfolding emit-loop emit-op
-returns-3 c = λ class. let a = c .before .before .before .before .before .before .before .before .before .before .before .before .before .before .before .before .before .before .before .before .before .before .before .before .before .before .before .before .before .before .args in ask (c .before .before .before .before .before .before .before .before .before .before .before .before .before .before .before .before .before .before .before .before .before .before .before .before .before .code-length .ensures .says class (a .code .now) (a .spans .now)) _ (ask-seq (passed _ _ (le-leb _ _ (c .before .before .before .before .before .before .before .before .before .before .before .before .before .before .before .before .before .before .before .before .before .before .before .before .if1 .left))) _ (then _ (c .before .before .before .before .before .before .before .before .before .before .before .before .before .before .before .before .before .before .before .before .emit-op .ensures class) (c .before .before .before .before .before .before .before .before .before .before .before .before .enum-told .given .1) (halt _ (c .before .before .before .before .before .before .before .before .emit-op2 .ensures class) (c .enum-told4 .given .1))))
+returns-3 c = λ class. let a = c .before .before .before .before .before .before .before .before .before .before .before .before .before .before .before .before .before .before .before .before .before .before .before .before .before .before .before .before .before .before .args in ask (c .before .before .before .before .before .before .before .before .before .before .before .before .before .before .before .before .before .before .before .before .before .before .before .before .before .code-length .ensures .says class (a .code .now) (a .spans .now)) _ (ask-seq (passed _ _ (le-leb _ _ (c .before .before .before .before .before .before .before .before .before .before .before .before .before .before .before .before .before .before .before .before .before .before .before .before .if1 .left))) _ (then-on _ (c .before .before .before .before .before .before .before .before .before .before .before .before .before .before .before .before .before .before .before .before .emit-op .ensures class) (c .before .before .before .before .before .before .before .before .before .before .before .before .enum-told .given .1) (halt _ (c .before .before .before .before .before .before .before .before .emit-op2 .ensures class) (c .enum-told4 .given .1))))
 
 cast-emit-op-2 : tie.Need-cast-emit-op-2
 cast-emit-op-2 c = search needs
@@ -91,7 +91,7 @@ same-length-10 c = search needs
 
 returns-4 : tie.Need-returns-4
 unfolding emit-loop emit-op
-returns-4 c = λ class. let a = c .before .before .before .before .before .before .before .before .before .before .before .before .before .before .before .before .before .before .before .before .before .before .before .before .before .before .before .before .before .before .before .before .before .before .before .before .before .before .before .before .args in ask (c .before .before .before .before .before .before .before .before .before .before .before .before .before .before .before .before .before .before .before .before .before .before .before .before .before .before .before .before .before .before .before .before .before .before .before .code-length .ensures .says class (a .code .now) (a .spans .now)) _ (ask-seq (passed _ _ (le-leb _ _ (c .before .before .before .before .before .before .before .before .before .before .before .before .before .before .before .before .before .before .before .before .before .before .before .before .before .before .before .before .before .before .before .before .before .before .if1 .left))) _ (then _ (c .before .before .before .before .before .before .before .before .before .before .before .before .before .before .before .before .before .before .before .before .before .before .before .before .before .before .before .before .before .before .emit-op .ensures class) (c .before .before .before .before .before .before .before .before .before .before .before .before .before .before .before .before .before .before .before .before .before .before .enum-told .given .1) (then _ (c .before .before .before .before .before .before .before .before .before .before .before .before .before .before .before .before .before .before .emit-op2 .ensures class) (c .before .before .before .before .before .before .before .before .before .before .enum-told3 .given .1) (c .before .before .before .before .before .before .emit-op3 .ensures class))))
+returns-4 c = λ class. let a = c .before .before .before .before .before .before .before .before .before .before .before .before .before .before .before .before .before .before .before .before .before .before .before .before .before .before .before .before .before .before .before .before .before .before .before .before .before .before .before .before .args in ask (c .before .before .before .before .before .before .before .before .before .before .before .before .before .before .before .before .before .before .before .before .before .before .before .before .before .before .before .before .before .before .before .before .before .before .before .code-length .ensures .says class (a .code .now) (a .spans .now)) _ (ask-seq (passed _ _ (le-leb _ _ (c .before .before .before .before .before .before .before .before .before .before .before .before .before .before .before .before .before .before .before .before .before .before .before .before .before .before .before .before .before .before .before .before .before .before .if1 .left))) _ (then-on _ (c .before .before .before .before .before .before .before .before .before .before .before .before .before .before .before .before .before .before .before .before .before .before .before .before .before .before .before .before .before .before .emit-op .ensures class) (c .before .before .before .before .before .before .before .before .before .before .before .before .before .before .before .before .before .before .before .before .before .before .enum-told .given .1) (then-on _ (c .before .before .before .before .before .before .before .before .before .before .before .before .before .before .before .before .before .before .emit-op2 .ensures class) (c .before .before .before .before .before .before .before .before .before .before .enum-told3 .given .1) (c .before .before .before .before .before .before .emit-op3 .ensures class))))
 
 pub emit-loop-spec : {M : Type 1} → statement M
 emit-loop-spec =

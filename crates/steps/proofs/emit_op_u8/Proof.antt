@@ -1,7 +1,7 @@
 -- `emit_op_u8` meets its contract. Assumes nothing.
 use borrow.Author.Needs.{needs}
 use Rattle.rules.specs.Compiler.{emit-op, emit-op-u8}
-use Rattle.steps.proofs.Steps.{went, halt, then}
+use Rattle.steps.proofs.Steps.{went, halt, then-on}
 use Rattle.steps.proofs.emit_op_u8.Statement.{statement}
 use Rattle.steps.proofs.emit_op_u8.Tie as tie
 
@@ -41,7 +41,7 @@ same-length-6 c = search needs
 
 returns-2 : tie.Need-returns-2
 unfolding emit-op emit-op-u8
-returns-2 c = λ class. then _ (c .before .before .before .before .before .before .before .before .before .before .before .before .before .before .before .before .before .before .emit-op .ensures class) (c .before .before .before .before .before .before .before .before .before .before .enum-told .given .1) (c .before .before .before .before .before .before .emit-op2 .ensures class)
+returns-2 c = λ class. then-on _ (c .before .before .before .before .before .before .before .before .before .before .before .before .before .before .before .before .before .before .emit-op .ensures class) (c .before .before .before .before .before .before .before .before .before .before .enum-told .given .1) (c .before .before .before .before .before .before .emit-op2 .ensures class)
 
 pub emit-op-u8-spec : {M : Type 1} → statement M
 emit-op-u8-spec =

@@ -1,0 +1,206 @@
+-- Laws of the lookup of a function's code.
+use mathlib.Core.Path.{_≡_, refl, sym, ap, _∙_}
+use mathlib.Core.Bool.{Bool, true, false}
+use mathlib.Core.Option.{Option, none, some}
+use mathlib.Core.List.{List, [], _∷_}
+use Prim.Native.Nat.{ℕ, zero, suc, _+_, _-_, _<_, _≤_}
+use native.Mathlib.Omega.{arith}
+use lib.ListN.{length, getD, getElem?, take, drop, length-take, length-drop}
+use lib.Dec.{eqb, ltb, leb}
+use borrow.Author.Tests.{lt-ltb, le-ltb, eqb-true, eqb-false, leb-true, leb-false}
+use Rattle.rules.specs.Base.{if_then_else_}
+use Rattle.rules.specs.declared.Answer.{Answer}
+use Rattle.rules.specs.declared.Refusal.the-variants.{ImageRefused, NoSuchFunction}
+use Rattle.rules.specs.Answer.{refusal, accepted}
+use Rattle.rules.specs.Reader.{Read, got, bad, go-on, _>>_, many}
+use Rattle.rules.specs.Chunk.{ObjectFunction}
+use Rattle.rules.specs.ImageFile.{read-function}
+use Rattle.rules.specs.Checker.{sound, image-of, function-numbered, code-in, code-of, code-before, code-start, code-verdict, code-answer}
+use Rattle.code.specs.declared.Verdict.{Verdict}
+use Rattle.code.specs.declared.Verdict.the-variants as verdict
+use Rattle.fields.specs.Words.{word32, letters}
+use Rattle.records.specs.declared.Place.{Place}
+use Rattle.records.specs.declared.Place.the-variants as place
+use Rattle.records.specs.declared.Head.the-variants as head
+use Rattle.records.specs.declared.Header.{Header}
+use Rattle.records.specs.Told.{place-told, head-at, code-told}
+use Rattle.records.proofs.Many.{Fails, many-length, Nth, nth-of, place-bad, place-at}
+use Rattle.records.proofs.Records.{Headed, headed, head-fails, Body, body-of, Coded, coded, at-code, whole-function, made}
+use Rattle.image.specs.declared.Part.the-variants as part
+use Rattle.image.specs.Counted.{counted-in, place-in, code-place, Stands, Refused, Part-told}
+use Rattle.image.proofs.Whole.{after, image-is, no-room, no-mark, no-functions}
+
+got-bad : {A : Type 0} {r : Read A} {a : A} {n : ℕ} → Fails r → r ≡ got a n → ⊥
+got-bad f e = let z = sym (f .is) ∙ e in let y : _≡_ {A = ℕ} 0 1 = cc in omega arith
+
+same-got : {A : Type 0} {r : Read A} {a b : A} {m n : ℕ} → r ≡ got a m → r ≡ got b n → (a ≡ b) × (m ≡ n)
+same-got e f = let z = sym e ∙ f in (cc, cc)
+
+-- ## An image that is accepted
+
+pub record Accepted (s : List ℕ) : Type 0 where
+  pub fs : List ObjectFunction
+  pub end : ℕ
+  pub room : 6 ≤ length s
+  pub are : many (word32 s 2) (read-function s) 6 ≡ got fs end
+  pub is : image-of s ≡ some fs
+
+module _ (s : List ℕ) (n : ℕ) where
+  not-no : verdict.Yes n ≡ counted-in (image-of s) → verdict.No ≡ counted-in (image-of s) → ⊥
+  not-no e f = let z : verdict.Yes n ≡ verdict.No = e ∙ sym f in let y : _≡_ {A = ℕ} 0 1 = cc in omega arith
+
+  read-by : (r : Read (List ObjectFunction)) → many (word32 s 2) (read-function s) 6 ≡ r → image-of s ≡ after (length s) r → verdict.Yes n ≡ counted-in (image-of s) → 6 ≤ length s → Accepted s
+  unfolding after counted-in
+  read-by (bad fault) e i y h = absurd (not-no y (sym (ap counted-in i)))
+  read-by (got fs end) e i y h = by (eqb end (length s)) (sound fs) i
+    where
+      by : (t u : Bool) → image-of s ≡ (if t then (if u then some fs else none) else none) → Accepted s
+      by true true i = record { fs = fs; end = end; room = h; are = e; is = i }
+      by true false i = absurd (not-no y (sym (ap counted-in i)))
+      by false u i = absurd (not-no y (sym (ap counted-in i)))
+
+  count-by : (k : ℕ) → k ≡ word32 s 2 → 6 ≤ length s → letters s 0 ≡ 0x494D → verdict.Yes n ≡ counted-in (image-of s) → Accepted s
+  count-by zero q h m y = absurd (not-no y (no-functions s h m 0 q refl))
+  count-by (suc k) q h m y = read-by (many (word32 s 2) (read-function s) 6) refl (image-is s h m (word32 s 2) refl (omega arith)) y h
+
+  accepted-by : (t u : Bool) → leb 6 (length s) ≡ t → eqb (letters s 0) 0x494D ≡ u → verdict.Yes n ≡ counted-in (image-of s) → Accepted s
+  accepted-by true true e f y = count-by (word32 s 2) refl (leb-true _ _ e) (eqb-true _ _ f) y
+  accepted-by true false e f y = absurd (not-no y (no-mark s (leb-true _ _ e) (eqb-false _ _ f)))
+  accepted-by false u e f y = absurd (not-no y (no-room s (leb-false _ _ e)))
+
+  pub accepted-is : verdict.Yes n ≡ counted-in (image-of s) → Accepted s
+  accepted-is y = accepted-by _ _ refl refl y
+
+none-by : (o : Option (List ObjectFunction)) → verdict.No ≡ counted-in o → o ≡ none
+unfolding counted-in
+none-by none e = refl
+none-by (some fs) e = absurd (let y : _≡_ {A = ℕ} 0 1 = cc in omega arith)
+
+elem-none : {A : Type 0} (l : List A) (i : ℕ) → length l ≤ i → getElem? l i ≡ none
+elem-none [] i h = refl
+elem-none (x ∷ l) zero h = absurd (omega arith)
+elem-none (x ∷ l) (suc i) h = elem-none l i (omega arith)
+
+module _ (s : List ℕ) (k : ℕ) where
+  refused-by : function-numbered k (image-of s) ≡ none → Refused s k
+  unfolding code-of code-in code-place place-in
+  refused-by e = record { content = sym (ap code-in e); place = sym (ap (λ (o : Option ObjectFunction). place-in o (code-start s k)) e) }
+
+  pub no-image : verdict.No ≡ counted-in (image-of s) → Refused s k
+  unfolding function-numbered
+  no-image e = refused-by (ap (function-numbered k) (none-by (image-of s) e))
+
+  pub answer-none : verdict.No ≡ counted-in (image-of s) → refusal ImageRefused ≡ code-answer s k
+  unfolding code-answer code-verdict
+  answer-none e = sym (ap (code-verdict k) (none-by (image-of s) e))
+
+  module _ (a : Accepted s) where
+    number-of : length (a .fs) ≡ word32 s 2
+    number-of = many-length (read-function s) (word32 s 2) 6 (a .end) (a .fs) (a .are)
+
+    numbered : function-numbered k (image-of s) ≡ getElem? (a .fs) k
+    unfolding function-numbered
+    numbered = ap (function-numbered k) (a .is)
+
+    pub no-function : word32 s 2 ≤ k → Refused s k
+    no-function h = refused-by (numbered ∙ elem-none (a .fs) k (omega (arith, number-of)))
+
+    pub answer-past : word32 s 2 ≤ k → refusal NoSuchFunction ≡ code-answer s k
+    unfolding code-answer code-verdict
+    answer-past h = sym (ap (code-verdict k) (a .is) ∙ rw (le-ltb k (length (a .fs)) (omega (arith, number-of))) refl)
+
+    pub answer-there : k < word32 s 2 → accepted 0 ≡ code-answer s k
+    unfolding code-answer code-verdict
+    answer-there h = sym (ap (code-verdict k) (a .is) ∙ rw (lt-ltb k (length (a .fs)) (omega (arith, number-of))) refl)
+
+    module _ (h : k < word32 s 2) where
+      abbrev nth : Nth (read-function s) (word32 s 2) k 6 (a .fs)
+      nth = nth-of (read-function s) (word32 s 2) k 6 (a .end) (a .fs) (a .are) h
+
+      pub lost : {A : Type 0} → place.Bad ≡ place-told (many k (read-function s) 6) → A
+      lost e = absurd (got-bad (place-bad _ e) (nth .before))
+
+      module _ (at : ℕ) (is-at : place.At at ≡ place-told (many k (read-function s) 6)) where
+        here : read-function s at ≡ got (nth .value) (nth .next)
+        here = ap (read-function s) (same-got (place-at _ at is-at .is) (nth .before) .1) ∙ nth .is
+
+        pub lost-end : {A : Type 0} → place.Bad ≡ place-told (read-function s at) → A
+        lost-end e = absurd (got-bad (place-bad _ e) here)
+
+        pub lost-head : {A : Type 0} → head.Bad ≡ head-at s at → A
+        lost-head e = absurd (got-bad (head-fails s at e) here)
+
+        module _ (next : ℕ) (is-next : place.At next ≡ place-told (read-function s at)) (hd : Header) (is-head : head.Is hd ≡ head-at s at) where
+          abbrev b : Headed s at hd
+          b = headed s at hd is-head
+
+          abbrev o : Body s (b .name) (b .arity) (hd .upvalues) (hd .constants) (hd .runs) (hd .code) (at + 17) (nth .value) (nth .next)
+          o = body-of s (b .name) (b .arity) (hd .upvalues) (hd .constants) (hd .runs) (hd .code) (at + 17) (nth .value) (nth .next) (sym (b .is) ∙ here)
+
+          next-is : nth .next ≡ next
+          next-is = same-got here (place-at _ next is-next .is) .1
+
+          -- where its code stands
+          pub record Code-at : Type 0 where
+            pub start : ℕ
+            pub within : start + hd .code ≤ length s
+            pub ends : next ≡ start + hd .code
+            pub ops : nth .value .chunk .ops ≡ take (hd .code) (drop start s)
+
+          code-by : (p : Place) → p ≡ code-told s (hd .code) (o .code-at) → Code-at
+          code-by place.Bad e = absurd (got-bad (at-code s at hd b (o .cs) (o .runs-at) (o .constants-are) (o .rs) (o .code-at) (o .runs-are) e) here)
+          code-by (place.At start) e =
+              let d = coded s (hd .code) (o .code-at) start e in
+              let w = whole-function s at hd b (o .cs) (o .runs-at) (o .constants-are) (o .rs) (o .code-at) (o .runs-are) start d in
+              let q = same-got here w in
+              record {
+                start = start;
+                within = d .within;
+                ends = sym next-is ∙ q .1;
+                ops = ap (λ (f : ObjectFunction). f .chunk .ops) (q .0);
+              }
+
+          abbrev c : Code-at
+          c = code-by (code-told s (hd .code) (o .code-at)) refl
+
+          pub code-fits-in : hd .code ≤ next
+          code-fits-in = omega (arith, c .ends)
+
+          start-is : code-start s k ≡ next - length (nth .value .chunk .ops)
+          unfolding code-start code-before go-on _>>_
+          start-is =
+              ap (λ (r : Read (List ObjectFunction)). code-before (go-on r (λ _. read-function s))) (nth .before) ∙
+              ap code-before (nth .is) ∙ ap (λ (m : ℕ). m - length (nth .value .chunk .ops)) next-is
+
+          pub stands : (size start : ℕ) → size ≡ hd .code → start ≡ next - size → Stands s k start size
+          unfolding code-of code-in code-place place-in
+          stands size start q r =
+              let w = c .within in
+              let e = c .ends in
+              let p : start ≡ c .start = omega arith in
+              let f = numbered ∙ nth .there in
+              let l : length (nth .value .chunk .ops) ≡ hd .code = ap length (c .ops) ∙ simp (length-take, length-drop) (omega arith) in
+              record {
+                within = omega arith;
+                content = rw (q, p) (sym (ap code-in f ∙ c .ops));
+                place = sym (ap (λ (x : Option ObjectFunction). place-in x (code-start s k)) f ∙ start-is ∙ rw (l, ← q, ← r) refl);
+              }
+
+pub told-nothing : (s : List ℕ) (k : ℕ) → Refused s k → Part-told s k part.Nothing
+unfolding Part-told
+told-nothing s k r = r
+
+pub told-is : (s : List ℕ) (k start size : ℕ) → Stands s k start size → Part-told s k (part.Is start size)
+unfolding Part-told
+told-is s k start size r = r
+
+pub nothing-told : (s : List ℕ) (k : ℕ) → Part-told s k part.Nothing → Refused s k
+unfolding Part-told
+nothing-told s k r = r
+
+pub is-told : (s : List ℕ) (k start size : ℕ) → Part-told s k (part.Is start size) → Stands s k start size
+unfolding Part-told
+is-told s k start size r = r
+
+pub part-content : (s : List ℕ) (start size : ℕ) → take (start + size - start) (drop start s) ≡ take size (drop start s)
+part-content s start size = let m : start + size - start ≡ size = omega arith in rw m refl
