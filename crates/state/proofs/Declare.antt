@@ -1,4 +1,4 @@
--- The ways of clashing, declare_local and define_local, as facts of lists.
+-- The ways of clashing, declare_local, define_local and drop_local, as facts of lists.
 use Prim.Native.Nat.{ℕ, suc, _+_, _*_, _-_, _/_, _%_, _≤_, _<_}
 use native.Mathlib.Omega.{arith}
 use native.Mathlib.Nat.{add-mod-right, add-div-right}

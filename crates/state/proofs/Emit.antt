@@ -1,6 +1,4 @@
 -- The ways out of emit_u8, as facts of lists.
--- ## The last run
--- the newest run is the last
 use Prim.Native.Nat.{ℕ, zero, suc, _+_, _*_, _-_, _≤_, _<_}
 use native.Mathlib.Omega.{arith}
 use mathlib.Core.Path.{_≡_, refl, sym, ap, ap₂, _∙_}
@@ -17,6 +15,9 @@ use Rattle.state.specs.Contracts.{Kept, grows, last-grows, top-chunk, Wr
 use Rattle.state.specs.declared.Emitted.the-variants as emitted
 use Rattle.state.proofs.Laws.{row-cong, row-snoc, run-same, kept-set, kept-same, kept-off, kept-then, if-true, if-false, constants-same, chunk-paths, wf-plain}
 
+-- ## The last run
+
+-- the newest run is the last
 push-last : (xs : List Run) (r : Run) (span : Span) → push-span (xs ++ (r ∷ [])) span ≡ xs ++ push-span (r ∷ []) span
 unfolding push-span
 push-last [] r span = refl

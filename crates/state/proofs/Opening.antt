@@ -1,4 +1,4 @@
--- Opening a context, and a store of the scope depth, as facts of lists.
+-- A context is opened and closed, and the scope depth is stored, as facts of lists.
 use Prim.Native.Nat.{ℕ, suc, _+_, _*_, _-_, _≤_, _<_}
 use native.Mathlib.Omega.{arith}
 use native.Mathlib.Nat.{eq-or-lt-of-le}

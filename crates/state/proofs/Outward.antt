@@ -1,5 +1,4 @@
 -- The ways out of resolve_upvalue, as facts of lists.
--- a context that a change keeps off, and those around it
 use Prim.Native.Nat.{ℕ, suc, _+_, _*_, _-_, _≤_, _<_}
 use native.Mathlib.Omega.{arith}
 use native.Mathlib.Nat.{eq-or-lt-of-le}
@@ -21,6 +20,7 @@ use Rattle.state.specs.declared.Up.the-variants as up
 use Rattle.state.proofs.Up.{the-type}
 use Rattle.state.proofs.Laws.{kept-off, ctx-same, ctx-paths, chunk-same, upvalues-same, parents-named}
 
+-- a context that a change keeps off, and those around it
 ctx-off : (lo hi : ℕ) (t t′ : List ℕ) (k : ℕ) → Kept lo hi t t′ → Wf t → k < levels → ((o : ℕ) → o < 777 → lo ≤ k * 1024 + o → k * 1024 + o < hi → ⊥) → (code spans : List ℕ) (ce re : ℕ) → ctxAt t′ code spans k ce re ≡ ctxAt t code spans k ce re
 ctx-off lo hi t t′ k kp wf low off code spans ce re = ctx-same t code spans t′ code spans k ce re wf low (λ o h. kept-off lo hi t t′ _ kp (λ x y. off o h x y)) (λ i h. refl) (λ i h. refl)
 

@@ -1,5 +1,4 @@
 -- The ways out of resolve_local, as facts of lists.
--- the word of local i
 use Prim.Native.Nat.{ℕ, suc, _+_, _*_, _-_, _/_, _%_, _≤_, _<_}
 use native.Mathlib.Omega.{arith}
 use mathlib.Core.Path.{_≡_, refl, sym, ap, _∙_}
@@ -17,6 +16,7 @@ use Rattle.state.specs.Contracts.{Topmost, Looked}
 use Rattle.state.specs.declared.Slot.the-variants as slot
 use Rattle.state.proofs.Laws.{find-up, find-at, caught, capture-up, capture-at, kept-set, kept-same, if-true, if-false, wf-plain}
 
+-- the word of local i
 abbrev word : List ℕ → ℕ → ℕ → ℕ
 word t l i = getD t (l * 1024 + i) 0
 

@@ -1,6 +1,5 @@
 -- What each function of src/ answers and leaves, in the rules' own terms. Each record says which words it may have changed: every other is as it was,
 -- the image writer's among them.
--- t′ is t but for the words from lo up to hi
 use mathlib.Core.Path.{_≡_}
 use mathlib.Core.Bool.{Bool, true, false, _&&_}
 use mathlib.Core.List.{List, _∷_}
@@ -23,6 +22,7 @@ use Rattle.state.specs.declared.Declared.the-variants as decl
 use Rattle.state.specs.declared.Constanted.{Constanted}
 use Rattle.state.specs.declared.Constanted.the-variants as constanted
 
+-- t′ is t but for the words from lo up to hi
 pub record Kept (lo hi : ℕ) (t t′ : List ℕ) : Type 0 where
   pub below : (i : ℕ) → i < lo → getD t′ i 0 ≡ getD t i 0
   pub above : (i : ℕ) → hi ≤ i → getD t′ i 0 ≡ getD t i 0

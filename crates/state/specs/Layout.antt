@@ -3,8 +3,6 @@
 -- word 256 their count, 257 to 512 its upvalues and 513 their count, 514 to 769 its constants and 770 their count. Word 771 is the scope depth, 772
 -- and 773 say where its code and its runs start, 774 to 776 are the function's name, arity and type. After the levels come the ends of code and runs,
 -- and two words of the image writer, which nothing here reads or changes.
--- ## How large
--- the script, and the functions that may be open in one another: src/lib.rt has the same number as LEVELS
 use mathlib.Core.Path.{_≡_}
 use mathlib.Core.List.{List, [], _∷_}
 use Prim.Native.Nat.{ℕ, zero, suc, _+_, _*_, _-_, _/_, _%_, _^_, _≤_, _<_}
@@ -14,6 +12,9 @@ use Rattle.rules.specs.Base.{if_then_else_}
 use Rattle.rules.specs.Chunk.{Chunk, Run, Constant, CN, CS, CF}
 use Rattle.rules.specs.Compiler.{Local, Upvalue, CompilerCtx, FunctionType, Function, Initializer, Method, Script}
 
+-- ## How large
+
+-- the script, and the functions that may be open in one another: src/lib.rt has the same number as LEVELS
 abbrev pub levels : ℕ
 levels = 17
 

@@ -1,5 +1,4 @@
 -- A byte of code, and a constant's place: from the state's contracts to the rules' steps.
--- ## A byte
 use mathlib.Core.Path.{_≡_, refl, sym, ap, subst, _∙_}
 use mathlib.Core.Bool.{Bool, true, false}
 use mathlib.Core.List.{List, [], _∷_}
@@ -24,6 +23,8 @@ use Rattle.steps.specs.declared.Step.{Step}
 use Rattle.steps.specs.declared.Step.the-variants.{Next, Stop}
 use Rattle.steps.proofs.Steps.{went, ahead-then}
 use Rattle.steps.proofs.Views.{open-is, view-len, still-agrees, ahead-kept, view-chunk}
+
+-- ## A byte
 
 emit-is : (limit byte : ℕ) (span : Span) (x : Compiler) (b : Bool) → ltb (open-code x) limit ≡ b → emit-u8 limit byte span x ≡ go-on (need b CodeFull x) (λ _. update-ctx λ c. with-chunk c (write-u8 (c .chunk) byte span))
 unfolding emit-u8 _>>=_ _>>_ the go-on
@@ -80,6 +81,7 @@ module _ (l limit byte : ℕ) (span : Span) (t code spans t′ code′ spans′ 
           deep = at l 771 low (omega arith);
           head = λ o a b. at l o low (omega arith);
           under = λ k o h a b. at k o (omega arith) (omega arith);
+          over = λ q i h g. w .kept .below i g;
           beyond = λ i h. w .kept .above i h;
         };
       }

@@ -1,5 +1,4 @@
 -- Jumps: the length of the code, an operand that is left open, and one that is set.
--- ## How much code there is
 use mathlib.Core.Path.{_≡_, refl, sym, ap, ap₂, _∙_}
 use mathlib.Core.List.{List, _∷_}
 use Prim.Native.Nat.{ℕ, zero, suc, _+_, _-_, _/_, _%_, _≤_, _<_}
@@ -17,6 +16,8 @@ use Rattle.steps.specs.View.{Mem, mem, Rest, view, Fit, code-len, depth-
 use Rattle.steps.specs.declared.Step.the-variants.{Next}
 use Rattle.steps.proofs.Views.{view-len}
 
+-- ## How much code there is
+
 pub told-length : {class l : ℕ} {m : Mem} (n : ℕ) → n ≡ code-len m l → Told class l code-length n m
 unfolding code-length the
 told-length {l = l} {m = m} n e = record { says = λ rest q. ap (λ (k : ℕ). ok k (view m l rest)) (view-len m l rest ∙ sym e) }
@@ -27,7 +28,7 @@ measured t l n e = record { is = λ code spans. e; says = λ class code spans. t
 
 -- the areas as they are
 pub ahead-none : {l limit : ℕ} {m : Mem} → Fit m l limit → Ahead l limit steady m m
-ahead-none fit = record { fit = fit; up = le-refl _; deep = refl; head = λ o a b. refl; under = λ k o h a b. refl; beyond = λ i h. refl }
+ahead-none fit = record { fit = fit; up = le-refl _; deep = refl; head = λ o a b. refl; under = λ k o h a b. refl; over = λ q i h g. refl; beyond = λ i h. refl }
 
 -- the place of the operand that was just left open
 pub open-place : {class limit l : ℕ} {m : Mem} (k : ℕ) → Fit m l limit → k ≡ code-len m l → 2 ≤ k → Opened class limit l steady (code-length >>= λ end. return (end - 2)) m m (Next (k - 2))
@@ -122,6 +123,7 @@ module _ {limit : ℕ} (l place d : ℕ) (span : Span) (t code spans : List ℕ)
           deep = refl;
           head = λ o a b. refl;
           under = λ k o h a b. refl;
+          over = λ q i h g. refl;
           beyond = λ i h. refl;
         };
       }

@@ -6,3 +6,4 @@ pub mod Jumps
 pub mod Scopes
 pub mod Names
 pub mod Returns
+pub mod Closures

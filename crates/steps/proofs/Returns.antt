@@ -1,5 +1,4 @@
 -- Classes that must be around, returns with no value, and the script's start.
--- ## `super`
 use Prim.Native.Nat.{ℕ, zero, suc, _+_, _*_, _-_, _≤_, _<_}
 use native.Mathlib.Omega.{arith}
 use mathlib.Core.Path.{_≡_, refl, sym, ap, _∙_}
@@ -23,6 +22,8 @@ use Rattle.steps.specs.declared.Step.{Step}
 use Rattle.steps.specs.declared.Step.the-variants.{Next, Stop}
 use Rattle.steps.proofs.Steps.{next, stop}
 use Rattle.steps.proofs.Jumps.{ahead-none}
+
+-- ## `super`
 
 needs-is : (span : Span) (m : Mem) (l : ℕ) (rest : Rest) → need-super span (view m l rest) ≡ innermost-has-super (rest .classes) span (view m l rest)
 unfolding need-super _>>=_ the go-on view

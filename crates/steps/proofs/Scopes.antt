@@ -1,6 +1,4 @@
 -- Locals, scopes and contexts: from the state's contracts to the rules' steps.
--- ## The scope depth
--- the depth moves, by whatever turn says how
 use mathlib.Core.Path.{_≡_, refl, sym, ap, ap₂, subst, _∙_}
 use mathlib.Core.Bool.{Bool, true, false, not}
 use mathlib.Core.List.{List, [], _∷_}
@@ -30,6 +28,9 @@ use Rattle.steps.proofs.Views.{still-agrees, ahead-named, ahead-kept, v
 use Rattle.steps.proofs.Bytes.{byte-gave, byte-full}
 use Rattle.steps.proofs.Jumps.{ahead-none}
 
+-- ## The scope depth
+
+-- the depth moves, by whatever turn says how
 moved-gave : (e : Turn) (m : Compile Unit) (l d : ℕ) (t t′ : List ℕ) → ((x : ℕ) → e .class x ≡ x) → ((x : Rest) → e .rest x ≡ x)
     → ((x : Compiler) → m x ≡ ok tt (with-ctx x (with-scope-depth (x .ctx) (e .depth (x .ctx .scope-depth)))))
     → Moved t t′ l d → d ≡ e .depth (getD t (l * 1024 + 771) 0) → {class limit : ℕ} (code spans : List ℕ) → Fit (mem t code spans) l limit → Gave class limit l e m tt (mem t code spans) (mem t′ code spans)

@@ -1,7 +1,6 @@
 -- The laws of one step: what follows where a step stopped, and what where it went on. They match the rules' `do` blocks line by line.
--- ## After a step
 use mathlib.Core.Path.{_≡_, refl, sym, ap, subst, _∙_}
-use mathlib.Core.Bool.{Bool, true, false}
+use mathlib.Core.Bool.{Bool, true, false, _&&_}
 use Prim.Native.Nat.{ℕ, _+_, _-_, _≤_}
 use native.Mathlib.Omega.{arith}
 use native.Mathlib.Nat.{le-trans}
@@ -11,6 +10,8 @@ use Rattle.rules.specs.Compiler.{Compiler, Outcome, ok, err, Compile, go-on, _>
 use Rattle.steps.specs.View.{Mem, Rest, view, Agrees, code-len, depth-at, Turn, _⨾_, Ahead, Gave, Refused, DidAs, Did, OpenedAs, Opened, Told}
 use Rattle.steps.specs.declared.Step.{Step}
 use Rattle.steps.specs.declared.Step.the-variants.{Next, Stop}
+
+-- ## After a step
 
 pub went : {class limit l n v : ℕ} {e : Turn} {m : Compile Unit} {before now : Mem} {r : Step} → Did class limit l n e m before now r → r ≡ Next v → Gave class limit l e m tt before now
 went {class} {limit} {l} {n} {v} {e} {m} {before} {now} d q = subst (λ (s : Step). DidAs class limit l n e m before now s) q (d .does) .0
@@ -64,13 +65,22 @@ module _ {class l : ℕ} {A B : Type 0} {m : Compile A} {before : Mem} {x : Refu
   unfolding _>>_ go-on
   refused-seq f = record { refuses = λ rest q. ap (λ (o : Outcome A). go-on o (λ _. f)) (h .refuses rest q) }
 
+and-left : (x y : Bool) → (x && y) ≡ true → x ≡ true
+and-left true y h = refl
+and-left false y h = h
+
+and-right : (x y : Bool) → (x && y) ≡ true → y ≡ true
+and-right true y h = h
+and-right false y h = let z : _≡_ {A = ℕ} 0 1 = cc in absurd (omega arith)
+
 pub ahead-then : {l limit : ℕ} {e f : Turn} {before mid now : Mem} → Ahead l limit e before mid → Ahead l limit f mid now → Ahead l limit (e ⨾ f) before now
-ahead-then {f = f} a b = record {
+ahead-then {e = e} {f = f} a b = record {
   fit = b .fit;
   up = le-trans (a .up) (b .up);
   deep = b .deep ∙ ap (f .depth) (a .deep);
   head = λ o h g. b .head o h g ∙ a .head o h g;
   under = λ k o h g i. b .under k o h g i ∙ a .under k o h g i;
+  over = λ q i h g. b .over (and-right (e .aloof) (f .aloof) q) i h g ∙ a .over (and-left (e .aloof) (f .aloof) q) i h g;
   beyond = λ i h. b .beyond i h ∙ a .beyond i h;
 }
 
@@ -219,7 +229,7 @@ otherwise {class} {limit} {l} {n} {e} m m′ {before} {now} {r} b q d = subst (�
 pub by-name : {class limit l n : ℕ} {e : Turn} {m m′ : Compile Unit} {before now : Mem} {r : Step} → m ≡ m′ → Did class limit l n e m before now r → Did class limit l n e m′ before now r
 by-name {class} {limit} {l} {n} {e} {before = before} {now = now} {r = r} q d = subst (λ (m : Compile Unit). Did class limit l n e m before now r) q d
 
-module _ {e f : Turn} (p : (d : ℕ) → e .depth d ≡ f .depth d) (q : (c : ℕ) → e .class c ≡ f .class c) (s : (x : Rest) → e .rest x ≡ f .rest x) where
+module _ {e f : Turn} (p : (d : ℕ) → e .depth d ≡ f .depth d) (q : (c : ℕ) → e .class c ≡ f .class c) (s : (x : Rest) → e .rest x ≡ f .rest x) (o : f .aloof ≡ true → e .aloof ≡ true) where
   turn-as : {class limit l n : ℕ} {m : Compile Unit} {before now : Mem} (r : Step) → Did class limit l n e m before now r → DidAs class limit l n f m before now r
   turn-as {class} {limit} {l} {n} {m} {before} {now} (Next v) d =
       let g = d .does .0 in
@@ -227,7 +237,7 @@ module _ {e f : Turn} (p : (d : ℕ) → e .depth d ≡ f .depth d) (q : (c : �
         record {
           comes = λ rest h. g .comes rest h ∙ ap (λ (x : Rest). ok tt (view now l x)) (s rest);
           agrees = λ rest h. subst (λ (c : ℕ). Agrees c now (f .rest rest)) (q class) (subst (λ (x : Rest). Agrees (e .class class) now x) (s rest) (g .agrees rest h));
-          ahead = record { fit = a .fit; up = a .up; deep = a .deep ∙ p (depth-at before l); head = a .head; under = a .under; beyond = a .beyond };
+          ahead = record { fit = a .fit; up = a .up; deep = a .deep ∙ p (depth-at before l); head = a .head; under = a .under; over = λ h. a .over (o h); beyond = a .beyond };
         },
         d .does .1,
       )

@@ -1,5 +1,4 @@
 -- What a change of the areas is to the rules' state: which context it is, what stays, and how much code there is.
--- ## How much code
 use mathlib.Core.Path.{_≡_, refl, sym, ap₂, subst, _∙_}
 use mathlib.Core.List.{List, [], _∷_}
 use Prim.Native.Nat.{ℕ, zero, suc, _+_, _*_, _-_, _≤_, _<_}
@@ -13,6 +12,8 @@ use Rattle.state.specs.Layout.{levels, code-end-at, runs-end-at, image-at, loca
 use Rattle.state.specs.Contracts.{Kept}
 use Rattle.state.proofs.Laws.{length-row, kept-off, ctx-paths, chunk-same, upvalues-same, locals-same, parents-named}
 use Rattle.steps.specs.View.{Mem, mem, t-of, Rest, view, Agrees, Fit, code-len, depth-at, Turn, steady, Ahead}
+
+-- ## How much code
 
 ops-length : (t code spans : List ℕ) (l ce re : ℕ) → length (ctxAt t code spans l ce re .chunk .ops) ≡ ce - codeFrom t l
 unfolding ctxAt chunkAt
@@ -63,13 +64,14 @@ module _ (e : Turn) (t code spans t′ : List ℕ) (l limit : ℕ) (fit : Fit (m
     (deep : getD t′ (l * 1024 + 771) 0 ≡ e .depth (getD t (l * 1024 + 771) 0))
     (head : (o : ℕ) → 772 ≤ o → o ≤ 776 → getD t′ (l * 1024 + o) 0 ≡ getD t (l * 1024 + o) 0)
     (under : (k o : ℕ) → k < l → 771 ≤ o → o ≤ 776 → getD t′ (k * 1024 + o) 0 ≡ getD t (k * 1024 + o) 0)
-    (ends : (i : ℕ) → code-end-at ≤ i → getD t′ i 0 ≡ getD t i 0) where
+    (ends : (i : ℕ) → suc l * 1024 ≤ i → getD t′ i 0 ≡ getD t i 0) where
   words : (k o : ℕ) → k ≤ l → 772 ≤ o → o ≤ 776 → getD t′ (k * 1024 + o) 0 ≡ getD t (k * 1024 + o) 0
   words k o h a b = ⊎-elim (λ (q : k ≡ l). subst (λ (j : ℕ). getD t′ (j * 1024 + o) 0 ≡ getD t (j * 1024 + o) 0) (sym q) (head o a b)) (λ (q : k < l). under k o q (omega arith) b) (eq-or-lt-of-le h)
 
   coded-same : Coded t′ code spans l limit
   coded-same =
       let ok′ = fit .coded in
+      let low = fit .low in
       let ce = ends code-end-at (omega arith) in
       let re = ends runs-end-at (omega arith) in
       record {
@@ -89,11 +91,12 @@ module _ (e : Turn) (t code spans t′ : List ℕ) (l limit : ℕ) (fit : Fit (m
   unfolding code-len depth-at
   ahead-named = record {
     fit = record { low = fit .low; wf = wf′; coded = coded-same };
-    up = omega (arith, ends code-end-at (omega arith), head 772 (omega arith) (omega arith));
+    up = let low = fit .low in omega (arith, ends code-end-at (omega arith), head 772 (omega arith) (omega arith));
     deep = deep;
     head = head;
     under = under;
-    beyond = λ i h. ends i (omega arith);
+    over = λ q i h g. ends i h;
+    beyond = λ i h. let low = fit .low in ends i (omega arith);
   }
 
 -- the same of a change within the level's names

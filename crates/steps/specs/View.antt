@@ -1,8 +1,6 @@
 -- How the lent areas stand for the compiler's state of the rules, and what it is for a function over them to do what a step of the rules does.
--- ## The state
--- the three lent areas
 use mathlib.Core.Path.{_≡_}
-use mathlib.Core.Bool.{Bool, true, false}
+use mathlib.Core.Bool.{Bool, true, false, _&&_}
 use mathlib.Core.List.{List, [], _∷_, _++_}
 use Prim.Native.Nat.{ℕ, suc, _+_, _*_, _-_, _≤_, _<_}
 use lib.ListN.{length, getD}
@@ -10,8 +8,9 @@ use Rattle.rules.specs.declared.Span.{Span}
 use Rattle.rules.specs.declared.Refusal.{Refusal}
 use Rattle.rules.specs.declared.Refusal.the-variants.{CodeFull}
 use Rattle.rules.specs.Chunk.{ObjectFunction}
-use Rattle.rules.specs.Compiler.{Compiler, new, new-ctx, finish, end-ctx, ends-in-return, ok, err, Compile, _>>=_, the, local-at, upvalue-at, global-named, resolve, code-length, begin-ctx, pop-locals}
-use Rattle.state.specs.Layout.{levels, image-at, codeFrom, codeEnd, runsEnd, ctxAt, parentsOf, type-of, Wf, Coded, code-end-at, upvaluesOf}
+use Rattle.rules.specs.Compiler.{Upvalue as Captured}
+use Rattle.rules.specs.Compiler.{emit-upvalues, Compiler, new, new-ctx, finish, end-ctx, ends-in-return, ok, err, Compile, _>>=_, the, local-at, upvalue-at, global-named, resolve, code-length, begin-ctx, pop-locals}
+use Rattle.state.specs.Layout.{levels, image-at, codeFrom, codeEnd, runsEnd, ctxAt, parentsOf, type-of, Wf, Coded, code-end-at, upvalueOf, upvaluesOf}
 use Rattle.state.specs.Contracts.{Kept}
 use Rattle.steps.specs.declared.Step.{Step}
 use Rattle.steps.specs.declared.Step.the-variants.{Next, Stop}
@@ -20,6 +19,9 @@ use Rattle.steps.specs.declared.Place.the-variants.{Local, Upvalue, Glob
 use Rattle.steps.specs.declared.Popped.{Popped}
 use Rattle.steps.specs.declared.Popped.the-variants as popped
 
+-- ## The state
+
+-- the three lent areas
 pub data Mem : Type 0 where
   mem : (t code spans : List ℕ) → Mem
 
@@ -73,24 +75,26 @@ depth-at (mem t code spans) l = getD t (l * 1024 + 771) 0
 
 -- ## A step
 
--- what a step makes of the scope depth, of the innermost class and of the rest. All steps but a few leave the three as they were
+-- what a step makes of the scope depth, of the innermost class and of the rest, and whether it leaves the levels above alone, as all do that open no
+-- function. All steps but a few leave the three as they were
 pub record Turn : Type 0 where
   pub depth : ℕ → ℕ
   pub class : ℕ → ℕ
   pub rest : Rest → Rest
+  pub aloof : Bool
 
 abbrev pub steady : Turn
-steady = record { depth = λ d. d; class = λ c. c; rest = λ r. r }
+steady = record { depth = λ d. d; class = λ c. c; rest = λ r. r; aloof = true }
 
 abbrev pub deeper : Turn
-deeper = record { depth = λ d. d + 1; class = λ c. c; rest = λ r. r }
+deeper = record { depth = λ d. d + 1; class = λ c. c; rest = λ r. r; aloof = true }
 
 abbrev pub shallower : Turn
-shallower = record { depth = λ d. d - 1; class = λ c. c; rest = λ r. r }
+shallower = record { depth = λ d. d - 1; class = λ c. c; rest = λ r. r; aloof = true }
 
 infixl 6 _⨾_
 abbrev pub _⨾_ : Turn → Turn → Turn
-a ⨾ b = record { depth = λ d. b .depth (a .depth d); class = λ c. b .class (a .class c); rest = λ r. b .rest (a .rest r) }
+a ⨾ b = record { depth = λ d. b .depth (a .depth d); class = λ c. b .class (a .class c); rest = λ r. b .rest (a .rest r); aloof = a .aloof && b .aloof }
 
 -- the areas after a step: they fit, no code is lost, and of the words that a later step needs none has changed
 pub record Ahead (l limit : ℕ) (e : Turn) (before now : Mem) : Type 0 where
@@ -100,6 +104,7 @@ pub record Ahead (l limit : ℕ) (e : Turn) (before now : Mem) : Type 0 where
   -- starts of code and runs, name, arity and type
   pub head : (o : ℕ) → 772 ≤ o → o ≤ 776 → getD (t-of now) (l * 1024 + o) 0 ≡ getD (t-of before) (l * 1024 + o) 0
   pub under : (k o : ℕ) → k < l → 771 ≤ o → o ≤ 776 → getD (t-of now) (k * 1024 + o) 0 ≡ getD (t-of before) (k * 1024 + o) 0
+  pub over : e .aloof ≡ true → (i : ℕ) → suc l * 1024 ≤ i → i < code-end-at → getD (t-of now) i 0 ≡ getD (t-of before) i 0
   -- the image writer's words
   pub beyond : (i : ℕ) → image-at ≤ i → getD (t-of now) i 0 ≡ getD (t-of before) i 0
 
@@ -218,3 +223,19 @@ pub record Left (l : ℕ) (t t′ : List ℕ) : Type 0 where
   pub comes : (code spans : List ℕ) (rest : Rest) → end-ctx (view (mem t code spans) l rest) ≡ ok (length (rest .functions), upvaluesOf t l) (view (mem t′ code spans) (l - 1) (finished (mem t code spans) l rest))
   -- only the ends of code and runs are changed
   pub kept : Kept code-end-at image-at t t′
+
+-- ## The pairs of a closure
+
+-- p is to be done before, and q now
+pub record Turning (limit l : ℕ) (p q : Compile Unit) (before now : Mem) : Type 0 where
+  pub same : {class : ℕ} (rest : Rest) → Agrees class before rest → p (view before l rest) ≡ q (view now l rest)
+  pub agrees : {class : ℕ} (rest : Rest) → Agrees class before rest → Agrees class now rest
+  pub ahead : Ahead l limit steady before now
+
+abbrev pub PairedAs : (limit l w : ℕ) → Span → (before now : Mem) → Step → Type 0
+PairedAs limit l w span before now (Next v) = (us : List Captured) → Turning limit l (emit-upvalues limit (upvalueOf w ∷ us) span) (emit-upvalues limit us span) before now
+PairedAs limit l w span before now (Stop x) = (us : List Captured) (class : ℕ) → Refused class l (emit-upvalues limit (upvalueOf w ∷ us) span) before x
+
+-- the first of the upvalues that are left is emitted
+pub record PairedAt (limit l w : ℕ) (span : Span) (before now : Mem) (r : Step) : Type 0 where
+  pub does : PairedAs limit l w span before now r

@@ -7,13 +7,13 @@ ghost use mathlib.Core.Option.{none};
 ghost use lib.ListN.{length, getD, replicate};
 ghost use lib.Dec.{eqb};
 ghost use Rattle.rules.specs.Chunk.{CS, CF};
-ghost use Rattle.rules.specs.Compiler.{emit-op, emit-op-u8, emit-constant, emit-op-constant, emit-invoke, emit-jump, patch-jump, emit-loop, declare-local, define-local, is-global, begin-scope, end-scope, get-variable, set-variable, need-super, define-name, return-value, compile-return, implicit-return};
+ghost use Rattle.rules.specs.Compiler.{emit-op, emit-op-u8, emit-constant, emit-op-constant, emit-invoke, emit-jump, patch-jump, emit-loop, declare-local, define-local, is-global, begin-scope, end-scope, get-variable, set-variable, need-super, define-name, return-value, compile-return, implicit-return, emit-upvalues};
 ghost use Rattle.rules.specs.Tree.{this};
 ghost use Rattle.rules.specs.Answer.{NO-SPAN};
 ghost use Rattle.rules.specs.Op as ops;
 ghost use Rattle.rules.specs.Base.{if_then_else_};
-ghost use Rattle.state.specs.Layout.{levels, deepest, table-words, localOf, constantOf, type-of, codeFrom, codeEnd, Wf};
-ghost use Rattle.steps.specs.View.{mem, Fit, code-len, depth-at, steady, deeper, shallower, Did, Opened, Measured, Changed, Tried, Asked, Placed, PoppedAt, Entered, Judged, Ending, Started, Left};
+ghost use Rattle.state.specs.Layout.{levels, deepest, table-words, localOf, constantOf, type-of, codeFrom, codeEnd, upvaluesOf, Wf};
+ghost use Rattle.steps.specs.View.{mem, Fit, code-len, depth-at, steady, deeper, shallower, Did, Opened, Measured, Changed, Tried, Asked, Placed, PoppedAt, Entered, Judged, Ending, Started, Left, PairedAt};
 use op::Op;
 use rules::Refusal;
 use rules::Span;
@@ -671,6 +671,52 @@ pub fn end_ctx(t: &mut [u64], level: usize)
     ensures { λ r. ⌜ Left level (now (t .entry)) (now (t .exit)) ⌝ }
 {
     state::end_ctx(t, level);
+}
+
+// An upvalue as a closure has it: whether it is a local of the function around, and its index.
+pub fn emit_pair(
+    t: &mut [u64],
+    code: &mut [u8],
+    spans: &mut [u32],
+    level: usize,
+    limit: usize,
+    w: u64,
+    span: Span,
+) -> Step
+    requires { ⌜ (Fit (mem (now t) (now code) (now spans)) level limit) × (w < 512) ⌝ }
+    ensures { λ r. ⌜ PairedAt limit level w span (mem (now (t .entry)) (now (code .entry)) (now (spans .entry))) (mem (now (t .exit)) (now (code .exit)) (now (spans .exit))) r ⌝ }
+{
+    let a = emit_op(t, code, spans, level, limit, (w / 256) as u8, span, 0);
+    let Step::Next(_) = a else {
+        return a;
+    };
+    emit_op(t, code, spans, level, limit, (w % 256) as u8, span, 0)
+}
+
+// The upvalues of the level above, whose function is just finished.
+pub fn emit_upvalues(
+    t: &mut [u64],
+    code: &mut [u8],
+    spans: &mut [u32],
+    level: usize,
+    limit: usize,
+    span: Span,
+    next: usize,
+) -> Step
+    requires { ⌜ (Fit (mem (now t) (now code) (now spans)) level limit) × (level + 1 < levels) ⌝ }
+    ensures { λ r. ⌜ ((class : ℕ) → Did class limit level next steady (emit-upvalues limit (upvaluesOf (now (t .entry)) (level + 1)) span) (mem (now (t .entry)) (now (code .entry)) (now (spans .entry))) (mem (now (t .exit)) (now (code .exit)) (now (spans .exit))) r) ⌝ }
+{
+    let n = t[(level + 1) * 1024 + 513] as usize;
+    let mut i = 0;
+    while i < n {
+        let w = t[(level + 1) * 1024 + (257 + i)];
+        let a = emit_pair(t, code, spans, level, limit, w, span);
+        let Step::Next(_) = a else {
+            return a;
+        };
+        i += 1;
+    }
+    Step::Next(next)
 }
 
 // The script's context in a table of zeros.

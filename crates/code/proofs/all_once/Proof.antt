@@ -1,3 +1,4 @@
+-- `all_once` meets its contract. Assumes nothing.
 use Prim.Native.Nat.{ℕ, suc, _+_, _-_, _*_, _<_, _≤_}
 use native.Mathlib.Omega.{arith}
 use mathlib.Core.Path.{_≡_, refl, sym, _∙_, ap, subst}
@@ -6,8 +7,6 @@ use Rattle.rules.specs.Base.{all-below}
 use Rattle.code.proofs.Once.{once-in, once-none, once-yes, once-no, below-more-true, below-false, all-begin, all-end}
 use Rattle.code.proofs.all_once.Statement.{statement}
 use Rattle.code.proofs.all_once.Tie as tie
-use Rattle.code.proofs.all_once.Reads as reads
-use Rattle.code.proofs.all_once.Lts as lts
 
 abbrev Inv-loop : tie.InvT-loop
 Inv-loop kinds named i₀ i = (i ≤ 256) × (all-below i (once-in kinds named) ≡ true)

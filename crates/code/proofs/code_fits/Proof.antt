@@ -1,3 +1,4 @@
+-- `code_fits` meets its contract. Assumes nothing.
 use Prim.Native.Nat.{ℕ, _+_}
 use mathlib.Core.Path.{_≡_, refl, sym, _∙_, ap}
 use mathlib.Core.Bool.{Bool, true, false}
@@ -15,12 +16,6 @@ use Rattle.code.specs.declared.Verdict.the-variants.{Yes, No}
 use borrow.Author.Needs.{needs}
 use Rattle.code.proofs.code_fits.Statement.{statement}
 use Rattle.code.proofs.code_fits.Tie as tie
-use Rattle.code.proofs.code_fits.Reads as reads
-use Rattle.code.proofs.code_fits.Lts as lts
-use Rattle.code.proofs.all_once.Reads as all-once-reads
-use Rattle.code.proofs.closures.Reads as closures-reads
-use Rattle.code.proofs.jumps.Reads as jumps-reads
-use Rattle.code.proofs.walk.Reads as walk-reads
 
 walk-requires : tie.Need-walk-requires
 walk-requires c κs = search needs

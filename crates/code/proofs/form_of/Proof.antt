@@ -1,9 +1,8 @@
+-- `form_of` meets its contract. Assumes nothing.
 use Rattle.code.proofs.Forms.{forms, form-known, form-unknown}
 use borrow.Author.Needs.{needs}
 use Rattle.code.proofs.form_of.Statement.{statement}
 use Rattle.code.proofs.form_of.Tie as tie
-use Rattle.code.proofs.form_of.Reads as reads
-use Rattle.code.proofs.form_of.Lts as lts
 
 array-read-result : tie.Need-array-read-result
 array-read-result c = search needs

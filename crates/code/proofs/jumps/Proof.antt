@@ -1,3 +1,4 @@
+-- `jumps` meets its contract. Assumes nothing.
 use Prim.Native.Nat.{ℕ, suc, _+_, _-_, _≤_, _<_, _%_}
 use mathlib.Core.Path.{_≡_, refl, sym, _∙_, ap}
 use native.Mathlib.Omega.{arith}
@@ -8,12 +9,6 @@ use Rattle.code.specs.Table.{Filled, Jumping, kinds-in}
 use Rattle.code.proofs.Turns.{near-of, jump-begin, jump-skip, jump-width, jump-fits, jump-bad, jump-on, jump-done, filled-as, lead-least}
 use Rattle.code.proofs.jumps.Statement.{statement}
 use Rattle.code.proofs.jumps.Tie as tie
-use Rattle.code.proofs.jumps.Reads as reads
-use Rattle.code.proofs.jumps.Lts as lts
-use Rattle.code.proofs.fill.Reads as fill-reads
-use Rattle.code.proofs.lands.Reads as lands-reads
-use Rattle.code.proofs.least.Reads as least-reads
-use Rattle.code.proofs.width_at.Reads as width-at-reads
 
 abbrev Inv-loop : tie.InvT-loop
 Inv-loop code kinds ring₀ at₀ skip₀ lead₀ ring at skip lead = Jumping (kinds-in kinds) code ring at skip (lead .at) (lead .skip)

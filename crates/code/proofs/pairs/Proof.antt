@@ -1,3 +1,4 @@
+-- `pairs` meets its contract. Assumes nothing.
 use Prim.Native.Nat.{ℕ, _+_, _-_, _*_, _<_, _≤_}
 use native.Mathlib.Omega.{arith}
 use mathlib.Core.Path.{_≡_, refl, sym, _∙_}
@@ -6,9 +7,6 @@ use Rattle.rules.specs.Division.{pairs-fit}
 use Rattle.code.proofs.Pairing.{pair-bad, pair-local, pair-past, pair-outer, pairs-done, pairs-begin}
 use Rattle.code.proofs.pairs.Statement.{statement}
 use Rattle.code.proofs.pairs.Tie as tie
-use Rattle.code.proofs.pairs.Reads as reads
-use Rattle.code.proofs.pairs.Lts as lts
-use Rattle.code.proofs.wide.Reads as wide-reads
 
 abbrev Inv-loop : tie.InvT-loop
 Inv-loop code at n upvalues i₀ i = (i ≤ n) × (pairs-fit upvalues (take (2 * n) (drop at code)) ≡ pairs-fit upvalues (take (2 * (n - i)) (drop (at + 2 * i) code)))

@@ -1,3 +1,4 @@
+-- `walk` meets its contract. Assumes nothing.
 use Prim.Native.Nat.{ℕ, suc, _+_, _-_, _*_, _<_, _≤_}
 use native.Mathlib.Omega.{arith}
 use mathlib.Core.Path.{_≡_, refl, sym, _∙_, ap}
@@ -9,10 +10,6 @@ use Rattle.code.specs.Table.{kinds-in, judged, from}
 use Rattle.code.proofs.Judging.{judge-begin, judge-skip, judge-none, judge-cut, judge-refuse, judge-more, judge-done}
 use Rattle.code.proofs.walk.Statement.{statement}
 use Rattle.code.proofs.walk.Tie as tie
-use Rattle.code.proofs.walk.Reads as reads
-use Rattle.code.proofs.walk.Lts as lts
-use Rattle.code.proofs.fits.Reads as fits-reads
-use Rattle.code.proofs.width_at.Reads as width-at-reads
 
 abbrev Inv-loop : tie.InvT-loop
 Inv-loop code kinds upvalues at₀ skip₀ n₀ at skip n = (at + skip ≤ length code) × (n ≤ at) × (judged (operands-fit (kinds-in kinds) upvalues) 0 (division (kinds-in kinds) code) ≡ judged (operands-fit (kinds-in kinds) upvalues) n (from (kinds-in kinds) code at skip))

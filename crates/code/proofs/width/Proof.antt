@@ -1,12 +1,10 @@
+-- `width` meets its contract. Assumes nothing.
 use native.Mathlib.Omega.{arith}
 use Rattle.code.proofs.Forms.{width-0, width-2, width-3, width-9, width-closure, width-closure-none}
 use Rattle.code.specs.Table.{kind-of}
 use borrow.Author.Needs.{needs}
 use Rattle.code.proofs.width.Statement.{statement}
 use Rattle.code.proofs.width.Tie as tie
-use Rattle.code.proofs.width.Reads as reads
-use Rattle.code.proofs.width.Lts as lts
-use Rattle.code.proofs.wide32.Reads as wide32-reads
 
 returns : tie.Need-returns
 returns c = width-0 (kind-of (c .before .args .kind)) (c .before .args .form) (c .if1 .taken)

@@ -1,0 +1,5 @@
+-- The laws of the arms: one for each way out of a function of src/.
+pub mod Monad
+pub mod Operators
+pub mod Calls
+pub mod Arms

@@ -1,0 +1,41 @@
+-- Steps one after the other, however they are grouped, and steps that do nothing.
+use mathlib.Core.Path.{_≡_, refl, subst, _∙_}
+use Prim.Native.Nat.{ℕ}
+use native.Mathlib.Omega.{arith}
+use Rattle.rules.specs.Compiler.{Compiler, Outcome, ok, err, Compile, go-on, return, done}
+use Rattle.steps.specs.View.{Mem, Fit, Turn, steady, Ahead, Gave, DidAs, Did}
+use Rattle.steps.specs.declared.Step.{Step}
+use Rattle.steps.specs.declared.Step.the-variants.{Next, Stop}
+
+-- ## Grouping
+
+pub regroup : {A B C : Type 0} (r : Outcome A) (f : A → Compile B) (g : B → Compile C) → go-on (go-on r f) g ≡ go-on r (λ a s. go-on (f a s) g)
+unfolding go-on
+regroup (ok a s) f g = refl
+regroup (err x) f g = refl
+
+-- a step that comes to another from every state
+module _ {class limit l n : ℕ} {e : Turn} {m m′ : Compile Unit} {before now : Mem} (h : (s : Compiler) → m′ s ≡ m s) where
+  like-as : (r : Step) → Did class limit l n e m before now r → DidAs class limit l n e m′ before now r
+  like-as (Next v) d = (record { comes = λ rest q. h _ ∙ d .does .0 .comes rest q; agrees = d .does .0 .agrees; ahead = d .does .0 .ahead }, d .does .1)
+  like-as (Stop x) d = record { refuses = λ rest q. h _ ∙ d .does .refuses rest q }
+
+  pub like : {r : Step} → Did class limit l n e m before now r → Did class limit l n e m′ before now r
+  like {r} d = record { does = like-as r d }
+
+-- the place to read on by another name
+pub on-to : {class limit l k n : ℕ} {e : Turn} {m : Compile Unit} {before now : Mem} {r : Step} → k ≡ n → Did class limit l k e m before now r → Did class limit l n e m before now r
+on-to {class} {limit} {l} {e = e} {m = m} {before = before} {now = now} {r = r} q d = subst (λ (j : ℕ). Did class limit l j e m before now r) q d
+
+-- ## Nothing is done
+
+pub stays : {l limit : ℕ} {m : Mem} → Fit m l limit → Ahead l limit steady m m
+stays {l} {m = m} fit = record { fit = fit; up = omega arith; deep = refl; head = λ o h g. refl; under = λ k o h g i. refl; beyond = λ i h. refl }
+
+pub returned : {A : Type 0} {class limit l : ℕ} (v : A) {m : Mem} → Fit m l limit → Gave class limit l steady (return v) v m m
+unfolding return
+returned v fit = record { comes = λ rest q. refl; agrees = λ rest q. q; ahead = stays fit }
+
+pub nothing : {class limit l : ℕ} {m : Mem} → Fit m l limit → Gave class limit l steady done tt m m
+unfolding done
+nothing fit = returned tt fit

@@ -1,0 +1,67 @@
+-- `emit_pair` meets its contract. Assumes nothing.
+use Rattle.steps.proofs.Steps.{went}
+use Rattle.steps.proofs.Closures as ways
+use borrow.Author.Needs.{needs}
+use Rattle.steps.proofs.emit_pair.Statement.{statement}
+use Rattle.steps.proofs.emit_pair.Tie as tie
+
+cast-emit-op : tie.Need-cast-emit-op
+cast-emit-op c = search needs
+
+emit-op-requires : tie.Need-emit-op-requires
+emit-op-requires c κs = search needs
+
+enum-told : tie.Need-enum-told
+enum-told c = search needs
+
+enum-told-2 : tie.Need-enum-told-2
+enum-told-2 c = search needs
+
+same-length : tie.Need-same-length
+same-length c = search needs
+
+same-length-2 : tie.Need-same-length-2
+same-length-2 c = search needs
+
+same-length-3 : tie.Need-same-length-3
+same-length-3 c = search needs
+
+returns : tie.Need-returns
+returns c = let a = c .before .before .before .before .before .before .before .before .before .before .before .before .before .before .before .args in ways.pair-first (a .limit) (a .level) (a .w) (a .span) (c .before .before .before .before .before .before .before .before .before .before .before .before .before .before .before .pre .1) (c .before .before .before .before .before .before .before .before .emit-op .ensures) (c .enum-told2 .given .1)
+
+cast-emit-op-2 : tie.Need-cast-emit-op-2
+cast-emit-op-2 c = search needs
+
+emit-op-requires-2 : tie.Need-emit-op-requires-2
+emit-op-requires-2 c κs = went (c .before .before .before .before .before .before .before .before .before .before .before .emit-op .ensures 0) (c .before .before .before .enum-told .given .1) .ahead .fit
+
+same-length-4 : tie.Need-same-length-4
+same-length-4 c = search needs
+
+same-length-5 : tie.Need-same-length-5
+same-length-5 c = search needs
+
+same-length-6 : tie.Need-same-length-6
+same-length-6 c = search needs
+
+returns-2 : tie.Need-returns-2
+returns-2 c = let a = c .before .before .before .before .before .before .before .before .before .before .before .before .before .before .before .before .before .before .before .before .before .before .before .before .before .args in ways.pair-then (a .limit) (a .level) (a .w) (a .span) (c .before .before .before .before .before .before .before .before .before .before .before .before .before .before .before .before .before .before .before .before .before .before .before .before .before .pre .1) (c .before .before .before .before .before .before .before .before .before .before .before .before .before .before .before .before .before .before .emit-op .ensures) (c .before .before .before .before .before .before .before .before .before .before .enum-told .given .1) (c .before .before .before .before .before .before .emit-op2 .ensures)
+
+pub emit-pair-spec : {M : Type 1} → statement M
+emit-pair-spec =
+    tie.close
+    (tie.spec
+    cast-emit-op
+    emit-op-requires
+    enum-told
+    enum-told-2
+    same-length
+    same-length-2
+    same-length-3
+    returns
+    cast-emit-op-2
+    emit-op-requires-2
+    same-length-4
+    same-length-5
+    same-length-6
+    returns-2)
