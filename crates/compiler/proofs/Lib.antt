@@ -3,3 +3,4 @@ pub mod Monad
 pub mod Operators
 pub mod Calls
 pub mod Arms
+pub mod Jumps

@@ -39,3 +39,32 @@ returned v fit = record { comes = λ rest q. refl; agrees = λ rest q. q; ahead 
 pub nothing : {class limit l : ℕ} {m : Mem} → Fit m l limit → Gave class limit l steady done tt m m
 unfolding done
 nothing fit = returned tt fit
+
+-- ## A place is handed on: steps that end in it, and what goes on from it
+
+module _ (k : ℕ → Compile Unit) where
+  cut-one : (q : Outcome Unit) (j : ℕ) → go-on q (λ _. k j) ≡ go-on (go-on q (λ _. return j)) k
+  unfolding go-on return
+  cut-one (ok u s) j = refl
+  cut-one (err x) j = refl
+
+  cut-two : (q : Outcome Unit) (p : Compile Unit) (j : ℕ) → go-on q (λ _ s. go-on (p s) (λ _. k j)) ≡ go-on (go-on q (λ _ s. go-on (p s) (λ _. return j))) k
+  unfolding go-on
+  cut-two (ok u s) p j = cut-one (p s) j
+  cut-two (err x) p j = refl
+
+  pub cut-and : (r : Outcome ℕ) (p : Compile Unit) → go-on r (λ j s. go-on (p s) (λ _. k j)) ≡ go-on (go-on r (λ j s. go-on (p s) (λ _. return j))) k
+  unfolding go-on
+  cut-and (ok j s) p = cut-one (p s) j
+  cut-and (err x) p = refl
+
+  pub cut-later : (r : Outcome ℕ) (q p : Compile Unit) → go-on r (λ j s. go-on (q s) (λ _ s. go-on (p s) (λ _. k j))) ≡ go-on (go-on r (λ j s. go-on (q s) (λ _ s. go-on (p s) (λ _. return j)))) k
+  unfolding go-on
+  cut-later (ok j s) q p = cut-two (q s) p j
+  cut-later (err x) q p = refl
+
+  pub cut-or : (r : Outcome ℕ) (b : Compile ℕ) (q : ℕ → Compile Unit) (p : Compile Unit)
+      → go-on r (λ i s. go-on (b s) (λ j s. go-on (q i s) (λ _ s. go-on (p s) (λ _. k j)))) ≡ go-on (go-on r (λ i s. go-on (b s) (λ j s. go-on (q i s) (λ _ s. go-on (p s) (λ _. return j))))) k
+  unfolding go-on
+  cut-or (ok i s) b q p = cut-later (b s) (q i) p
+  cut-or (err x) b q p = refl

@@ -13,14 +13,14 @@ use Rattle.rules.specs.declared.Refusal.{Refusal}
 use Rattle.rules.specs.Tree.{OpInfix, Add, Subtract, Multiply, Divide, Less, LessEqual, Greater, GreaterEqual, Equal, NotEqual, LogicAnd, LogicOr, OpPrefix, Negate, Not}
 use Rattle.rules.specs.TreeFile.{infix-ops, prefix-ops}
 use Rattle.rules.specs.Op as op
-use Rattle.rules.specs.Compiler.{Compiler, Outcome, ok, err, Compile, go-on, _>>=_, _>>_, return, emit-op, emit-jump, patch-jump, prefix-op, compile-infix}
+use Rattle.rules.specs.Compiler.{Compiler, Compile, go-on, _>>=_, _>>_, return, emit-op, emit-jump, patch-jump, prefix-op, compile-infix}
 use Rattle.parsed.proofs.Taken.{row, no-row}
 use Rattle.steps.specs.View.{Mem, Fit, code-len, steady, Gave, Refused, Did, Opened}
 use Rattle.steps.proofs.Steps.{went, went-to, placed, stuck, stuck-to, still, gave-bind, gave-seq, gave-refused, gave-refused-seq, refused-bind, refused-seq, by-name}
 use Rattle.steps.specs.declared.Step.{Step}
 use Rattle.steps.specs.declared.Step.the-variants.{Next, Stop}
 use Rattle.compiler.specs.Exprs.{PrefixOp, InfixOp, before-right, after-right, BegunAs, BegunBy, Begun, Closed}
-use Rattle.compiler.proofs.Monad.{returned}
+use Rattle.compiler.proofs.Monad.{returned, cut-and, cut-or}
 
 same-some : {A : Type 0} {a b : A} → some a ≡ some b → a ≡ b
 same-some e = cc
@@ -95,33 +95,6 @@ unfolding lookup infix-ops
 is-or n h e = same-some (ap (λ (k : ℕ). lookup k infix-ops) (sym e) ∙ h)
 
 -- ## The two halves make the whole
-
-module _ (k : ℕ → Compile Unit) where
-  cut-one : (q : Outcome Unit) (j : ℕ) → go-on q (λ _. k j) ≡ go-on (go-on q (λ _. return j)) k
-  unfolding go-on return
-  cut-one (ok u s) j = refl
-  cut-one (err x) j = refl
-
-  cut-two : (q : Outcome Unit) (p : Compile Unit) (j : ℕ) → go-on q (λ _ s. go-on (p s) (λ _. k j)) ≡ go-on (go-on q (λ _ s. go-on (p s) (λ _. return j))) k
-  unfolding go-on
-  cut-two (ok u s) p j = cut-one (p s) j
-  cut-two (err x) p j = refl
-
-  cut-and : (r : Outcome ℕ) (p : Compile Unit) → go-on r (λ j s. go-on (p s) (λ _. k j)) ≡ go-on (go-on r (λ j s. go-on (p s) (λ _. return j))) k
-  unfolding go-on
-  cut-and (ok j s) p = cut-one (p s) j
-  cut-and (err x) p = refl
-
-  cut-later : (r : Outcome ℕ) (q p : Compile Unit) → go-on r (λ j s. go-on (q s) (λ _ s. go-on (p s) (λ _. k j))) ≡ go-on (go-on r (λ j s. go-on (q s) (λ _ s. go-on (p s) (λ _. return j)))) k
-  unfolding go-on
-  cut-later (ok j s) q p = cut-two (q s) p j
-  cut-later (err x) q p = refl
-
-  cut-or : (r : Outcome ℕ) (b : Compile ℕ) (q : ℕ → Compile Unit) (p : Compile Unit)
-      → go-on r (λ i s. go-on (b s) (λ j s. go-on (q i s) (λ _ s. go-on (p s) (λ _. k j)))) ≡ go-on (go-on r (λ i s. go-on (b s) (λ j s. go-on (q i s) (λ _ s. go-on (p s) (λ _. return j))))) k
-  unfolding go-on
-  cut-or (ok i s) b q p = cut-later (b s) (q i) p
-  cut-or (err x) b q p = refl
 
 pub infix-cut : (limit : ℕ) (o : OpInfix) (rt : Compile Unit) (span : Span) (s : Compiler) → compile-infix limit o rt span s ≡ (before-right limit o span >>= λ place. rt >> after-right limit o place span) s
 unfolding compile-infix before-right after-right _>>=_ _>>_ return go-on

@@ -5,7 +5,8 @@ ghost use Prim.Native.Nat.{ℕ, _+_, _≤_, _<_};
 ghost use lib.ListN.{length};
 ghost use Rattle.rules.specs.Compiler.{compile-super};
 ghost use Rattle.fields.specs.Words.{word16, letters, span-of};
-ghost use Rattle.steps.specs.View.{mem, Fit, code-len, steady, Did};
+ghost use Rattle.steps.specs.View.{mem, Fit, code-len, steady, Did, Opened};
+ghost use Rattle.compiler.specs.Stmts.{open-jump, turn-jump};
 ghost use Rattle.compiler.specs.Exprs.{There, Somewhere, expr-at, Ran, PrefixOp, InfixOp, Begun, Closed, CallOpened, CallParts, CallClosed};
 use fields::mark_at;
 use fields::span_at;
@@ -409,4 +410,49 @@ pub fn compile_expr(
         span,
         n6,
     )
+}
+
+// ## Parts of statements
+
+// A jump past what follows where the value on the stack is false, and that value is dropped. The answer's value is the place of the jump's operand.
+pub fn open_jump(
+    t: &mut [u64],
+    code: &mut [u8],
+    spans: &mut [u32],
+    level: usize,
+    limit: usize,
+    span: Span,
+) -> Step
+    requires { ⌜ Fit (mem (now t) (now code) (now spans)) level limit ⌝ }
+    ensures { λ r. ⌜ ((class : ℕ) → Opened class limit level steady (open-jump limit span) (mem (now (t .entry)) (now (code .entry)) (now (spans .entry))) (mem (now (t .exit)) (now (code .exit)) (now (spans .exit))) r) ⌝ }
+{
+    let a = emit_jump(t, code, spans, level, limit, Op::JUMP_IF_FALSE, span);
+    let Step::Next(place) = a else {
+        return a;
+    };
+    emit_op(t, code, spans, level, limit, Op::POP, span, place)
+}
+
+// The end of an `if`'s first part: a jump past the second, at whose start the jump with its operand at `place` lands.
+pub fn turn_jump(
+    t: &mut [u64],
+    code: &mut [u8],
+    spans: &mut [u32],
+    level: usize,
+    limit: usize,
+    place: usize,
+    span: Span,
+) -> Step
+    requires { ⌜ (Fit (mem (now t) (now code) (now spans)) level limit) × (place + 2 ≤ code-len (mem (now t) (now code) (now spans)) level) ⌝ }
+    ensures { λ r. ⌜ ((class : ℕ) → Opened class limit level steady (turn-jump limit place span) (mem (now (t .entry)) (now (code .entry)) (now (spans .entry))) (mem (now (t .exit)) (now (code .exit)) (now (spans .exit))) r) ⌝ }
+{
+    let a = emit_jump(t, code, spans, level, limit, Op::JUMP, span);
+    let Step::Next(second) = a else {
+        return a;
+    };
+    let b = patch_jump(t, code, spans, level, limit, place, span, 0);
+    let Step::Next(_) = b else {
+        return b;
+    };
+    emit_op(t, code, spans, level, limit, Op::POP, span, second)
 }
