@@ -7,6 +7,4 @@ pub mod Texts
 pub mod Statements
 pub mod Whole
 pub mod Found
-pub mod ExprRecords
-pub mod StmtRecords
 pub mod SoundFile
