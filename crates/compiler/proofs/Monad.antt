@@ -30,7 +30,7 @@ on-to {class} {limit} {l} {e = e} {m = m} {before = before} {now = now} {r = r} 
 -- ## Nothing is done
 
 pub stays : {l limit : ℕ} {m : Mem} → Fit m l limit → Ahead l limit steady m m
-stays {l} {m = m} fit = record { fit = fit; up = omega arith; deep = refl; head = λ o h g. refl; under = λ k o h g i. refl; over = λ q i h g. refl; beyond = λ i h. refl }
+stays {l} {m = m} fit = record { fit = fit; up = omega arith; deep = refl; head = λ o h g. refl; under = λ k o h g i. refl; over = λ q i h g. refl; beyond = λ q i h. refl }
 
 pub returned : {A : Type 0} {class limit l : ℕ} (v : A) {m : Mem} → Fit m l limit → Gave class limit l steady (return v) v m m
 unfolding return

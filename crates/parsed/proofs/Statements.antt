@@ -481,7 +481,7 @@ module _ (tree : List ℕ) (names : ℕ) where
     pub stmts : read-stmts (word16 tree mid) inner (mid + 2) ≡ got body n
     pub is : f ≡ fun (word16 tree (at + 10)) params body
 
-  fun-of : (inner : Reader Stmt) (at : ℕ) {f : Fun} {n : ℕ} → fun-fields tree names inner (TreeForm at) (at + 10) ≡ got f n → FunAt inner at f n
+  pub fun-of : (inner : Reader Stmt) (at : ℕ) {f : Fun} {n : ℕ} → fun-fields tree names inner (TreeForm at) (at + 10) ≡ got f n → FunAt inner at f n
   unfolding fun-fields _>>=_ return
   fun-of inner at r =
       let p = first (name tree names (TreeForm at) (at + 10)) _ r in
@@ -505,14 +505,14 @@ module _ (tree : List ℕ) (names : ℕ) where
   pub record FunStmtAt (inner : Reader Stmt) (funs at : ℕ) (s : Stmt) (n : ℕ) : Type 0 where
     pub opens : 0 < funs
     pub function : Fun
-    pub one : FunAt inner at function n
+    pub one : fun-fields tree names inner (TreeForm at) (at + 10) ≡ got function n
     pub is : s ≡ StmtFun (span-of tree (at + 2)) function
 
   fun-stmt-of : (inner : Reader Stmt) (funs at : ℕ) {s : Stmt} {n : ℕ} → 0 < funs → (fun-fields tree names inner (TreeForm at) >>= λ f. return (StmtFun (span-of tree (at + 2)) f)) (at + 10) ≡ got s n → FunStmtAt inner funs at s n
   unfolding _>>=_ return
   fun-stmt-of inner funs at h r =
       let x = first (fun-fields tree names inner (TreeForm at) (at + 10)) _ r in
-      record { opens = h; function = x .thing; one = fun-of inner at (moved (x .is) (got-next (x .rest))); is = sym (got-thing (x .rest)) }
+      record { opens = h; function = x .thing; one = moved (x .is) (got-next (x .rest)); is = sym (got-thing (x .rest)) }
 
   may : (d funs at : ℕ) (w : AnyStmtAt d funs at) → letters tree at ≡ 0x5346 → 0 < funs
   unfolding may-open lookup stmt-marks
@@ -536,7 +536,7 @@ module _ (tree : List ℕ) (names : ℕ) where
     pub mark : letters tree at ≡ 0x5346
     pub bound : at + 10 ≤ length tree
     pub function : Fun
-    pub one : FunAt inner at function n
+    pub one : fun-fields tree names inner (TreeForm at) (at + 10) ≡ got function n
     pub is : s ≡ (span-of tree (at + 2), function)
 
   method-of : (inner : Reader Stmt) (d funs at : ℕ) {s : Span × Fun} {n : ℕ} → 0 < d → method-record tree names inner funs at at ≡ got s n → MethodAt inner d funs at s n
@@ -555,7 +555,7 @@ module _ (tree : List ℕ) (names : ℕ) where
         mark = w .is;
         bound = f .bound;
         function = v .thing;
-        one = fun-of inner at (moved (v .is) (got-next (v .rest)));
+        one = moved (v .is) (got-next (v .rest));
         is = sym (got-thing (v .rest));
       }
 

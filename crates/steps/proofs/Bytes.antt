@@ -82,7 +82,7 @@ module _ (l limit byte : ℕ) (span : Span) (t code spans t′ code′ spans′ 
           head = λ o a b. at l o low (omega arith);
           under = λ k o h a b. at k o (omega arith) (omega arith);
           over = λ q i h g. w .kept .below i g;
-          beyond = λ i h. w .kept .above i h;
+          beyond = λ q i h. w .kept .above i h;
         };
       }
 

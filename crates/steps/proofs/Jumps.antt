@@ -28,7 +28,7 @@ measured t l n e = record { is = λ code spans. e; says = λ class code spans. t
 
 -- the areas as they are
 pub ahead-none : {l limit : ℕ} {m : Mem} → Fit m l limit → Ahead l limit steady m m
-ahead-none fit = record { fit = fit; up = le-refl _; deep = refl; head = λ o a b. refl; under = λ k o h a b. refl; over = λ q i h g. refl; beyond = λ i h. refl }
+ahead-none fit = record { fit = fit; up = le-refl _; deep = refl; head = λ o a b. refl; under = λ k o h a b. refl; over = λ q i h g. refl; beyond = λ q i h. refl }
 
 -- the place of the operand that was just left open
 pub open-place : {class limit l : ℕ} {m : Mem} (k : ℕ) → Fit m l limit → k ≡ code-len m l → 2 ≤ k → Opened class limit l steady (code-length >>= λ end. return (end - 2)) m m (Next (k - 2))
@@ -124,7 +124,7 @@ module _ {limit : ℕ} (l place d : ℕ) (span : Span) (t code spans : List ℕ)
           head = λ o a b. refl;
           under = λ k o h a b. refl;
           over = λ q i h g. refl;
-          beyond = λ i h. refl;
+          beyond = λ q i h. refl;
         };
       }
 

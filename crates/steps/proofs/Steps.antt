@@ -81,7 +81,7 @@ ahead-then {e = e} {f = f} a b = record {
   head = λ o h g. b .head o h g ∙ a .head o h g;
   under = λ k o h g i. b .under k o h g i ∙ a .under k o h g i;
   over = λ q i h g. b .over (and-right (e .aloof) (f .aloof) q) i h g ∙ a .over (and-left (e .aloof) (f .aloof) q) i h g;
-  beyond = λ i h. b .beyond i h ∙ a .beyond i h;
+  beyond = λ q i h. b .beyond (and-right (e .aloof) (f .aloof) q) i h ∙ a .beyond (and-left (e .aloof) (f .aloof) q) i h;
 }
 
 module _ {class limit l : ℕ} {e : Turn} {A B : Type 0} {m : Compile A} {v : A} {before mid : Mem} (g : Gave class limit l e m v before mid) where
@@ -237,7 +237,7 @@ module _ {e f : Turn} (p : (d : ℕ) → e .depth d ≡ f .depth d) (q : (c : �
         record {
           comes = λ rest h. g .comes rest h ∙ ap (λ (x : Rest). ok tt (view now l x)) (s rest);
           agrees = λ rest h. subst (λ (c : ℕ). Agrees c now (f .rest rest)) (q class) (subst (λ (x : Rest). Agrees (e .class class) now x) (s rest) (g .agrees rest h));
-          ahead = record { fit = a .fit; up = a .up; deep = a .deep ∙ p (depth-at before l); head = a .head; under = a .under; over = λ h. a .over (o h); beyond = a .beyond };
+          ahead = record { fit = a .fit; up = a .up; deep = a .deep ∙ p (depth-at before l); head = a .head; under = a .under; over = λ h. a .over (o h); beyond = λ h. a .beyond (o h) };
         },
         d .does .1,
       )

@@ -96,7 +96,7 @@ module _ (e : Turn) (t code spans t′ : List ℕ) (l limit : ℕ) (fit : Fit (m
     head = head;
     under = under;
     over = λ q i h g. ends i h;
-    beyond = λ i h. let low = fit .low in ends i (omega arith);
+    beyond = λ q i h. let low = fit .low in ends i (omega arith);
   }
 
 -- the same of a change within the level's names

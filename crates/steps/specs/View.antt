@@ -75,8 +75,8 @@ depth-at (mem t code spans) l = getD t (l * 1024 + 771) 0
 
 -- ## A step
 
--- what a step makes of the scope depth, of the innermost class and of the rest, and whether it leaves the levels above alone, as all do that open no
--- function. All steps but a few leave the three as they were
+-- what a step makes of the scope depth, of the innermost class and of the rest, and whether it leaves the levels above and the image writer's words
+-- alone, as all do that open no function. All steps but a few leave the three as they were
 pub record Turn : Type 0 where
   pub depth : ℕ → ℕ
   pub class : ℕ → ℕ
@@ -106,7 +106,7 @@ pub record Ahead (l limit : ℕ) (e : Turn) (before now : Mem) : Type 0 where
   pub under : (k o : ℕ) → k < l → 771 ≤ o → o ≤ 776 → getD (t-of now) (k * 1024 + o) 0 ≡ getD (t-of before) (k * 1024 + o) 0
   pub over : e .aloof ≡ true → (i : ℕ) → suc l * 1024 ≤ i → i < code-end-at → getD (t-of now) i 0 ≡ getD (t-of before) i 0
   -- the image writer's words
-  pub beyond : (i : ℕ) → image-at ≤ i → getD (t-of now) i 0 ≡ getD (t-of before) i 0
+  pub beyond : e .aloof ≡ true → (i : ℕ) → image-at ≤ i → getD (t-of now) i 0 ≡ getD (t-of before) i 0
 
 -- m gave v
 pub record Gave {A : Type 0} (class limit l : ℕ) (e : Turn) (m : Compile A) (v : A) (before now : Mem) : Type 0 where

@@ -1,0 +1,2 @@
+-- Laws of steps that finish functions.
+pub mod Growing
