@@ -3,3 +3,4 @@ pub mod Taken
 pub mod Expressions
 pub mod Deeper
 pub mod Statements
+pub mod Later

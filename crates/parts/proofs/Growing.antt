@@ -8,12 +8,13 @@ use native.Mathlib.Nat.{le-refl, le-trans}
 use lib.ListN.{length, getD}
 use Rattle.rules.specs.declared.Refusal.{Refusal}
 use Rattle.rules.specs.Chunk.{ObjectFunction}
-use Rattle.rules.specs.Compiler.{Compile, ok, _>>=_, _>>_}
+use Rattle.rules.specs.Compiler.{Compiler, Outcome, ok, Compile, go-on, _>>=_, _>>_}
 use Rattle.state.specs.Layout.{deepest, image-at}
-use Rattle.steps.specs.View.{Mem, t-of, Rest, view, Agrees, depth-at, Turn, steady, _⨾_, Ahead, Gave, Refused, DidAs, Did, OpenedAs, Opened, Told}
+use Rattle.steps.specs.View.{Mem, t-of, Rest, view, Agrees, Fit, depth-at, Turn, steady, _⨾_, Ahead, Gave, Refused, Did, Told}
 use Rattle.steps.specs.declared.Step.{Step}
 use Rattle.steps.specs.declared.Step.the-variants.{Next, Stop}
-use Rattle.steps.proofs.Steps.{went, went-to, gave-bind, gave-seq, gave-refused, gave-refused-seq}
+use Rattle.steps.proofs.Steps.{gave-bind, gave-seq, gave-refused, gave-refused-seq, ahead-then}
+use Rattle.steps.proofs.Jumps.{ahead-none}
 use Rattle.parts.specs.Output.{largest, Holds, Added, more, grow, Grew, WorkedAs, Worked, Ready}
 
 -- ## Another turn
@@ -53,6 +54,13 @@ added-then {a = a} {b = b} {t″ = t″} {out″ = out″} x y =
       little = let f = x .little in let g = y .little in omega arith;
     }
 
+-- steps that finish functions, one after the other
+pub ahead-same : {l limit : ℕ} {a b c : List ObjectFunction} {before now : Mem} → Ahead l limit (grow a ⨾ (steady ⨾ grow b)) before now → Ahead l limit (grow c) before now
+ahead-same a = record { fit = a .fit; up = a .up; deep = a .deep; head = a .head; under = a .under; over = λ h. and-second false h; beyond = λ h. and-second false h }
+
+grown-none : {l limit : ℕ} {before now : Mem} {c : List ObjectFunction} → Ahead l limit steady before now → Ahead l limit (grow c) before now
+grown-none a = record { fit = a .fit; up = a .up; deep = a .deep; head = a .head; under = a .under; over = λ h. and-second false h; beyond = λ h. and-second false h }
+
 -- ## A run: steps whose turn is e, but for the functions that are finished on the way
 
 pub record Run {A : Type 0} (class limit l at n : ℕ) (e : Turn) (m : Compile A) (v : A) (before : Mem) (out : List ℕ) (now : Mem) (out′ : List ℕ) : Type 0 where
@@ -67,7 +75,7 @@ pub record Free (e : Turn) : Type 0 where
 pub free-steady : Free steady
 free-steady = record { past = λ made rest. refl }
 
-more-more : (a b : List ObjectFunction) (rest : Rest) → more b (more a rest) ≡ more (a ++ b) rest
+pub more-more : (a b : List ObjectFunction) (rest : Rest) → more b (more a rest) ≡ more (a ++ b) rest
 more-more a b rest = ap (λ (fs : List ObjectFunction). record { classes = rest .classes; functions = fs }) (append-assoc (rest .functions) a b)
 
 more-none : (rest : Rest) → rest ≡ more [] rest
@@ -167,3 +175,88 @@ ready-after {l = l} {left′ = left′} y r h =
       few = let f = r .added .few in let g = y .few in omega arith;
       little = let f = r .added .little in let g = y .little in omega arith;
     }
+
+-- ## The last of several steps: by its answer
+
+module _ {class limit l at n : ℕ} {m : Compile Unit} {before : Mem} {out : List ℕ} {now : Mem} {out′ : List ℕ} where
+  module _ {inner k : ℕ} {f : Turn} {last : Compile Unit} {mid : Mem} (g : Gave inner limit k f last tt mid now → Grew class limit l at n m before out now out′)
+      (h : (x : Refusal) → Refused inner k last mid x → Refused class l m before x) where
+    conclude-as : (r : Step) → Did inner limit k n f last mid now r → WorkedAs class limit l at n m before out now out′ r
+    conclude-as (Next v) d = (g (d .does .0), d .does .1)
+    conclude-as (Stop x) d = h x (d .does)
+
+    pub conclude : {r : Step} → Did inner limit k n f last mid now r → Worked class limit l at n m before out now out′ r
+    conclude {r} d = record { does = conclude-as r d }
+
+  module _ {inner from : ℕ} {last : Compile Unit} {mid : Mem} {mid-out : List ℕ} (g : Grew inner limit l from n last mid mid-out now out′ → Grew class limit l at n m before out now out′)
+      (h : (x : Refusal) → Refused inner l last mid x → Refused class l m before x) where
+    conclude-worked-as : (r : Step) → Worked inner limit l from n last mid mid-out now out′ r → WorkedAs class limit l at n m before out now out′ r
+    conclude-worked-as (Next v) d = (g (d .does .0), d .does .1)
+    conclude-worked-as (Stop x) d = h x (d .does)
+
+    pub conclude-worked : {r : Step} → Worked inner limit l from n last mid mid-out now out′ r → Worked class limit l at n m before out now out′ r
+    conclude-worked {r} d = record { does = conclude-worked-as r d }
+
+-- a step that comes to another from every state
+module _ {class limit l at n : ℕ} {m m′ : Compile Unit} {before : Mem} {out : List ℕ} {now : Mem} {out′ : List ℕ} (h : (s : Compiler) → m′ s ≡ m s) where
+  like-as : (r : Step) → Worked class limit l at n m before out now out′ r → WorkedAs class limit l at n m′ before out now out′ r
+  like-as (Next v) d =
+      let w = d .does .0 in (
+        record {
+          made = w .made;
+          gave = record { comes = λ rest q. h _ ∙ w .gave .comes rest q; agrees = w .gave .agrees; ahead = w .gave .ahead };
+          added = w .added;
+        },
+        d .does .1,
+      )
+  like-as (Stop x) d = record { refuses = λ rest q. h _ ∙ d .does .refuses rest q }
+
+  pub worked-like : {r : Step} → Worked class limit l at n m before out now out′ r → Worked class limit l at n m′ before out now out′ r
+  worked-like {r} d = record { does = like-as r d }
+
+-- a question to the state
+pub told-run : {class limit l at n : ℕ} {A : Type 0} {m : Compile A} {v : A} {now : Mem} (out : List ℕ) → Fit now l limit → at ≤ n → Told class l m v now → Run class limit l at n steady m v now out now out
+told-run out fit h w = of-gave out refl h (record { comes = w .says; agrees = λ rest q. q; ahead = ahead-none fit })
+
+-- ## A walk over a row: from `before`, p comes to what q comes to from `now`, and functions were finished on the way
+
+pub record Onward (class limit l at next : ℕ) (p q : Compile Unit) (before : Mem) (out : List ℕ) (now : Mem) (out′ : List ℕ) : Type 0 where
+  pub made : List ObjectFunction
+  pub same : (rest : Rest) → Agrees class before rest → p (view before l rest) ≡ q (view now l (more made rest))
+  pub agrees : (rest : Rest) → Agrees class before rest → Agrees class now (more made rest)
+  pub ahead : Ahead l limit (grow made) before now
+  pub added : Added at next made (t-of before) out (t-of now) out′
+
+module _ {class limit l at : ℕ} {p : Compile Unit} {before : Mem} {out : List ℕ} where
+  pub onward-start : Fit before l limit → Onward class limit l at at p p before out before out
+  onward-start fit =
+      record {
+        made = [];
+        same = λ rest q. ap (λ (x : Rest). p (view before l x)) (more-none rest);
+        agrees = λ rest q. subst (λ (x : Rest). Agrees class before x) (more-none rest) q;
+        ahead = grown-none (ahead-none fit);
+        added = added-none out (le-refl at) (λ i h. refl);
+      }
+
+  module _ {next : ℕ} {q : Compile Unit} {now : Mem} {out′ : List ℕ} (w : Onward class limit l at next p q before out now out′) where
+    pub onward-refused : {x : Refusal} → Refused class l q now x → Refused class l p before x
+    onward-refused h = record { refuses = λ rest g. w .same rest g ∙ h .refuses (more (w .made) rest) (w .agrees rest g) }
+
+    -- one more is done, and q′ is left
+    pub onward-step : {n : ℕ} (m q′ : Compile Unit) {now′ : Mem} {out″ : List ℕ} → ((s : Compiler) → q s ≡ (m >> q′) s) → Run class limit l next n steady m tt now out′ now′ out″
+        → Onward class limit l at n p q′ before out now′ out″
+    unfolding _>>_ go-on
+    onward-step {n} m q′ {now′} {out″} c r =
+        record {
+          made = w .made ++ r .made;
+          same = λ rest g.
+              w .same rest g ∙ c _ ∙ ap (λ (o : Outcome Unit). go-on o (λ _. q′)) (r .gave .comes (more (w .made) rest) (w .agrees rest g))
+              ∙ ap (λ (x : Rest). q′ (view now′ l x)) (more-more (w .made) (r .made) rest);
+          agrees = λ rest g. subst (λ (x : Rest). Agrees class now′ x) (more-more (w .made) (r .made) rest) (r .gave .agrees (more (w .made) rest) (w .agrees rest g));
+          ahead = ahead-same (ahead-then (w .ahead) (r .gave .ahead));
+          added = added-then (w .added) (r .added);
+        }
+
+    -- nothing is left
+    pub onward-done : ((s : Compiler) → q s ≡ ok tt s) → Grew class limit l at next p before out now out′
+    onward-done h = record { made = w .made; gave = record { comes = λ rest g. w .same rest g ∙ h _; agrees = w .agrees; ahead = w .ahead }; added = w .added }

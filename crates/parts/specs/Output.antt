@@ -33,6 +33,9 @@ stmt-at tree left level at = read-stmt tree (word16 tree 2) left (funs-left leve
 abbrev pub stmts-at : (tree : List ℕ) → (count left level at : ℕ) → Read Stmts
 stmts-at tree count left level at = read-stmts count (read-stmt tree (word16 tree 2) left (funs-left level)) at
 
+abbrev pub method-at : (tree : List ℕ) → (left level at : ℕ) → Read (Span × Fun)
+method-at tree left level at = read-method tree (word16 tree 2) left (funs-left level) at
+
 abbrev pub methods-at : (tree : List ℕ) → (count left level at : ℕ) → Read Methods
 methods-at tree count left level at = read-methods count (read-method tree (word16 tree 2) left (funs-left level)) at
 

@@ -9,10 +9,10 @@ use lib.Dec.{leb}
 use Rattle.rules.specs.Base.{if_then_else_}
 use Rattle.rules.specs.declared.Span.{Span}
 use Rattle.rules.specs.declared.Refusal.the-variants.{TooManyParams}
-use Rattle.rules.specs.Tree.{Superclass}
+use Rattle.rules.specs.Tree.{Superclass, Fun}
 use Rattle.rules.specs.Op as op
 use Rattle.rules.specs.Chunk.{CS}
-use Rattle.rules.specs.Compiler.{Compile, _>>=_, _>>_, return, done, need, the, is-some, FunctionType, new-ctx, slot-zero, begin-ctx, declare-local, define-local, declare-params, push-class-ctx, emit-op, emit-op-constant, emit-loop, get-variable, define-name, compile-superclass, end-superclass, for-end, implicit-return, end-function}
+use Rattle.rules.specs.Compiler.{Compile, _>>=_, _>>_, return, done, need, the, is-some, FunctionType, new-ctx, slot-zero, begin-ctx, declare-local, define-local, declare-params, push-class-ctx, emit-op, emit-op-constant, emit-loop, get-variable, define-name, compile-superclass, end-superclass, for-end, implicit-return, end-function, fun-name, method-type, compile-function}
 
 module _ (limit : ℕ) where
   -- the end of a loop: a `while` has a jump past it always, a `for` where it has a condition
@@ -34,6 +34,12 @@ module _ (limit : ℕ) where
   close-class super- some-methods span = do
     if some-methods then emit-op limit op.POP span else done
     end-superclass limit super-
+
+  -- one of its methods
+  unfoldable pub compile-method : Span × Fun → Compile Unit
+  compile-method (span, f) = do
+    compile-function limit f (method-type (fun-name f)) span
+    emit-op-constant limit op.METHOD (CS (fun-name f)) span
 
   -- a function after its statements
   unfoldable pub close-function : Span → Compile Unit

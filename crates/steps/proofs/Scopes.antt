@@ -67,15 +67,15 @@ module _ (name : ℕ) (span : Span) (x : Compiler) where
   unfolding declare-local _>>=_ _>>_ the go-on
   declare-is a b p q = ap₂ (λ (a b : Bool). go-on (need (not a) (AlreadyDefined span name) x) (λ _. need b (TooManyLocals span) >> (update-ctx λ c. with-locals c (record { name = name; depth = c .scope-depth; is-initialized = false; is-captured = false } ∷ c .locals)))) p q
 
-  declare-again : declared (x .ctx .scope-depth) name (x .ctx .locals) ≡ true → declare-local name span x ≡ err (AlreadyDefined span name)
+  pub declare-again : declared (x .ctx .scope-depth) name (x .ctx .locals) ≡ true → declare-local name span x ≡ err (AlreadyDefined span name)
   unfolding need go-on
   declare-again p = declare-is true _ p refl
 
-  declare-full : declared (x .ctx .scope-depth) name (x .ctx .locals) ≡ false → 256 ≤ length (x .ctx .locals) → declare-local name span x ≡ err (TooManyLocals span)
+  pub declare-full : declared (x .ctx .scope-depth) name (x .ctx .locals) ≡ false → 256 ≤ length (x .ctx .locals) → declare-local name span x ≡ err (TooManyLocals span)
   unfolding need go-on _>>_
   declare-full p h = declare-is false false p (le-ltb _ _ h)
 
-  declare-new : declared (x .ctx .scope-depth) name (x .ctx .locals) ≡ false → length (x .ctx .locals) < 256 → declare-local name span x ≡ ok tt (with-ctx x (with-locals (x .ctx) (record { name = name; depth = x .ctx .scope-depth; is-initialized = false; is-captured = false } ∷ x .ctx .locals)))
+  pub declare-new : declared (x .ctx .scope-depth) name (x .ctx .locals) ≡ false → length (x .ctx .locals) < 256 → declare-local name span x ≡ ok tt (with-ctx x (with-locals (x .ctx) (record { name = name; depth = x .ctx .scope-depth; is-initialized = false; is-captured = false } ∷ x .ctx .locals)))
   unfolding need go-on _>>_ update-ctx
   declare-new p h = declare-is false true p (lt-ltb _ _ h)
 

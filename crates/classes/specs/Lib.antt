@@ -1,0 +1,2 @@
+-- What the parts of a class say.
+pub mod Classes
