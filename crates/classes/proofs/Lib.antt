@@ -3,3 +3,4 @@ pub mod Heads
 pub mod Cut
 pub mod Opening
 pub mod Closing
+pub mod Whole

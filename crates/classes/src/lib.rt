@@ -76,11 +76,11 @@ fn inherit(
         return d;
     };
     define_local(t, level);
-    let a = get_variable(t, code, spans, level, limit, 2, name, span, 0);
+    let a = get_variable(t, code, spans, level, limit, 2, parent, place, 0);
     let Step::Next(_) = a else {
         return a;
     };
-    let b = get_variable(t, code, spans, level, limit, 2, parent, place, 0);
+    let b = get_variable(t, code, spans, level, limit, 2, name, span, 0);
     let Step::Next(_) = b else {
         return b;
     };

@@ -109,7 +109,7 @@ pub fn open_function(
 // ## A function is finished
 
 // The function that stands at `level` is put behind the others, and counted. The output's first six bytes are the header's.
-fn finish(t: &mut [u64], code: &[u8], spans: &[u32], out: &mut [u8], level: usize)
+pub fn finish(t: &mut [u64], code: &[u8], spans: &[u32], out: &mut [u8], level: usize)
     requires { ⌜ (Closed (now t) (now code) (now spans) level) × (getD (now t) image-at 0 ≤ max-tree) × (getD (now t) (image-at + 1) 0 ≤ max-tree * largest) ⌝ }
     ensures { λ r. ⌜ Filed level (now (t .entry)) (now (code .entry)) (now (spans .entry)) (now (out .entry)) (now (t .exit)) (now (out .exit)) ⌝ }
 {

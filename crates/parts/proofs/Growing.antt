@@ -170,6 +170,7 @@ pub ready-after : {class limit l at n left left′ : ℕ} {e : Turn} {tree : Lis
 ready-after {l = l} {left′ = left′} y r h =
     record {
       fit = r .gave .ahead .fit;
+      small = y .small;
       short = y .short;
       shallow = subst (λ (d : ℕ). d + 2 * left′ ≤ deepest) (sym (r .gave .ahead .deep)) h;
       few = let f = r .added .few in let g = y .few in omega arith;

@@ -5,7 +5,7 @@ use mathlib.Core.Bool.{false}
 use mathlib.Core.List.{List, _++_}
 use Prim.Native.Nat.{ℕ, suc, _+_, _*_, _-_, _≤_}
 use lib.ListN.{length, getD, replicate}
-use Rattle.rules.specs.Limits.{max-tree}
+use Rattle.rules.specs.Limits.{max-tree, max-code}
 use Rattle.rules.specs.declared.Refusal.the-variants.{TreeForm}
 use Rattle.rules.specs.declared.Span.{Span}
 use Rattle.rules.specs.Tree.{Stmt, Stmts, Fun, Methods}
@@ -90,6 +90,7 @@ pub record Walked {A : Type 0} (class limit l at : ℕ) (read : Read A) (f : A �
 
 pub record Ready (tree : List ℕ) (m : Mem) (at left l limit : ℕ) : Type 0 where
   pub fit : Fit m l limit
+  pub small : limit ≤ max-code
   pub short : length tree ≤ max-tree
   -- a level of records opens two scopes at most
   pub shallow : depth-at m l + 2 * left ≤ deepest

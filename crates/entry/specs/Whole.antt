@@ -1,0 +1,93 @@
+-- The whole, cut in parts: the script's statements, the output without its header, the header, and what is answered.
+use mathlib.Core.Path.{_≡_}
+use mathlib.Core.List.{List, _∷_, _++_}
+use Prim.Native.Nat.{ℕ, _+_, _*_, _/_, _≤_, min}
+use lib.ListN.{length, getD, replicate}
+use Rattle.rules.specs.Base.{le}
+use Rattle.rules.specs.Limits.{first-limits, max-tree, max-code}
+use Rattle.rules.specs.Answer.{NO-SPAN, refusal, accepted}
+use Rattle.rules.specs.declared.Answer.{Answer}
+use Rattle.rules.specs.Tree.{Stmts}
+use Rattle.rules.specs.Reader.{Read, got}
+use Rattle.rules.specs.Chunk.{ObjectFunction}
+use Rattle.rules.specs.Op as op
+use Rattle.rules.specs.Compiler.{Compile, _>>_, emit-op, compile-functions}
+use Rattle.rules.specs.Entry.{Lent, Compiled, functions-are, refused, from-outcome, leaves, write-out}
+use Rattle.state.specs.Layout.{image-at}
+use Rattle.steps.specs.View.{Started}
+use Rattle.steps.specs.declared.Step.{Step}
+use Rattle.steps.specs.declared.Step.the-variants.{Next, Stop}
+use Rattle.writer.specs.Put.{padded}
+use Rattle.parts.specs.Output.{stmts-at, Holds}
+
+-- ## What is lent
+
+abbrev pub lent-of : (table code spans out : List ℕ) → Lent
+lent-of table code spans out =
+    record {
+      table-words = length table;
+      code-bytes = length code;
+      span-words = length spans;
+      output-bytes = length out;
+    }
+
+-- the least of the code bytes, a third of the span words, and 262,144
+abbrev pub limit-of : (code spans : List ℕ) → ℕ
+limit-of code spans = min (min (length code) (length spans / 3)) max-code
+
+-- ## The script
+
+abbrev pub rows-at : (tree : List ℕ) → (count at : ℕ) → Read Stmts
+rows-at tree count at = stmts-at tree count (first-limits .depth) 0 at
+
+-- its statements are a row that ends where the file does
+pub record Rows (tree : List ℕ) (count at : ℕ) : Type 0 where
+  pub short : length tree ≤ max-tree
+  pub stmts : Stmts
+  pub is : rows-at tree count at ≡ got stmts (length tree)
+
+-- the areas before it is compiled
+pub record Clean (t code spans out : List ℕ) (limit : ℕ) : Type 0 where
+  pub started : Started t
+  pub code-room : limit ≤ length code
+  pub runs-room : limit * 3 ≤ length spans
+  pub small : limit ≤ max-code
+  pub clear : out ≡ replicate (length out) 0
+
+-- what it ends with
+abbrev pub script-end : (limit : ℕ) → Compile Unit
+script-end limit = emit-op limit op.NIL NO-SPAN >> emit-op limit op.RETURN NO-SPAN
+
+-- The functions' records are in the output as far as there is room, and only the header is missing; n is how long the image is
+pub record Recorded (made : Compiled) (t out : List ℕ) (n : ℕ) : Type 0 where
+  pub functions : List ObjectFunction
+  pub is : made ≡ functions-are functions
+  pub holds : Holds t out functions
+  pub count : getD t image-at 0 ≡ length functions
+  pub long : n ≡ 6 + getD t (image-at + 1) 0
+
+abbrev pub ScriptedAs : Compiled → (t out : List ℕ) → Step → Type 0
+ScriptedAs made t out (Next n) = Recorded made t out n
+ScriptedAs made t out (Stop x) = made ≡ refused x
+
+pub record Scripted (limit : ℕ) (rows : Read Stmts) (end : ℕ) (t out : List ℕ) (r : Step) : Type 0 where
+  pub did : (stmts : Stmts) → rows ≡ got stmts end → ScriptedAs (from-outcome (compile-functions limit stmts)) t out r
+
+-- ## The header is written over the output's first six bytes
+
+pub record Headed (count : ℕ) (out out′ : List ℕ) : Type 0 where
+  pub size : length out′ ≡ length out
+  pub holds : (bs : List ℕ) → out ≡ padded (length out) (replicate 6 0 ++ bs) → out′ ≡ padded (length out) (0x49 ∷ 0x4D ∷ le 4 count ++ bs)
+
+-- ## What is answered, and what the output holds in the end: after a refusal it is still to be cleared
+
+abbrev pub answer-of : Step → Answer
+answer-of (Next n) = accepted n
+answer-of (Stop x) = refusal x
+
+abbrev pub output-of : (out : List ℕ) → Step → List ℕ
+output-of out (Next n) = out
+output-of out (Stop x) = replicate (length out) 0
+
+pub record Written (made : Compiled) (out : List ℕ) (r : Step) : Type 0 where
+  pub is : (lent : Lent) → lent .output-bytes ≡ length out → write-out lent made ≡ leaves lent (answer-of r) (output-of out r)

@@ -1,0 +1,188 @@
+// The whole: from a tree file to its image or a refusal, over areas that the caller lends. What the output holds in the end is the image and then
+// zeros, or after a refusal only zeros; the work areas end all zero.
+ghost use mathlib.Core.Path.{_≡_};
+ghost use Prim.Native.Nat.{_≤_, min};
+ghost use lib.ListN.{length};
+ghost use Rattle.rules.specs.Limits.{first-limits};
+ghost use Rattle.rules.specs.Entry as rules;
+ghost use Rattle.tree.specs.Checked.{checked-file};
+ghost use Rattle.tree.specs.declared.Checked as checks;
+ghost use Rattle.state.specs.Layout.{table-words};
+ghost use Rattle.steps.specs.View.{mem, Fit, steady, Did, Started};
+ghost use Rattle.entry.specs.Whole.{lent-of, limit-of, rows-at, Rows, Clean, script-end, Scripted, Headed, Written};
+use closures::finish;
+use op::Op;
+use rules::Answer;
+use rules::Refusal;
+use rules::Span;
+use state::LEVELS;
+use statements::compile_stmts;
+use steps::Step;
+use steps::emit_op;
+use tree::Checked;
+use tree::Script;
+use writer::put_le;
+use writer::put_mark;
+
+// The image writer's words: how many functions are finished, and how long their records are. They are the last of the table.
+const COUNT: usize = LEVELS * 1024 + 2;
+
+const BYTES: usize = LEVELS * 1024 + 3;
+
+const WORDS: usize = LEVELS * 1024 + 4;
+
+// No limit of code is larger.
+const MAX_CODE: usize = 262144;
+
+// Records inside one another.
+const DEPTH: usize = 128;
+
+fn least(a: usize, b: usize) -> usize
+    ensures { λ r. ⌜ r ≡ min a b ⌝ }
+{
+    if a < b {
+        return a;
+    }
+    b
+}
+
+// ## The script
+
+// The table as it is before the script: all zero but for the script's name.
+fn start_table(t: &mut [u64])
+    requires { ⌜ length (now t) ≡ table-words ⌝ }
+    ensures { λ _. ⌜ Started (now (t .exit)) ⌝ }
+{
+    areas::clear64(t);
+    steps::begin_script(t);
+}
+
+// The script returns nil.
+fn end_script(t: &mut [u64], code: &mut [u8], spans: &mut [u32], limit: usize) -> Step
+    requires { ⌜ Fit (mem (now t) (now code) (now spans)) 0 limit ⌝ }
+    ensures { λ r. ⌜ Did 0 limit 0 0 steady (script-end limit) (mem (now (t .entry)) (now (code .entry)) (now (spans .entry))) (mem (now (t .exit)) (now (code .exit)) (now (spans .exit))) r ⌝ }
+{
+    let span = Span { start: 0, end: 0 };
+    let a = emit_op(t, code, spans, 0, limit, Op::NIL, span, 0);
+    let Step::Next(_) = a else {
+        return a;
+    };
+    emit_op(t, code, spans, 0, limit, Op::RETURN, span, 0)
+}
+
+// The statements from `at` on are the script's, and it is finished last. The answer's value is how long the image is.
+fn compile_script(
+    tree: &[u8],
+    at: usize,
+    count: usize,
+    t: &mut [u64],
+    code: &mut [u8],
+    spans: &mut [u32],
+    out: &mut [u8],
+    limit: usize,
+) -> Step
+    requires { ⌜ (Rows (now tree) count at) × (Clean (now t) (now code) (now spans) (now out) limit) ⌝ }
+    ensures { λ r. ⌜ Scripted limit (rows-at (now (tree .entry)) count at) (length (now (tree .entry))) (now (t .exit)) (now (out .exit)) r ⌝ }
+{
+    let a = compile_stmts(tree, at, count, DEPTH, t, code, spans, out, 0, limit, 0);
+    let Step::Next(_) = a else {
+        return a;
+    };
+    let b = end_script(t, code, spans, limit);
+    let Step::Next(_) = b else {
+        return b;
+    };
+    finish(t, &code[..], &spans[..], out, 0);
+    Step::Next(6 + t[BYTES] as usize)
+}
+
+// ## The image
+
+// The image's mark and how many functions it has, where the records stand behind six zeros.
+fn put_header(out: &mut [u8], count: u64)
+    requires { ⌜ 6 ≤ length (now out) ⌝ }
+    ensures { λ _. ⌜ Headed count (now (out .entry)) (now (out .exit)) ⌝ }
+{
+    let head = &mut out[..6];
+    let next = put_mark(head, 0, b'I', b'M');
+    put_le(head, next, count, 4);
+}
+
+// A sound file, with as much of the table as the compiler needs. 31 comes after all else.
+fn compile_sound(
+    tree: &[u8],
+    script: Script,
+    out: &mut [u8],
+    t: &mut [u64],
+    code: &mut [u8],
+    spans: &mut [u32],
+) -> Step
+    requires { ⌜ (checked-file (now tree) ≡ checks.Checked.Sound script) × (length (now t) ≡ table-words) ⌝ }
+    ensures { λ r. ⌜ Written (rules.compile-tree first-limits (now (tree .entry)) (limit-of (now (code .entry)) (now (spans .entry)))) (now (out .exit)) r ⌝ }
+{
+    let limit = least(least(code.len(), spans.len() / 3), MAX_CODE);
+    areas::clear8(out);
+    start_table(t);
+    let r = compile_script(
+        tree,
+        script.at,
+        script.count as usize,
+        t,
+        code,
+        spans,
+        out,
+        limit,
+    );
+    let Step::Next(n) = r else {
+        return r;
+    };
+    if out.len() < n {
+        return Step::Stop(Refusal::OutFull(n));
+    }
+    put_header(out, t[COUNT]);
+    Step::Next(n)
+}
+
+// 1, then 2 to 5 over the whole file, and then what a sound file comes to.
+fn compile_lent(
+    tree: &[u8],
+    out: &mut [u8],
+    table: &mut [u64],
+    code: &mut [u8],
+    spans: &mut [u32],
+) -> Step
+    ensures { λ r. ⌜ Written (rules.compile-lent first-limits (now (tree .entry)) (lent-of (now (table .entry)) (now (code .entry)) (now (spans .entry)) (now (out .entry)))) (now (out .exit)) r ⌝ }
+{
+    if table.len() < WORDS {
+        return Step::Stop(Refusal::WorkShort);
+    }
+    match tree::read(tree) {
+        Checked::Bad(x) => Step::Stop(x),
+        Checked::Sound(script) => {
+            compile_sound(tree, script, out, &mut table[..WORDS], code, spans)
+        }
+    }
+}
+
+// The entry. Whatever the answer, what the work areas held is gone.
+pub fn compile(
+    tree: &[u8],
+    out: &mut [u8],
+    table: &mut [u64],
+    code: &mut [u8],
+    spans: &mut [u32],
+) -> Answer
+    ensures { λ r. ⌜ record { answer = r; output = now (out .exit); table = now (table .exit); code = now (code .exit); spans = now (spans .exit) } ≡ rules.compile (now (tree .entry)) (record { table-words = length (now (table .entry)); code-bytes = length (now (code .entry)); span-words = length (now (spans .entry)); output-bytes = length (now (out .entry)) }) ⌝ }
+{
+    let made = compile_lent(tree, out, table, code, spans);
+    areas::clear64(table);
+    areas::clear8(code);
+    areas::clear32(spans);
+    match made {
+        Step::Next(n) => Answer::accepted(n),
+        Step::Stop(x) => {
+            areas::clear8(out);
+            Answer::refused(x)
+        }
+    }
+}

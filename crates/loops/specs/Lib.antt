@@ -1,0 +1,2 @@
+-- What the condition and the increment of a `for` say.
+pub mod Loops

@@ -1,0 +1,170 @@
+-- The needs of `compile_while`.
+use borrow.Author.Needs.{needs}
+use native.Mathlib.Omega.{arith}
+use mathlib.Core.Path.{_≡_, refl, sym, ap, subst, _∙_}
+use Prim.Native.Nat.{_+_, _*_, _-_, _%_, _≤_}
+use Rattle.steps.specs.View.{mem}
+use Rattle.arms.proofs.Calls as calls
+use Rattle.arms.proofs.Whiles as ways
+use Prim.Native.Nat.{ℕ, _<_}
+use borrow.Fn.Kinds.{In}
+use borrow.Fn.PlainCycle.{Measures, is, falls, and}
+use Rattle.statements.proofs.compile_block.Reads as compile-block
+use Rattle.statements.proofs.compile_block.Kinds as compile-block-kinds
+use Rattle.statements.proofs.+compile_block+compile_class+compile_for+compile_fun+compile_function+compile_if+compile_method+compile_stmt+compile_stmts+compile_while.Lts-compile_block as compile-block-lts
+use Rattle.statements.proofs.compile_class.Reads as compile-class
+use Rattle.statements.proofs.compile_class.Kinds as compile-class-kinds
+use Rattle.statements.proofs.+compile_block+compile_class+compile_for+compile_fun+compile_function+compile_if+compile_method+compile_stmt+compile_stmts+compile_while.Lts-compile_class as compile-class-lts
+use Rattle.statements.proofs.compile_for.Reads as compile-for
+use Rattle.statements.proofs.compile_for.Kinds as compile-for-kinds
+use Rattle.statements.proofs.+compile_block+compile_class+compile_for+compile_fun+compile_function+compile_if+compile_method+compile_stmt+compile_stmts+compile_while.Lts-compile_for as compile-for-lts
+use Rattle.statements.proofs.compile_fun.Reads as compile-fun
+use Rattle.statements.proofs.compile_fun.Kinds as compile-fun-kinds
+use Rattle.statements.proofs.+compile_block+compile_class+compile_for+compile_fun+compile_function+compile_if+compile_method+compile_stmt+compile_stmts+compile_while.Lts-compile_fun as compile-fun-lts
+use Rattle.statements.proofs.compile_function.Reads as compile-function
+use Rattle.statements.proofs.compile_function.Kinds as compile-function-kinds
+use Rattle.statements.proofs.+compile_block+compile_class+compile_for+compile_fun+compile_function+compile_if+compile_method+compile_stmt+compile_stmts+compile_while.Lts-compile_function as compile-function-lts
+use Rattle.statements.proofs.compile_if.Reads as compile-if
+use Rattle.statements.proofs.compile_if.Kinds as compile-if-kinds
+use Rattle.statements.proofs.+compile_block+compile_class+compile_for+compile_fun+compile_function+compile_if+compile_method+compile_stmt+compile_stmts+compile_while.Lts-compile_if as compile-if-lts
+use Rattle.statements.proofs.compile_method.Reads as compile-method
+use Rattle.statements.proofs.compile_method.Kinds as compile-method-kinds
+use Rattle.statements.proofs.+compile_block+compile_class+compile_for+compile_fun+compile_function+compile_if+compile_method+compile_stmt+compile_stmts+compile_while.Lts-compile_method as compile-method-lts
+use Rattle.statements.proofs.compile_stmt.Reads as compile-stmt
+use Rattle.statements.proofs.compile_stmt.Kinds as compile-stmt-kinds
+use Rattle.statements.proofs.+compile_block+compile_class+compile_for+compile_fun+compile_function+compile_if+compile_method+compile_stmt+compile_stmts+compile_while.Lts-compile_stmt as compile-stmt-lts
+use Rattle.statements.proofs.compile_stmts.Reads as compile-stmts
+use Rattle.statements.proofs.compile_stmts.Kinds as compile-stmts-kinds
+use Rattle.statements.proofs.+compile_block+compile_class+compile_for+compile_fun+compile_function+compile_if+compile_method+compile_stmt+compile_stmts+compile_while.Lts-compile_stmts as compile-stmts-lts
+use Rattle.statements.proofs.compile_while.Reads as compile-while
+use Rattle.statements.proofs.compile_while.Kinds as compile-while-kinds
+use Rattle.statements.proofs.+compile_block+compile_class+compile_for+compile_fun+compile_function+compile_if+compile_method+compile_stmt+compile_stmts+compile_while.Lts-compile_while as compile-while-lts
+use Rattle.compiler.proofs.compile_expr.Reads as compile-expr-reads
+use Rattle.compiler.proofs.open_jump.Reads as open-jump-reads
+use Rattle.compiler.proofs.turn_jump.Reads as turn-jump-reads
+use Rattle.fields.proofs.mark_at.Reads as mark-at-reads
+use Rattle.fields.proofs.span_at.Reads as span-at-reads
+use Rattle.fields.proofs.u16_at.Reads as u16-at-reads
+use Rattle.fields.proofs.u8_at.Reads as u8-at-reads
+use Rattle.classes.proofs.close_class.Reads as close-class-reads
+use Rattle.closures.proofs.close_function.Reads as close-function-reads
+use Rattle.plain.proofs.close_loop.Reads as close-loop-reads
+use Rattle.plain.proofs.compile_return.Reads as compile-return-reads
+use Rattle.plain.proofs.compile_var.Reads as compile-var-reads
+use Rattle.loops.proofs.for_cond.Reads as for-cond-reads
+use Rattle.loops.proofs.for_incr.Reads as for-incr-reads
+use Rattle.classes.proofs.inner_class.Reads as inner-class-reads
+use Rattle.classes.proofs.method_kind.Reads as method-kind-reads
+use Rattle.classes.proofs.open_class.Reads as open-class-reads
+use Rattle.closures.proofs.open_function.Reads as open-function-reads
+use Rattle.plain.proofs.stmt_expr.Reads as stmt-expr-reads
+use Rattle.plain.proofs.stmt_print.Reads as stmt-print-reads
+use Rattle.steps.proofs.begin_scope.Reads as begin-scope-reads
+use Rattle.steps.proofs.code_length.Reads as code-length-reads
+use Rattle.steps.proofs.define_name.Reads as define-name-reads
+use Rattle.steps.proofs.emit_op_name.Reads as emit-op-name-reads
+use Rattle.steps.proofs.end_scope.Reads as end-scope-reads
+use Rattle.steps.proofs.patch_jump.Reads as patch-jump-reads
+use Rattle.statements.proofs.+compile_block+compile_class+compile_for+compile_fun+compile_function+compile_if+compile_method+compile_stmt+compile_stmts+compile_while.Proof.Shared.{μ-compile-block, μ-compile-class, μ-compile-for, μ-compile-fun, μ-compile-function, μ-compile-if, μ-compile-method, μ-compile-stmt, μ-compile-stmts, μ-compile-while, compile-block-at, compile-block-below, compile-block-claims, compile-class-at, compile-class-below, compile-class-claims, compile-for-at, compile-for-below, compile-for-claims, compile-fun-at, compile-fun-below, compile-fun-claims, compile-function-at, compile-function-below, compile-function-claims, compile-if-at, compile-if-below, compile-if-claims, compile-method-at, compile-method-below, compile-method-claims, compile-stmt-at, compile-stmt-below, compile-stmt-claims, compile-stmts-at, compile-stmts-below, compile-stmts-claims, compile-while-at, compile-while-below, compile-while-claims, compile-class-Inv-loop, compile-class-μ-loop, compile-stmts-Inv-loop, compile-stmts-μ-loop}
+
+pub compile-while-add-span-at : (t : ℕ) → compile-while-lts.Need-add-span-at (compile-while-claims t) (compile-while-at t) compile-while.Post
+compile-while-add-span-at t c = let b = (calls.bound _ _ _ _ (c .before .before .before .before .before .pre .1 .0)) in omega (arith, b, c .before .before .before .before .before .good)
+
+pub compile-while-span-at-requires : (t : ℕ) → compile-while-lts.Need-span-at-requires (compile-while-claims t) (compile-while-at t) compile-while.Post
+compile-while-span-at-requires t c κs = let b = (calls.bound _ _ _ _ (c .before .before .before .before .before .pre .1 .0)) in omega (arith, b)
+
+pub compile-while-code-length-requires : (t : ℕ) → compile-while-lts.Need-code-length-requires (compile-while-claims t) (compile-while-at t) compile-while.Post
+compile-while-code-length-requires t c κs = ((c .before .before .before .before .before .before .before .pre .1 .2) .fit .low, (c .before .before .before .before .before .before .before .pre .1 .2) .fit .wf .size, (c .before .before .before .before .before .before .before .pre .1 .2) .fit .coded .top)
+
+pub compile-while-add-compile-expr : (t : ℕ) → compile-while-lts.Need-add-compile-expr (compile-while-claims t) (compile-while-at t) compile-while.Post
+compile-while-add-compile-expr t c = let b = (calls.bound _ _ _ _ (c .before .before .before .before .before .before .before .before .pre .1 .0)) in omega (arith, b, c .before .before .before .before .before .before .before .before .good)
+
+pub compile-while-sub-compile-expr : (t : ℕ) → compile-while-lts.Need-sub-compile-expr (compile-while-claims t) (compile-while-at t) compile-while.Post
+compile-while-sub-compile-expr t c = (calls.room _ _ _ _ (c .before .before .before .before .before .before .before .before .pre .1 .0))
+
+pub compile-while-compile-expr-requires : (t : ℕ) → compile-while-lts.Need-compile-expr-requires (compile-while-claims t) (compile-while-at t) compile-while.Post
+compile-while-compile-expr-requires t c κs = (ways.while-cond _ _ _ _ (c .before .before .before .before .before .before .before .before .before .before .before .pre .1 .1) (c .before .before .before .before .before .before .before .before .before .before .before .pre .1 .0), (c .before .before .before .before .before .before .before .before .before .before .before .pre .1 .2) .fit)
+
+pub compile-while-enum-known-a : (t : ℕ) → compile-while-lts.Need-enum-known-a (compile-while-claims t) (compile-while-at t) compile-while.Post
+compile-while-enum-known-a t c = search needs
+
+pub compile-while-enum-told : (t : ℕ) → compile-while-lts.Need-enum-told (compile-while-claims t) (compile-while-at t) compile-while.Post
+compile-while-enum-told t c = search needs
+
+pub compile-while-same-length : (t : ℕ) → compile-while-lts.Need-same-length (compile-while-claims t) (compile-while-at t) compile-while.Post
+compile-while-same-length t c = c .before .before .before .before .before .before .before .before .compile-expr .kept .1 .1 .1 .0
+
+pub compile-while-same-length-2 : (t : ℕ) → compile-while-lts.Need-same-length-2 (compile-while-claims t) (compile-while-at t) compile-while.Post
+compile-while-same-length-2 t c = c .before .before .before .before .before .before .before .before .compile-expr .kept .1 .1 .1 .1 .0
+
+pub compile-while-same-length-3 : (t : ℕ) → compile-while-lts.Need-same-length-3 (compile-while-claims t) (compile-while-at t) compile-while.Post
+compile-while-same-length-3 t c = c .before .before .before .before .before .before .before .before .compile-expr .kept .1 .1 .1 .1 .1 .0
+
+pub compile-while-returns : (t : ℕ) → compile-while-lts.Need-returns (compile-while-claims t) (compile-while-at t) compile-while.Post
+compile-while-returns t c = ways.while-stop _ _ _ _ (c .before .before .before .before .before .before .before .before .before .before .before .before .before .before .before .before .before .before .before .before .pre .1 .1) (c .before .before .before .before .before .before .before .before .before .before .before .before .before .before .span-at .result) ((c .before .before .before .before .before .before .before .before .before .before .before .before .before .before .before .before .before .before .before .before .pre .1 .2) .fit) (c .before .before .before .before .before .before .before .before .before .before .before .before .code-length .ensures .says _ _ _) (c .before .before .before .before .before .before .before .before .compile-expr .ensures) (c .before .before .before .before .before .before .before .before .before .before .before .before .before .before .span-at .ensures) _ (c .enum-told .given .1)
+
+pub compile-while-open-jump-requires : (t : ℕ) → compile-while-lts.Need-open-jump-requires (compile-while-claims t) (compile-while-at t) compile-while.Post
+compile-while-open-jump-requires t c κs = ways.while-fit _ _ _ _ (c .before .before .before .before .before .before .before .before .before .before .before .before .before .before .before .before .before .before .before .before .before .before .before .before .pre .1 .1) (c .before .before .before .before .before .before .before .before .before .before .before .before .before .before .before .before .before .before .span-at .result) ((c .before .before .before .before .before .before .before .before .before .before .before .before .before .before .before .before .before .before .before .before .before .before .before .before .pre .1 .2) .fit) (c .before .before .before .before .before .before .before .before .before .before .before .before .before .before .before .before .code-length .ensures .says _ _ _) (c .before .before .before .before .before .before .before .before .before .before .before .before .compile-expr .ensures) (c .before .before .before .before .before .before .before .before .before .before .before .before .before .before .before .before .before .before .before .before .before .before .before .before .pre .1 .0) (c .before .before .before .before .a .given .1)
+
+pub compile-while-enum-known-b : (t : ℕ) → compile-while-lts.Need-enum-known-b (compile-while-claims t) (compile-while-at t) compile-while.Post
+compile-while-enum-known-b t c = search needs
+
+pub compile-while-enum-told-2 : (t : ℕ) → compile-while-lts.Need-enum-told-2 (compile-while-claims t) (compile-while-at t) compile-while.Post
+compile-while-enum-told-2 t c = search needs
+
+pub compile-while-same-length-4 : (t : ℕ) → compile-while-lts.Need-same-length-4 (compile-while-claims t) (compile-while-at t) compile-while.Post
+compile-while-same-length-4 t c = c .before .before .before .before .before .before .before .before .open-jump .kept .0 ∙ c .before .before .before .before .before .before .before .before .before .before .before .before .before .before .before .before .before .before .before .before .before .compile-expr .kept .1 .1 .1 .0
+
+pub compile-while-same-length-5 : (t : ℕ) → compile-while-lts.Need-same-length-5 (compile-while-claims t) (compile-while-at t) compile-while.Post
+compile-while-same-length-5 t c = c .before .before .before .before .before .before .before .before .open-jump .kept .1 .0 ∙ c .before .before .before .before .before .before .before .before .before .before .before .before .before .before .before .before .before .before .before .before .before .compile-expr .kept .1 .1 .1 .1 .0
+
+pub compile-while-same-length-6 : (t : ℕ) → compile-while-lts.Need-same-length-6 (compile-while-claims t) (compile-while-at t) compile-while.Post
+compile-while-same-length-6 t c = c .before .before .before .before .before .before .before .before .open-jump .kept .1 .1 .0 ∙ c .before .before .before .before .before .before .before .before .before .before .before .before .before .before .before .before .before .before .before .before .before .compile-expr .kept .1 .1 .1 .1 .1 .0
+
+pub compile-while-returns-2 : (t : ℕ) → compile-while-lts.Need-returns-2 (compile-while-claims t) (compile-while-at t) compile-while.Post
+compile-while-returns-2 t c = ways.while-stop-2 _ _ _ _ (c .before .before .before .before .before .before .before .before .before .before .before .before .before .before .before .before .before .before .before .before .before .before .before .before .before .before .before .before .before .before .before .before .before .pre .1 .1) (c .before .before .before .before .before .before .before .before .before .before .before .before .before .before .before .before .before .before .before .before .before .before .before .before .before .before .before .span-at .result) ((c .before .before .before .before .before .before .before .before .before .before .before .before .before .before .before .before .before .before .before .before .before .before .before .before .before .before .before .before .before .before .before .before .before .pre .1 .2) .fit) (c .before .before .before .before .before .before .before .before .before .before .before .before .before .before .before .before .before .before .before .before .before .before .before .before .before .code-length .ensures .says _ _ _) (c .before .before .before .before .before .before .before .before .before .before .before .before .before .before .before .before .before .before .before .before .before .compile-expr .ensures) (c .before .before .before .before .before .before .before .before .before .before .before .before .before .a .given .1) (c .before .before .before .before .before .before .before .before .open-jump .ensures _) (c .before .before .before .before .before .before .before .before .before .before .before .before .before .before .before .before .before .before .before .before .before .before .before .before .before .before .before .span-at .ensures) _ (c .enum-told2 .given .1)
+
+pub compile-while-sub-compile-stmt : (t : ℕ) → compile-while-lts.Need-sub-compile-stmt (compile-while-claims t) (compile-while-at t) compile-while.Post
+compile-while-sub-compile-stmt t c = (calls.room _ _ _ _ (c .before .before .before .before .before .before .before .before .before .before .before .before .before .before .before .before .before .before .before .before .before .before .before .before .before .before .before .before .before .before .before .before .before .before .pre .1 .0))
+
+pub compile-while-compile-stmt-requires : (t : ℕ) → compile-while-lts.Need-compile-stmt-requires (compile-while-claims t) (compile-while-at t) compile-while.Post
+compile-while-compile-stmt-requires t c κs = (calls.to-stmt _ _ (calls.room _ _ _ _ (c .before .before .before .before .before .before .before .before .before .before .before .before .before .before .before .before .before .before .before .before .before .before .before .before .before .before .before .before .before .before .before .before .before .before .before .before .before .before .pre .1 .0)) (c .before .before .before .before .before .before .before .before .before .before .before .before .before .before .before .before .before .before .before .before .before .before .before .before .before .before .before .before .before .before .before .before .before .before .before .before .before .before .pre .0), (ways.while-body _ _ _ _ (c .before .before .before .before .before .before .before .before .before .before .before .before .before .before .before .before .before .before .before .before .before .before .before .before .before .before .before .before .before .before .before .before .before .before .before .before .before .before .pre .1 .1) (c .before .before .before .before .before .before .before .before .before .before .before .before .before .before .before .before .before .before .before .before .before .before .before .before .before .before .before .before .before .before .before .before .span-at .result) ((c .before .before .before .before .before .before .before .before .before .before .before .before .before .before .before .before .before .before .before .before .before .before .before .before .before .before .before .before .before .before .before .before .before .before .before .before .before .before .pre .1 .2) .fit) (c .before .before .before .before .before .before .before .before .before .before .before .before .before .before .before .before .before .before .before .before .before .before .before .before .before .before .before .before .before .before .code-length .ensures .says _ _ _) (c .before .before .before .before .before .before .before .before .before .before .before .before .before .before .before .before .before .before .before .before .before .before .before .before .before .before .compile-expr .ensures) (c .before .before .before .before .before .before .before .before .before .before .before .before .before .before .before .before .before .before .a .given .1) (c .before .before .before .before .before .before .before .before .before .before .before .before .before .open-jump .ensures _) (c .before .before .before .before .before .b .given .1) (c .before .before .before .before .before .before .before .before .before .before .before .before .before .before .before .before .before .before .before .before .before .before .before .before .before .before .before .before .before .before .before .before .before .before .before .before .before .before .pre .1 .0), ways.while-ready _ _ _ _ (c .before .before .before .before .before .before .before .before .before .before .before .before .before .before .before .before .before .before .before .before .before .before .before .before .before .before .before .before .before .before .before .before .before .before .before .before .before .before .pre .1 .1) (c .before .before .before .before .before .before .before .before .before .before .before .before .before .before .before .before .before .before .before .before .before .before .before .before .before .before .before .before .before .before .before .before .span-at .result) ((c .before .before .before .before .before .before .before .before .before .before .before .before .before .before .before .before .before .before .before .before .before .before .before .before .before .before .before .before .before .before .before .before .before .before .before .before .before .before .pre .1 .2) .fit) (c .before .before .before .before .before .before .before .before .before .before .before .before .before .before .before .before .before .before .before .before .before .before .before .before .before .before .before .before .before .before .code-length .ensures .says _ _ _) (c .before .before .before .before .before .before .before .before .before .before .before .before .before .before .before .before .before .before .before .before .before .before .before .before .before .before .compile-expr .ensures) (c .before .before .before .before .before .before .before .before .before .before .before .before .before .before .before .before .before .before .a .given .1) (c .before .before .before .before .before .before .before .before .before .before .before .before .before .open-jump .ensures _) (c .before .before .before .before .before .b .given .1) (c .before .before .before .before .before .before .before .before .before .before .before .before .before .before .before .before .before .before .before .before .before .before .before .before .before .before .before .before .before .before .before .before .before .before .before .before .before .before .pre .1 .0) (c .before .before .before .before .before .before .before .before .before .before .before .before .before .before .before .before .before .before .before .before .before .before .before .before .before .before .before .before .before .before .before .before .before .before .before .before .before .before .pre .1 .2)))
+
+pub compile-while-enum-known-d : (t : ℕ) → compile-while-lts.Need-enum-known-d (compile-while-claims t) (compile-while-at t) compile-while.Post
+compile-while-enum-known-d t c = search needs
+
+pub compile-while-enum-told-3 : (t : ℕ) → compile-while-lts.Need-enum-told-3 (compile-while-claims t) (compile-while-at t) compile-while.Post
+compile-while-enum-told-3 t c = search needs
+
+pub compile-while-same-length-7 : (t : ℕ) → compile-while-lts.Need-same-length-7 (compile-while-claims t) (compile-while-at t) compile-while.Post
+compile-while-same-length-7 t c = c .before .before .before .before .before .before .before .before .before .before .compile-stmt .kept .1 .1 .1 .0 ∙ c .before .before .before .before .before .before .before .before .before .before .before .before .before .before .before .before .before .before .before .before .before .before .before .before .open-jump .kept .0 ∙ c .before .before .before .before .before .before .before .before .before .before .before .before .before .before .before .before .before .before .before .before .before .before .before .before .before .before .before .before .before .before .before .before .before .before .before .before .before .compile-expr .kept .1 .1 .1 .0
+
+pub compile-while-same-length-8 : (t : ℕ) → compile-while-lts.Need-same-length-8 (compile-while-claims t) (compile-while-at t) compile-while.Post
+compile-while-same-length-8 t c = c .before .before .before .before .before .before .before .before .before .before .compile-stmt .kept .1 .1 .1 .1 .0 ∙ c .before .before .before .before .before .before .before .before .before .before .before .before .before .before .before .before .before .before .before .before .before .before .before .before .open-jump .kept .1 .0 ∙ c .before .before .before .before .before .before .before .before .before .before .before .before .before .before .before .before .before .before .before .before .before .before .before .before .before .before .before .before .before .before .before .before .before .before .before .before .before .compile-expr .kept .1 .1 .1 .1 .0
+
+pub compile-while-same-length-9 : (t : ℕ) → compile-while-lts.Need-same-length-9 (compile-while-claims t) (compile-while-at t) compile-while.Post
+compile-while-same-length-9 t c = c .before .before .before .before .before .before .before .before .before .before .compile-stmt .kept .1 .1 .1 .1 .1 .0 ∙ c .before .before .before .before .before .before .before .before .before .before .before .before .before .before .before .before .before .before .before .before .before .before .before .before .open-jump .kept .1 .1 .0 ∙ c .before .before .before .before .before .before .before .before .before .before .before .before .before .before .before .before .before .before .before .before .before .before .before .before .before .before .before .before .before .before .before .before .before .before .before .before .before .compile-expr .kept .1 .1 .1 .1 .1 .0
+
+pub compile-while-same-length-10 : (t : ℕ) → compile-while-lts.Need-same-length-10 (compile-while-claims t) (compile-while-at t) compile-while.Post
+compile-while-same-length-10 t c = c .before .before .before .before .before .before .before .before .before .before .compile-stmt .kept .1 .1 .1 .1 .1 .1 .0
+
+pub compile-while-returns-3 : (t : ℕ) → compile-while-lts.Need-returns-3 (compile-while-claims t) (compile-while-at t) compile-while.Post
+compile-while-returns-3 t c = ways.while-stop-3 _ _ _ _ (c .before .before .before .before .before .before .before .before .before .before .before .before .before .before .before .before .before .before .before .before .before .before .before .before .before .before .before .before .before .before .before .before .before .before .before .before .before .before .before .before .before .before .before .before .before .before .before .before .before .pre .1 .1) (c .before .before .before .before .before .before .before .before .before .before .before .before .before .before .before .before .before .before .before .before .before .before .before .before .before .before .before .before .before .before .before .before .before .before .before .before .before .before .before .before .before .before .before .span-at .result) ((c .before .before .before .before .before .before .before .before .before .before .before .before .before .before .before .before .before .before .before .before .before .before .before .before .before .before .before .before .before .before .before .before .before .before .before .before .before .before .before .before .before .before .before .before .before .before .before .before .before .pre .1 .2) .fit) (c .before .before .before .before .before .before .before .before .before .before .before .before .before .before .before .before .before .before .before .before .before .before .before .before .before .before .before .before .before .before .before .before .before .before .before .before .before .before .before .before .before .code-length .ensures .says _ _ _) (c .before .before .before .before .before .before .before .before .before .before .before .before .before .before .before .before .before .before .before .before .before .before .before .before .before .before .before .before .before .before .before .before .before .before .before .before .before .compile-expr .ensures) (c .before .before .before .before .before .before .before .before .before .before .before .before .before .before .before .before .before .before .before .before .before .before .before .before .before .before .before .before .before .a .given .1) (c .before .before .before .before .before .before .before .before .before .before .before .before .before .before .before .before .before .before .before .before .before .before .before .before .open-jump .ensures _) (c .before .before .before .before .before .before .before .before .before .before .before .before .before .before .before .before .b .given .1) (c .before .before .before .before .before .before .before .before .before .before .compile-stmt .ensures) (c .before .before .before .before .before .before .before .before .before .before .before .before .before .before .before .before .before .before .before .before .before .before .before .before .before .before .before .before .before .before .before .before .before .before .before .before .before .before .before .before .before .before .before .span-at .ensures) (c .enum-told3 .given .1)
+
+pub compile-while-close-loop-requires : (t : ℕ) → compile-while-lts.Need-close-loop-requires (compile-while-claims t) (compile-while-at t) compile-while.Post
+compile-while-close-loop-requires t c κs = (ways.while-fit-2 _ _ _ _ (c .before .before .before .before .before .before .before .before .before .before .before .before .before .before .before .before .before .before .before .before .before .before .before .before .before .before .before .before .before .before .before .before .before .before .before .before .before .before .before .before .before .before .before .before .before .before .before .before .before .before .before .before .before .pre .1 .1) (c .before .before .before .before .before .before .before .before .before .before .before .before .before .before .before .before .before .before .before .before .before .before .before .before .before .before .before .before .before .before .before .before .before .before .before .before .before .before .before .before .before .before .before .before .before .before .before .span-at .result) ((c .before .before .before .before .before .before .before .before .before .before .before .before .before .before .before .before .before .before .before .before .before .before .before .before .before .before .before .before .before .before .before .before .before .before .before .before .before .before .before .before .before .before .before .before .before .before .before .before .before .before .before .before .before .pre .1 .2) .fit) (c .before .before .before .before .before .before .before .before .before .before .before .before .before .before .before .before .before .before .before .before .before .before .before .before .before .before .before .before .before .before .before .before .before .before .before .before .before .before .before .before .before .before .before .before .before .code-length .ensures .says _ _ _) (c .before .before .before .before .before .before .before .before .before .before .before .before .before .before .before .before .before .before .before .before .before .before .before .before .before .before .before .before .before .before .before .before .before .before .before .before .before .before .before .before .before .compile-expr .ensures) (c .before .before .before .before .before .before .before .before .before .before .before .before .before .before .before .before .before .before .before .before .before .before .before .before .before .before .before .before .before .before .before .before .before .a .given .1) (c .before .before .before .before .before .before .before .before .before .before .before .before .before .before .before .before .before .before .before .before .before .before .before .before .before .before .before .before .open-jump .ensures _) (c .before .before .before .before .before .before .before .before .before .before .before .before .before .before .before .before .before .before .before .before .b .given .1) (c .before .before .before .before .before .before .before .before .before .before .before .before .before .before .compile-stmt .ensures) (c .before .before .before .before .d .given .1) (c .before .before .before .before .before .before .before .before .before .before .before .before .before .before .before .before .before .before .before .before .before .before .before .before .before .before .before .before .before .before .before .before .before .before .before .before .before .before .before .before .before .before .before .before .before .before .before .before .before .before .before .before .before .pre .1 .0), ways.while-start _ _ _ _ (c .before .before .before .before .before .before .before .before .before .before .before .before .before .before .before .before .before .before .before .before .before .before .before .before .before .before .before .before .before .before .before .before .before .before .before .before .before .before .before .before .before .before .before .before .before .before .before .before .before .before .before .before .before .pre .1 .1) (c .before .before .before .before .before .before .before .before .before .before .before .before .before .before .before .before .before .before .before .before .before .before .before .before .before .before .before .before .before .before .before .before .before .before .before .before .before .before .before .before .before .before .before .before .before .before .before .span-at .result) ((c .before .before .before .before .before .before .before .before .before .before .before .before .before .before .before .before .before .before .before .before .before .before .before .before .before .before .before .before .before .before .before .before .before .before .before .before .before .before .before .before .before .before .before .before .before .before .before .before .before .before .before .before .before .pre .1 .2) .fit) (c .before .before .before .before .before .before .before .before .before .before .before .before .before .before .before .before .before .before .before .before .before .before .before .before .before .before .before .before .before .before .before .before .before .before .before .before .before .before .before .before .before .before .before .before .before .code-length .ensures .says _ _ _) (c .before .before .before .before .before .before .before .before .before .before .before .before .before .before .before .before .before .before .before .before .before .before .before .before .before .before .before .before .before .before .before .before .before .before .before .before .before .before .before .before .before .compile-expr .ensures) (c .before .before .before .before .before .before .before .before .before .before .before .before .before .before .before .before .before .before .before .before .before .before .before .before .before .before .before .before .before .before .before .before .before .a .given .1) (c .before .before .before .before .before .before .before .before .before .before .before .before .before .before .before .before .before .before .before .before .before .before .before .before .before .before .before .before .open-jump .ensures _) (c .before .before .before .before .before .before .before .before .before .before .before .before .before .before .before .before .before .before .before .before .b .given .1) (c .before .before .before .before .before .before .before .before .before .before .before .before .before .before .compile-stmt .ensures) (c .before .before .before .before .d .given .1) (c .before .before .before .before .before .before .before .before .before .before .before .before .before .before .before .before .before .before .before .before .before .before .before .before .before .before .before .before .before .before .before .before .before .before .before .before .before .before .before .before .before .before .before .before .before .before .before .before .before .before .before .before .before .pre .1 .0) (c .before .before .before .before .before .before .before .before .before .before .before .before .before .before .before .before .before .before .before .before .before .before .before .before .before .before .before .before .before .before .before .before .before .before .before .before .before .before .before .before .before .before .before .before .before .code-length .ensures .is _ _), λ _. ways.while-place _ _ _ _ (c .before .before .before .before .before .before .before .before .before .before .before .before .before .before .before .before .before .before .before .before .before .before .before .before .before .before .before .before .before .before .before .before .before .before .before .before .before .before .before .before .before .before .before .before .before .before .before .before .before .before .before .before .before .pre .1 .1) (c .before .before .before .before .before .before .before .before .before .before .before .before .before .before .before .before .before .before .before .before .before .before .before .before .before .before .before .before .before .before .before .before .before .before .before .before .before .before .before .before .before .before .before .before .before .before .before .span-at .result) ((c .before .before .before .before .before .before .before .before .before .before .before .before .before .before .before .before .before .before .before .before .before .before .before .before .before .before .before .before .before .before .before .before .before .before .before .before .before .before .before .before .before .before .before .before .before .before .before .before .before .before .before .before .before .pre .1 .2) .fit) (c .before .before .before .before .before .before .before .before .before .before .before .before .before .before .before .before .before .before .before .before .before .before .before .before .before .before .before .before .before .before .before .before .before .before .before .before .before .before .before .before .before .before .before .before .before .code-length .ensures .says _ _ _) (c .before .before .before .before .before .before .before .before .before .before .before .before .before .before .before .before .before .before .before .before .before .before .before .before .before .before .before .before .before .before .before .before .before .before .before .before .before .before .before .before .before .compile-expr .ensures) (c .before .before .before .before .before .before .before .before .before .before .before .before .before .before .before .before .before .before .before .before .before .before .before .before .before .before .before .before .before .before .before .before .before .a .given .1) (c .before .before .before .before .before .before .before .before .before .before .before .before .before .before .before .before .before .before .before .before .before .before .before .before .before .before .before .before .open-jump .ensures _) (c .before .before .before .before .before .before .before .before .before .before .before .before .before .before .before .before .before .before .before .before .b .given .1) (c .before .before .before .before .before .before .before .before .before .before .before .before .before .before .compile-stmt .ensures) (c .before .before .before .before .d .given .1) (c .before .before .before .before .before .before .before .before .before .before .before .before .before .before .before .before .before .before .before .before .before .before .before .before .before .before .before .before .before .before .before .before .before .before .before .before .before .before .before .before .before .before .before .before .before .before .before .before .before .before .before .before .before .pre .1 .0))
+
+pub compile-while-same-length-11 : (t : ℕ) → compile-while-lts.Need-same-length-11 (compile-while-claims t) (compile-while-at t) compile-while.Post
+compile-while-same-length-11 t c = c .before .before .before .before .before .before .close-loop .kept .0 ∙ c .before .before .before .before .before .before .before .before .before .before .before .before .before .before .before .before .before .before .before .before .before .compile-stmt .kept .1 .1 .1 .0 ∙ c .before .before .before .before .before .before .before .before .before .before .before .before .before .before .before .before .before .before .before .before .before .before .before .before .before .before .before .before .before .before .before .before .before .before .before .open-jump .kept .0 ∙ c .before .before .before .before .before .before .before .before .before .before .before .before .before .before .before .before .before .before .before .before .before .before .before .before .before .before .before .before .before .before .before .before .before .before .before .before .before .before .before .before .before .before .before .before .before .before .before .before .compile-expr .kept .1 .1 .1 .0
+
+pub compile-while-same-length-12 : (t : ℕ) → compile-while-lts.Need-same-length-12 (compile-while-claims t) (compile-while-at t) compile-while.Post
+compile-while-same-length-12 t c = c .before .before .before .before .before .before .close-loop .kept .1 .0 ∙ c .before .before .before .before .before .before .before .before .before .before .before .before .before .before .before .before .before .before .before .before .before .compile-stmt .kept .1 .1 .1 .1 .0 ∙ c .before .before .before .before .before .before .before .before .before .before .before .before .before .before .before .before .before .before .before .before .before .before .before .before .before .before .before .before .before .before .before .before .before .before .before .open-jump .kept .1 .0 ∙ c .before .before .before .before .before .before .before .before .before .before .before .before .before .before .before .before .before .before .before .before .before .before .before .before .before .before .before .before .before .before .before .before .before .before .before .before .before .before .before .before .before .before .before .before .before .before .before .before .compile-expr .kept .1 .1 .1 .1 .0
+
+pub compile-while-same-length-13 : (t : ℕ) → compile-while-lts.Need-same-length-13 (compile-while-claims t) (compile-while-at t) compile-while.Post
+compile-while-same-length-13 t c = c .before .before .before .before .before .before .close-loop .kept .1 .1 .0 ∙ c .before .before .before .before .before .before .before .before .before .before .before .before .before .before .before .before .before .before .before .before .before .compile-stmt .kept .1 .1 .1 .1 .1 .0 ∙ c .before .before .before .before .before .before .before .before .before .before .before .before .before .before .before .before .before .before .before .before .before .before .before .before .before .before .before .before .before .before .before .before .before .before .before .open-jump .kept .1 .1 .0 ∙ c .before .before .before .before .before .before .before .before .before .before .before .before .before .before .before .before .before .before .before .before .before .before .before .before .before .before .before .before .before .before .before .before .before .before .before .before .before .before .before .before .before .before .before .before .before .before .before .before .compile-expr .kept .1 .1 .1 .1 .1 .0
+
+pub compile-while-same-length-14 : (t : ℕ) → compile-while-lts.Need-same-length-14 (compile-while-claims t) (compile-while-at t) compile-while.Post
+compile-while-same-length-14 t c = c .before .before .before .before .before .before .before .before .before .before .before .before .before .before .before .before .before .before .before .before .before .compile-stmt .kept .1 .1 .1 .1 .1 .1 .0
+
+pub compile-while-returns-4 : (t : ℕ) → compile-while-lts.Need-returns-4 (compile-while-claims t) (compile-while-at t) compile-while.Post
+compile-while-returns-4 t c = ways.while-done _ _ _ _ (c .before .before .before .before .before .before .before .before .before .before .before .before .before .before .before .before .before .before .before .before .before .before .before .before .before .before .before .before .before .before .before .before .before .before .before .before .before .before .before .before .before .before .before .before .before .before .before .before .before .before .before .before .before .before .before .before .before .before .before .before .pre .1 .1) (c .before .before .before .before .before .before .before .before .before .before .before .before .before .before .before .before .before .before .before .before .before .before .before .before .before .before .before .before .before .before .before .before .before .before .before .before .before .before .before .before .before .before .before .before .before .before .before .before .before .before .before .before .before .before .span-at .result) ((c .before .before .before .before .before .before .before .before .before .before .before .before .before .before .before .before .before .before .before .before .before .before .before .before .before .before .before .before .before .before .before .before .before .before .before .before .before .before .before .before .before .before .before .before .before .before .before .before .before .before .before .before .before .before .before .before .before .before .before .before .pre .1 .2) .fit) (c .before .before .before .before .before .before .before .before .before .before .before .before .before .before .before .before .before .before .before .before .before .before .before .before .before .before .before .before .before .before .before .before .before .before .before .before .before .before .before .before .before .before .before .before .before .before .before .before .before .before .before .before .code-length .ensures .says _ _ _) (c .before .before .before .before .before .before .before .before .before .before .before .before .before .before .before .before .before .before .before .before .before .before .before .before .before .before .before .before .before .before .before .before .before .before .before .before .before .before .before .before .before .before .before .before .before .before .before .before .compile-expr .ensures) (c .before .before .before .before .before .before .before .before .before .before .before .before .before .before .before .before .before .before .before .before .before .before .before .before .before .before .before .before .before .before .before .before .before .before .before .before .before .before .before .before .a .given .1) (c .before .before .before .before .before .before .before .before .before .before .before .before .before .before .before .before .before .before .before .before .before .before .before .before .before .before .before .before .before .before .before .before .before .before .before .open-jump .ensures _) (c .before .before .before .before .before .before .before .before .before .before .before .before .before .before .before .before .before .before .before .before .before .before .before .before .before .before .before .b .given .1) (c .before .before .before .before .before .before .before .before .before .before .before .before .before .before .before .before .before .before .before .before .before .compile-stmt .ensures) (c .before .before .before .before .before .before .before .before .before .before .before .d .given .1) (c .before .before .before .before .before .before .before .before .before .before .before .before .before .before .before .before .before .before .before .before .before .before .before .before .before .before .before .before .before .before .before .before .before .before .before .before .before .before .before .before .before .before .before .before .before .before .before .before .before .before .before .before .before .before .span-at .ensures) (c .before .before .before .before .before .before .close-loop .ensures _)
