@@ -1,6 +1,8 @@
 //! The published compiler beside the port: makes cases, answers them, checks images. See README.md.
 
 mod answer;
+#[cfg(feature = "archive")]
+mod bench;
 mod checker;
 mod examples;
 mod files;
@@ -11,6 +13,8 @@ mod node;
 mod pack;
 mod random;
 mod replay;
+#[cfg_attr(not(feature = "archive"), allow(dead_code))]
+mod scripts;
 mod selftest;
 mod small;
 mod vectors;
@@ -82,6 +86,8 @@ fn run(args: &[&str]) -> io::Result<bool> {
         }
         ["vectors", folder] => vectors::write(folder)?,
         ["selftest"] => selftest::run(),
+        #[cfg(feature = "archive")]
+        ["bench", "trees"] => bench::trees(),
         _ => return Ok(false),
     }
     Ok(true)
