@@ -331,6 +331,28 @@ fn with_constants(code: &[u8], constants: Vec<Constant>) -> Function {
     Function { constants, ..script(code) }
 }
 
+/// A small image with each kind of constant and of operand, pairs of both kinds, and runs of one span.
+pub fn varied() -> Vec<u8> {
+    let inner = Function { upvalues: 2, ..script(&[10, 1, 11, 0, 35, 36]) };
+    let middle_code = [5, 1, 34, 1, 1, 0, 0, 0, 0, 0, 7, 2, 32, 2, 3, 31, 2, 29, 1, 0, 4, 30, 9, 0, 1, 36];
+    let middle = Function {
+        upvalues: 1,
+        arity: 2,
+        name: 7,
+        ..with_constants(&middle_code, vec![Constant::Number(MOST_BITS), Constant::Function(0), Constant::Text(9)])
+    };
+    let last_code = [34, 0, 1, 3, 8, 1, 28, 2, 0, 37, 1, 39, 1, 33, 1, 0, 1, 36];
+    let last = with_constants(&last_code, vec![Constant::Function(1), Constant::Text(0)]);
+    let spread = |function: Function| {
+        let runs = (0..).zip(&function.code).map(|(at, _)| Run { start: at, end: at + 1, count: 1 });
+        Function {
+            runs: runs.take(function.code.len() - 9).chain([Run { start: 3, end: 3, count: 9 }]).collect(),
+            ..function
+        }
+    };
+    written(&[inner, spread(middle), spread(last)])
+}
+
 /// Images at the edges of what the checker asks, which no compiled tree shows.
 pub fn by_hand() -> Vec<Vec<u8>> {
     let one = |function: Function| written(&[function]);

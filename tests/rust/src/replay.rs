@@ -4,33 +4,49 @@ use std::fs;
 use std::io;
 use std::path::Path;
 
-use crate::answer::read;
+use crate::answer::{answer, read};
+use crate::check;
 use crate::examples::{every_kind, examples};
-use crate::files::{Answer, Case};
-use crate::pack::pack_cases;
+use crate::files::{put, put_counted, Answer, Case};
+use crate::images;
+use crate::pack::{pack_cases, pack_images, Checked};
 
-const PLENTY: u32 = u32::MAX;
-
-/// Trees, each with its length before it, then 0, then the packed vectors. What is expected: for each tree
-/// a digest of the reader's answers to every truncation and every change of one byte, and how many vectors there are.
-pub fn tree_replay(folder: &Path, cases: &[(Case, Answer)]) -> io::Result<()> {
-    let p2 = examples().swap_remove(1).tree.bytes();
-    let trees = [p2, every_kind().bytes()];
+/// What a program is run on: small files to vary, each with its length before it, then 0, then the packed vectors.
+/// What is expected of it: for each file a digest of the answers to every truncation and every change of one byte, and
+/// how many vectors there are.
+fn replay(files: &[Vec<u8>], packed: &[u8], vectors: usize, answer: impl Fn(Vec<u8>) -> Answer) -> (Vec<u8>, String) {
     let mut input = Vec::new();
     let mut output = String::new();
-    for tree in &trees {
-        input.extend((tree.len() as u32).to_le_bytes());
-        input.extend(tree);
-        let answers: Vec<Answer> = variants(tree).into_iter().map(read_tree).collect();
-        output += &format!("{} bytes, {} variants, digest {}\n", tree.len(), answers.len(), digest(&answers));
+    for file in files {
+        put_counted(&mut input, file);
+        let answers: Vec<Answer> = variants(file).into_iter().map(&answer).collect();
+        output += &format!("{} bytes, {} variants, digest {}\n", file.len(), answers.len(), digest(&answers));
     }
-    output += &format!("{} vectors agree\n", cases.len());
-    input.extend(0u32.to_le_bytes());
-    input.extend(pack_cases(cases));
-    write(folder, "tree_replay", &input, &output)
+    output += &format!("{vectors} vectors agree\n");
+    put(&mut input, &[0]);
+    input.extend(packed);
+    (input, output)
 }
 
-fn write(folder: &Path, program: &str, input: &[u8], output: &str) -> io::Result<()> {
+/// P2's tree, and a tree with every record kind.
+pub fn tree_replay(folder: &Path, cases: &[(Case, Answer)]) -> io::Result<()> {
+    let p2 = examples().swap_remove(1).tree.bytes();
+    let read_tree = |tree| read(&Case::plenty(tree));
+    let both = replay(&[p2, every_kind().bytes()], &pack_cases(cases), cases.len(), read_tree);
+    write(folder, "tree_replay", both)
+}
+
+/// The images of P2, P10 (a loop), P11 (jumps ahead) and P12 (captured variables), and one by hand with the rest.
+pub fn image_replay(folder: &Path, images: &[Checked]) -> io::Result<()> {
+    let examples = examples();
+    let compiled = |place: usize| answer(&Case::plenty(examples[place].tree.bytes())).image;
+    let files: Vec<Vec<u8>> = [1, 9, 10, 11].into_iter().map(compiled).chain([images::varied()]).collect();
+    assert!(files.iter().all(|image| check(image).number == 0 && image.len() <= 1_024));
+    let both = replay(&files, &pack_images(images), images.len(), |image| check(&image));
+    write(folder, "image_replay", both)
+}
+
+fn write(folder: &Path, program: &str, (input, output): (Vec<u8>, String)) -> io::Result<()> {
     let folder = folder.join(program);
     fs::create_dir_all(&folder)?;
     fs::write(folder.join("stdin"), input)?;
@@ -38,11 +54,11 @@ fn write(folder: &Path, program: &str, input: &[u8], output: &str) -> io::Result
 }
 
 /// Every truncation, the shortest first; then at each place, the first one first, the byte plus 1 to 255.
-fn variants(tree: &[u8]) -> Vec<Vec<u8>> {
-    let cut = (0..tree.len()).map(|size| tree[..size].to_vec());
-    let changed = (0..tree.len()).flat_map(|at| {
+fn variants(file: &[u8]) -> Vec<Vec<u8>> {
+    let cut = (0..file.len()).map(|size| file[..size].to_vec());
+    let changed = (0..file.len()).flat_map(|at| {
         (1..=255u8).map(move |more| {
-            let mut bytes = tree.to_vec();
+            let mut bytes = file.to_vec();
             bytes[at] = bytes[at].wrapping_add(more);
             bytes
         })
@@ -50,12 +66,8 @@ fn variants(tree: &[u8]) -> Vec<Vec<u8>> {
     cut.chain(changed).collect()
 }
 
-fn read_tree(tree: Vec<u8>) -> Answer {
-    read(&Case { code: PLENTY, spans: PLENTY, output: PLENTY, tree })
-}
-
-/// Number and place of each answer, folded.
+/// Number, place and count of each answer, folded.
 fn digest(answers: &[Answer]) -> u64 {
     let fold = |sum: u64, value: u32| (sum * 65_599 + u64::from(value)) % 4_294_967_291;
-    answers.iter().fold(0, |sum, answer| fold(fold(sum, answer.number), answer.at))
+    answers.iter().fold(0, |sum, answer| fold(fold(fold(sum, answer.number), answer.at), answer.length))
 }

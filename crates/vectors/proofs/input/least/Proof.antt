@@ -1,16 +1,14 @@
 -- `least` meets its contract, by the law of `io` on counts.
 use native.Mathlib.Omega.{arith}
 use Rattle.io.proofs.Counting.{counts}
-use Rattle.tree_replay.proofs.least.Statement.{statement}
-use Rattle.tree_replay.proofs.least.Tie as tie
-use Rattle.tree_replay.proofs.least.Reads as reads
-use Rattle.tree_replay.proofs.least.Lts as lts
+use Rattle.vectors.proofs.input.least.Statement.{statement}
+use Rattle.vectors.proofs.input.least.Tie as tie
+use Rattle.vectors.proofs.input.least.Reads as reads
+use Rattle.vectors.proofs.input.least.Lts as lts
 
--- src/main.rt:94:9
 returns : tie.Need-returns
 returns c = counts _ _ (omega arith)
 
--- src/main.rt:89:1
 returns-2 : tie.Need-returns-2
 returns-2 c = counts _ _ (omega arith)
 
