@@ -4,7 +4,7 @@ ghost use Rattle.io.specs.Counts.{Counts};
 use crate::Kind;
 
 // What a digest has: numbers folded one after the other.
-fn fold(sum: u64, value: u64) -> u64 {
+pub fn fold(sum: u64, value: u64) -> u64 {
     (sum % 4294967291 * 65599 + value % 4294967291) % 4294967291
 }
 

@@ -6,6 +6,7 @@ use std::path::Path;
 
 use crate::answer::{answer, read};
 use crate::check;
+use crate::checker;
 use crate::examples::{every_kind, examples};
 use crate::files::{put, put_counted, Answer, Case};
 use crate::images;
@@ -46,6 +47,33 @@ pub fn image_replay(folder: &Path, images: &[Checked]) -> io::Result<()> {
     write(folder, "image_replay", both)
 }
 
+/// Lists of runs, by hand and from images that the checker accepts, and what is at every offset up to two past the end.
+pub fn span_replay(folder: &Path, images: &[Checked]) -> io::Result<()> {
+    let accepted = images.iter().filter(|(_, number, _)| *number == 0);
+    let functions = accepted.flat_map(|(image, ..)| checker::read(image).expect("an accepted image"));
+    let small = functions.filter(|function| (3..=200).contains(&function.runs.len())).step_by(2).take(60);
+    let words_of = |run: &checker::Run| [run.start, run.end, run.count.into()];
+    let compiled = small.map(|function| function.runs.iter().flat_map(words_of).collect());
+    // None; a count of 0 between two; words left over; a count above a byte's.
+    let by_hand =
+        [vec![], vec![1, 2, 1, 3, 4, 0, 5, 6, 2], vec![7, 8, 3, 9], vec![7, 8, 3, 9, 10], vec![1, 1, 700, 2, 2, 1]];
+    let (mut input, mut output) = (vec![], String::new());
+    for words in by_hand.into_iter().chain(compiled) {
+        let spans: Vec<Answer> = words.chunks_exact(3).flat_map(spans_of).collect();
+        let missing = Answer { number: 42, ..Answer::default() };
+        let answers: Vec<Answer> = spans.into_iter().chain([missing.clone(), missing]).collect();
+        put(&mut input, &[words.len() as u32, answers.len() as u32]);
+        put(&mut input, &words);
+        output += &format!("{} words, {} offsets, digest {}\n", words.len(), answers.len(), span_digest(&answers));
+    }
+    write(folder, "span_replay", (input, output))
+}
+
+/// A run as the answers to each of its bytes.
+fn spans_of(run: &[u32]) -> Vec<Answer> {
+    vec![Answer { at: run[0], end: run[1], ..Answer::default() }; run[2] as usize]
+}
+
 fn write(folder: &Path, program: &str, (input, output): (Vec<u8>, String)) -> io::Result<()> {
     let folder = folder.join(program);
     fs::create_dir_all(&folder)?;
@@ -66,8 +94,16 @@ fn variants(file: &[u8]) -> Vec<Vec<u8>> {
     cut.chain(changed).collect()
 }
 
+fn fold(sum: u64, value: u32) -> u64 {
+    (sum * 65_599 + u64::from(value)) % 4_294_967_291
+}
+
 /// Number, place and count of each answer, folded.
 fn digest(answers: &[Answer]) -> u64 {
-    let fold = |sum: u64, value: u32| (sum * 65_599 + u64::from(value)) % 4_294_967_291;
-    answers.iter().fold(0, |sum, answer| fold(fold(fold(sum, answer.number), answer.at), answer.length))
+    answers.iter().flat_map(|answer| [answer.number, answer.at, answer.length]).fold(0, fold)
+}
+
+/// Number and span of each answer, folded.
+fn span_digest(answers: &[Answer]) -> u64 {
+    answers.iter().flat_map(|answer| [answer.number, answer.at, answer.end]).fold(0, fold)
 }
