@@ -2,6 +2,7 @@
 
 use crate::answer::{answer, code_limit, peak};
 use crate::checker;
+use crate::compare;
 use crate::examples::{examples, Told, P2_IMAGE};
 use crate::files::{Answer, Case};
 use crate::images;
@@ -32,6 +33,7 @@ pub fn run() {
     peaks_hold(&all);
     images_hold(&all);
     packing_holds(&all);
+    compare::selftest();
 }
 
 fn hex(text: &str) -> Vec<u8> {
