@@ -316,6 +316,49 @@ pub fn large() -> Vec<Vec<u8>> {
     images
 }
 
+/// Images of a mebibyte that may take a checker long, accepted or not.
+#[cfg_attr(not(feature = "archive"), allow(dead_code))]
+pub fn worst() -> Vec<(&'static str, Vec<u8>)> {
+    const MOST: usize = 1 << 20;
+    // 65,521 is the size of the port's table of constants: these all fall into one place of it.
+    let falling = |count: u64| (0..count).map(|number| Constant::Number(65_521 * number)).collect::<Vec<_>>();
+    let falling_functions = (0..65_535).map(|number| Constant::Function(65_521 * number)).collect();
+    let spread = |count: u64| (0..count).map(Constant::Number).collect::<Vec<_>>();
+    let [low, high] = 65_535u16.to_le_bytes();
+    let ahead = [[28, low - 2, high, 1].repeat(220_000), vec![1; 66_000]].concat();
+    let back = [vec![1; 66_000], [30, low, high, 1].repeat(220_000)].concat();
+    let closing = |number: u32| with_constants(&[34, 0], vec![Constant::Function(number)]);
+    let chain: Vec<Function> = [script(&[])].into_iter().chain((0..27_590).map(closing)).collect();
+    let pairs: Vec<Function> = (0..7).map(|_| Function { upvalues: 65_535, ..script(&[]) }).collect();
+    let mut pairing: Vec<u8> = vec![];
+    for place in 0..7 {
+        pairing.extend([&[34, place][..], &[1, 0].repeat(65_535)].concat());
+    }
+    let pairing = with_constants(&pairing, (0..7).map(Constant::Function).collect());
+    let one_each = (0..).map(|start| Run { start, end: 0, count: 1 }).take(80_000).collect();
+    vec![
+        (
+            "numbers and then functions that fall into one place",
+            vec![with_constants(&[], falling(65_532)), with_constants(&[], falling_functions)],
+        ),
+        (
+            "numbers that fall into one place",
+            vec![with_constants(&[], falling(65_535)), with_constants(&[], falling(39_310))],
+        ),
+        ("numbers that do not", vec![with_constants(&[], spread(65_535)), with_constants(&[], spread(39_310))]),
+        ("functions, each named by the next", chain),
+        ("pairs", [pairs, vec![pairing]].concat()),
+        ("the farthest jumps ahead", vec![script(&ahead)]),
+        ("the farthest jumps back", vec![script(&back)]),
+        ("instructions of one byte", vec![script(&vec![1; 1_005_000])]),
+        ("runs of one byte", vec![Function { runs: one_each, ..script(&vec![1; 80_000]) }]),
+    ]
+    .into_iter()
+    .map(|(name, functions)| (name, written(&functions)))
+    .inspect(|(name, image)| assert!(image.len() <= MOST && image.len() > 900_000, "{name}: {}", image.len()))
+    .collect()
+}
+
 fn script(code: &[u8]) -> Function {
     let mut runs = vec![];
     let mut left = code.len();

@@ -14,7 +14,6 @@ mod node;
 mod pack;
 mod random;
 mod replay;
-#[cfg_attr(not(feature = "archive"), allow(dead_code))]
 mod scripts;
 mod selftest;
 mod small;
@@ -96,6 +95,8 @@ fn run(args: &[&str]) -> io::Result<bool> {
         ["selftest"] => selftest::run(),
         #[cfg(feature = "archive")]
         ["bench", "trees"] => bench::trees(),
+        #[cfg(feature = "archive")]
+        ["bench", "images"] => bench::images(),
         _ => return Ok(false),
     }
     Ok(true)

@@ -71,7 +71,7 @@ fn ordinary(bytes: usize) -> Vec<u8> {
     let each = (bytes / 100).clamp(300, 12_000);
     file(grown(bytes, |k| {
         let body = grown(each, |i| turn(&mut s, i));
-        fun(s.next(), n(k), &[n(1), n(2)], body)
+        fun(s.next(), n(5 + k % 200), &[n(1), n(2)], body)
     }))
 }
 
@@ -144,14 +144,19 @@ fn captures(bytes: usize) -> Vec<u8> {
     }))
 }
 
-/// Classes with a superclass and twenty methods that call its own.
+/// Functions of up to ten classes, each with a superclass and twenty methods that call its own.
 fn classes(bytes: usize) -> Vec<u8> {
     let mut s = Spans(0);
     file(grown(bytes, |k| {
-        let methods = (0..20).map(|i| method(&mut s, i)).collect();
-        let above = s.var(n(k / 40 + 100));
-        class(s.next(), n(k % 40), Some(above), methods)
+        let each = (0..(bytes / 5_000).clamp(1, 10)).map(|place| one_class(&mut s, place)).collect();
+        fun(s.next(), n(180 + k % 50), &[], each)
     }))
+}
+
+fn one_class(s: &mut Spans, place: usize) -> Node {
+    let methods = (0..20).map(|i| method(s, i)).collect();
+    let above = s.var(n(100));
+    class(s.next(), n(50 + place), Some(above), methods)
 }
 
 fn method(s: &mut Spans, i: usize) -> Node {
@@ -162,11 +167,15 @@ fn method(s: &mut Spans, i: usize) -> Node {
     fun(s.next(), if i == 0 { INIT } else { n(i) }, &[n(150)], body)
 }
 
-/// Functions that each hold 200 that do nothing.
+/// Functions of up to ten functions that each hold 200 that do nothing.
 fn functions(bytes: usize) -> Vec<u8> {
     let mut s = Spans(0);
     file(grown(bytes, |_| {
-        let inner = (0..200).map(|i| fun(s.next(), n(i), &[], vec![])).collect();
-        fun(s.next(), n(230), &[], inner)
+        let each = (0..(bytes / 4_000).clamp(1, 10)).map(|place| {
+            let inner = (0..200).map(|i| fun(s.next(), n(i), &[], vec![])).collect();
+            fun(s.next(), n(210 + place), &[], inner)
+        });
+        let each = each.collect();
+        fun(s.next(), n(230), &[], each)
     }))
 }

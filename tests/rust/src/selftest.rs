@@ -10,6 +10,7 @@ use crate::kinds::{damaged, generate};
 use crate::limits::limits;
 use crate::pack::{pack, pack_cases, pack_images, unpack, unpack_cases, unpack_images};
 use crate::random::Rng;
+use crate::scripts::SCRIPTS;
 use crate::vectors::checked;
 
 const RANDOM: usize = 20_000;
@@ -34,6 +35,7 @@ pub fn run() {
     images_hold(&all);
     packing_holds(&all);
     compare::selftest();
+    scripts_hold();
 }
 
 fn hex(text: &str) -> Vec<u8> {
@@ -107,4 +109,14 @@ fn packing_holds(all: &[(Case, Answer)]) {
         assert!(unpack(&pack(&bytes), bytes.len()).unwrap() == bytes);
     }
     println!("packing: {} cases and {} images come back", all.len(), images.len());
+}
+
+/// The scripts to be timed are accepted, small and large.
+fn scripts_hold() {
+    for (name, make) in SCRIPTS {
+        for size in [1_000, 100_000, 1_000_000] {
+            assert_eq!(answer(&Case::plenty(make(size))).number, 0, "{name} of {size}");
+        }
+    }
+    println!("scripts: all are accepted");
 }
