@@ -117,12 +117,20 @@ pub struct Run {
 
 /// Reads a tree file only, and gives the marks of its records in order.
 pub fn read(tree: &[u8]) -> Result<Vec<[u8; 2]>, Refusal> {
-    reader::read(tree).map(|file| file.marks)
+    reader::read::<true>(tree).map(|file| file.marks)
+}
+
+/// What the compiler compiles: a tree of ast.rs, and its names.
+pub struct Decoded(#[allow(dead_code)] reader::File);
+
+/// Reads a tree file into what the compiler compiles.
+pub fn decode(tree: &[u8]) -> Result<Decoded, Refusal> {
+    reader::read::<false>(tree).map(Decoded)
 }
 
 /// Reads a tree file and compiles it. `limit` is the code limit; the crate that does not count takes no notice of it.
 pub fn run(tree: &[u8], limit: usize) -> Run {
-    let file = match reader::read(tree) {
+    let file = match reader::read::<false>(tree) {
         Ok(file) => file,
         Err(refusal) => return Run { image: Err(refusal), peak: 0 },
     };

@@ -12,8 +12,6 @@ const MOST_DEPTH: u32 = 128;
 const MOST_OPEN: u32 = 16;
 const MOST_BITS: u64 = 0x7FF0_0000_0000_0000;
 
-const STATEMENTS: &[&[u8; 2]] = &[b"SB", b"SC", b"SE", b"SF", b"SI", b"SO", b"SP", b"SR", b"SV", b"SW"];
-const EXPRESSIONS: &[&[u8; 2]] = &[b"EA", b"EC", b"EG", b"EI", b"EL", b"EP", b"ES", b"EU", b"EV"];
 const INFIX: [OpInfix; 12] = [
     OpInfix::Add,
     OpInfix::Subtract,
@@ -29,20 +27,29 @@ const INFIX: [OpInfix; 12] = [
     OpInfix::LogicOr,
 ];
 
+fn is_statement(mark: &[u8; 2]) -> bool {
+    matches!(mark, b"SB" | b"SC" | b"SE" | b"SF" | b"SI" | b"SO" | b"SP" | b"SR" | b"SV" | b"SW")
+}
+
+fn is_expression(mark: &[u8; 2]) -> bool {
+    matches!(mark, b"EA" | b"EC" | b"EG" | b"EI" | b"EL" | b"EP" | b"ES" | b"EU" | b"EV")
+}
+
 pub struct File {
     pub program: Program,
     pub names: Names,
-    /// The marks of statements and expressions, in reading order.
+    /// The marks of statements and expressions, in reading order, where they are asked for.
     pub marks: Vec<[u8; 2]>,
 }
 
 type Read<T> = Result<T, Refusal>;
 
-pub fn read(bytes: &[u8]) -> Read<File> {
+/// Reads a file; with `MARKS`, keeps the marks too.
+pub fn read<const MARKS: bool>(bytes: &[u8]) -> Read<File> {
     if bytes.len() > MOST_BYTES {
         return Err([2, 0, 0, 0]);
     }
-    let mut reader = Reader { bytes, at: 0, names: Names::new(&[]), marks: vec![] };
+    let mut reader: Reader<MARKS> = Reader { bytes, at: 0, names: Names::new(&[]), marks: vec![] };
     let count = reader.header()?;
     let stmts = (0..count).map(|_| reader.stmt(TOP)).collect::<Read<_>>()?;
     if reader.at < bytes.len() {
@@ -81,14 +88,14 @@ struct Record {
     span: Span,
 }
 
-struct Reader<'a> {
+struct Reader<'a, const MARKS: bool> {
     bytes: &'a [u8],
     at: usize,
     names: Names,
     marks: Vec<[u8; 2]>,
 }
 
-impl Reader<'_> {
+impl<const MARKS: bool> Reader<'_, MARKS> {
     /// The next bytes, or 3 at the start of the record that they belong to.
     fn take<const N: usize>(&mut self, start: usize) -> Read<[u8; N]> {
         match self.bytes[self.at..].first_chunk() {
@@ -164,10 +171,10 @@ impl Reader<'_> {
     }
 
     /// Mark, then 4, then 5, then the span.
-    fn record(&mut self, marks: &[&[u8; 2]], place: Place) -> Read<Record> {
+    fn record(&mut self, may_stand: impl Fn(&[u8; 2]) -> bool, place: Place) -> Read<Record> {
         let start = self.at;
         let mark = self.take(start)?;
-        if !marks.contains(&&mark) {
+        if !may_stand(&mark) {
             return form(start);
         }
         if place.depth > MOST_DEPTH {
@@ -176,7 +183,9 @@ impl Reader<'_> {
         if &mark == b"SF" && place.open == MOST_OPEN {
             return Err([5, start as u32, 0, 0]);
         }
-        self.marks.push(mark);
+        if MARKS {
+            self.marks.push(mark);
+        }
         let span = self.u32(start)?..self.u32(start)?;
         Ok(Record { start, mark, span })
     }
@@ -194,7 +203,7 @@ impl Reader<'_> {
     }
 
     fn stmt(&mut self, place: Place) -> Read<StmtS> {
-        let record = self.record(STATEMENTS, place)?;
+        let record = self.record(is_statement, place)?;
         let start = record.start;
         let below = place.below();
         let stmt = match &record.mark {
@@ -240,13 +249,13 @@ impl Reader<'_> {
         let name = self.name(start)?;
         let has_super = self.flag(start)?;
         let count = self.u16(start)?;
-        let super_ = has_super.then(|| self.expr_of(&[b"EV"], below)).transpose()?;
+        let super_ = has_super.then(|| self.expr_of(|mark| mark == b"EV", below)).transpose()?;
         let methods = (0..count).map(|_| self.method(below)).collect::<Read<_>>()?;
         Ok(StmtClass { name, super_, methods })
     }
 
     fn method(&mut self, place: Place) -> Read<Spanned<StmtFun>> {
-        let record = self.record(&[b"SF"], place)?;
+        let record = self.record(|mark| mark == b"SF", place)?;
         Ok((self.function(record.start, place)?, record.span))
     }
 
@@ -261,11 +270,11 @@ impl Reader<'_> {
     }
 
     fn expr(&mut self, place: Place) -> Read<ExprS> {
-        self.expr_of(EXPRESSIONS, place)
+        self.expr_of(is_expression, place)
     }
 
-    fn expr_of(&mut self, marks: &[&[u8; 2]], place: Place) -> Read<ExprS> {
-        let record = self.record(marks, place)?;
+    fn expr_of(&mut self, may_stand: impl Fn(&[u8; 2]) -> bool, place: Place) -> Read<ExprS> {
+        let record = self.record(may_stand, place)?;
         let start = record.start;
         let below = place.below();
         let expr = match &record.mark {

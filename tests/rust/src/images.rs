@@ -316,6 +316,49 @@ pub fn large() -> Vec<Vec<u8>> {
     images
 }
 
+/// Images of a mebibyte that may take a checker long, accepted or not.
+#[cfg_attr(not(feature = "archive"), allow(dead_code))]
+pub fn worst() -> Vec<(&'static str, Vec<u8>)> {
+    const MOST: usize = 1 << 20;
+    // 65,521 is the size of the port's table of constants: these all fall into one place of it.
+    let falling = |count: u64| (0..count).map(|number| Constant::Number(65_521 * number)).collect::<Vec<_>>();
+    let falling_functions = (0..65_535).map(|number| Constant::Function(65_521 * number)).collect();
+    let spread = |count: u64| (0..count).map(Constant::Number).collect::<Vec<_>>();
+    let [low, high] = 65_535u16.to_le_bytes();
+    let ahead = [[28, low - 2, high, 1].repeat(220_000), vec![1; 66_000]].concat();
+    let back = [vec![1; 66_000], [30, low, high, 1].repeat(220_000)].concat();
+    let closing = |number: u32| with_constants(&[34, 0], vec![Constant::Function(number)]);
+    let chain: Vec<Function> = [script(&[])].into_iter().chain((0..27_590).map(closing)).collect();
+    let pairs: Vec<Function> = (0..7).map(|_| Function { upvalues: 65_535, ..script(&[]) }).collect();
+    let mut pairing: Vec<u8> = vec![];
+    for place in 0..7 {
+        pairing.extend([&[34, place][..], &[1, 0].repeat(65_535)].concat());
+    }
+    let pairing = with_constants(&pairing, (0..7).map(Constant::Function).collect());
+    let one_each = (0..).map(|start| Run { start, end: 0, count: 1 }).take(80_000).collect();
+    vec![
+        (
+            "numbers and then functions that fall into one place",
+            vec![with_constants(&[], falling(65_532)), with_constants(&[], falling_functions)],
+        ),
+        (
+            "numbers that fall into one place",
+            vec![with_constants(&[], falling(65_535)), with_constants(&[], falling(39_310))],
+        ),
+        ("numbers that do not", vec![with_constants(&[], spread(65_535)), with_constants(&[], spread(39_310))]),
+        ("functions, each named by the next", chain),
+        ("pairs", [pairs, vec![pairing]].concat()),
+        ("the farthest jumps ahead", vec![script(&ahead)]),
+        ("the farthest jumps back", vec![script(&back)]),
+        ("instructions of one byte", vec![script(&vec![1; 1_005_000])]),
+        ("runs of one byte", vec![Function { runs: one_each, ..script(&vec![1; 80_000]) }]),
+    ]
+    .into_iter()
+    .map(|(name, functions)| (name, written(&functions)))
+    .inspect(|(name, image)| assert!(image.len() <= MOST && image.len() > 900_000, "{name}: {}", image.len()))
+    .collect()
+}
+
 fn script(code: &[u8]) -> Function {
     let mut runs = vec![];
     let mut left = code.len();
@@ -329,6 +372,28 @@ fn script(code: &[u8]) -> Function {
 
 fn with_constants(code: &[u8], constants: Vec<Constant>) -> Function {
     Function { constants, ..script(code) }
+}
+
+/// A small image with each kind of constant and of operand, pairs of both kinds, and runs of one span.
+pub fn varied() -> Vec<u8> {
+    let inner = Function { upvalues: 2, ..script(&[10, 1, 11, 0, 35, 36]) };
+    let middle_code = [5, 1, 34, 1, 1, 0, 0, 0, 0, 0, 7, 2, 32, 2, 3, 31, 2, 29, 1, 0, 4, 30, 9, 0, 1, 36];
+    let middle = Function {
+        upvalues: 1,
+        arity: 2,
+        name: 7,
+        ..with_constants(&middle_code, vec![Constant::Number(MOST_BITS), Constant::Function(0), Constant::Text(9)])
+    };
+    let last_code = [34, 0, 1, 3, 8, 1, 28, 2, 0, 37, 1, 39, 1, 33, 1, 0, 1, 36];
+    let last = with_constants(&last_code, vec![Constant::Function(1), Constant::Text(0)]);
+    let spread = |function: Function| {
+        let runs = (0..).zip(&function.code).map(|(at, _)| Run { start: at, end: at + 1, count: 1 });
+        Function {
+            runs: runs.take(function.code.len() - 9).chain([Run { start: 3, end: 3, count: 9 }]).collect(),
+            ..function
+        }
+    };
+    written(&[inner, spread(middle), spread(last)])
 }
 
 /// Images at the edges of what the checker asks, which no compiled tree shows.

@@ -1,7 +1,10 @@
 //! The published compiler beside the port: makes cases, answers them, checks images. See README.md.
 
 mod answer;
+#[cfg(feature = "archive")]
+mod bench;
 mod checker;
+mod compare;
 mod examples;
 mod files;
 mod images;
@@ -11,8 +14,10 @@ mod node;
 mod pack;
 mod random;
 mod replay;
+mod scripts;
 mod selftest;
 mod small;
+mod smaller;
 mod vectors;
 
 use std::collections::BTreeMap;
@@ -32,6 +37,9 @@ beside generate KIND SEED COUNT CASES [MOST]
 beside images SEED COUNT CASES ANSWERS IMAGES [MOST]
                                       images for the checker, from the accepted ones
 beside large IMAGES                   a few large images
+beside compare [--images | --read] FILE BATCH
+                                      the port's answers, by a program like tools/batch, beside these; the first
+                                      difference in full, and made small
 beside pack CASES ANSWERS OUT, beside unpack IN CASES ANSWERS
 beside vectors DIR                    writes the committed vectors and a table of what they cover
 beside selftest";
@@ -80,8 +88,15 @@ fn run(args: &[&str]) -> io::Result<bool> {
             files::write_cases(cases, &made)?;
             files::write_answers(answers, &told)?;
         }
+        ["compare", cases, batch] => compare::cases(cases, batch)?,
+        ["compare", "--read", cases, batch] => compare::trees(cases, batch)?,
+        ["compare", "--images", images, batch] => compare::images(images, batch)?,
         ["vectors", folder] => vectors::write(folder)?,
         ["selftest"] => selftest::run(),
+        #[cfg(feature = "archive")]
+        ["bench", "trees"] => bench::trees(),
+        #[cfg(feature = "archive")]
+        ["bench", "images"] => bench::images(),
         _ => return Ok(false),
     }
     Ok(true)

@@ -2,6 +2,7 @@
 
 use crate::answer::{answer, code_limit, peak};
 use crate::checker;
+use crate::compare;
 use crate::examples::{examples, Told, P2_IMAGE};
 use crate::files::{Answer, Case};
 use crate::images;
@@ -9,6 +10,7 @@ use crate::kinds::{damaged, generate};
 use crate::limits::limits;
 use crate::pack::{pack, pack_cases, pack_images, unpack, unpack_cases, unpack_images};
 use crate::random::Rng;
+use crate::scripts::SCRIPTS;
 use crate::vectors::checked;
 
 const RANDOM: usize = 20_000;
@@ -32,6 +34,8 @@ pub fn run() {
     peaks_hold(&all);
     images_hold(&all);
     packing_holds(&all);
+    compare::selftest();
+    scripts_hold();
 }
 
 fn hex(text: &str) -> Vec<u8> {
@@ -105,4 +109,14 @@ fn packing_holds(all: &[(Case, Answer)]) {
         assert!(unpack(&pack(&bytes), bytes.len()).unwrap() == bytes);
     }
     println!("packing: {} cases and {} images come back", all.len(), images.len());
+}
+
+/// The scripts to be timed are accepted, small and large.
+fn scripts_hold() {
+    for (name, make) in SCRIPTS {
+        for size in [1_000, 100_000, 1_000_000] {
+            assert_eq!(answer(&Case::plenty(make(size))).number, 0, "{name} of {size}");
+        }
+    }
+    println!("scripts: all are accepted");
 }

@@ -124,6 +124,8 @@ pub fn write(folder: &str) -> io::Result<()> {
     }
     let for_reader: Vec<Answered> = tree.iter().chain(&limit).cloned().collect();
     replay::tree_replay(Path::new(folder), &for_reader)?;
+    replay::image_replay(Path::new(folder), &images)?;
+    replay::span_replay(Path::new(folder), &images)?;
     let sizes: Vec<String> = files.iter().map(|(name, bytes)| format!("{name}.pack {}", bytes.len())).collect();
     println!("bytes: {}", sizes.join(", "));
     print_numbers("tree.pack", tree.iter().map(|(_, answer)| answer.number));

@@ -1,0 +1,43 @@
+// What C and Rust programs call: include/puffbramble.h says the same for them. A slice comes as a pointer and a number of elements, and an
+// answer goes back as a struct of five numbers. Nothing is decided here: each function hands on to the one that is proved against the rules.
+ghost use mathlib.Core.Path.{_≡_};
+ghost use Rattle.rules.specs.Checker.{check, code-answer, span-of};
+ghost use Rattle.spans.specs.Words.{runs-of};
+ghost use Rattle.c_entry.specs.Read.{read-answer};
+use rules::Answer;
+use tree::Checked;
+
+// 0, or 2 to 5 with the place in `at`.
+#[no_mangle]
+pub extern "C" fn puffbramble_read(tree: &[u8]) -> Answer
+    ensures { λ r. ⌜ r ≡ read-answer (now (tree .entry)) ⌝ }
+{
+    match tree::read(tree) {
+        Checked::Sound(_) => Answer::accepted(0),
+        Checked::Bad(r) => Answer::refused(r),
+    }
+}
+
+// 0 with the number of instructions in `length`, or 40.
+#[no_mangle]
+pub extern "C" fn puffbramble_check(image: &[u8]) -> Answer
+    ensures { λ r. ⌜ r ≡ check (now (image .entry)) ⌝ }
+{
+    image::check(image)
+}
+
+// The lookup's number: 0, 40 or 41.
+#[no_mangle]
+pub extern "C" fn puffbramble_code_answer(image: &[u8], k: usize) -> Answer
+    ensures { λ r. ⌜ r ≡ code-answer (now (image .entry)) k ⌝ }
+{
+    image::code_answer(image, k)
+}
+
+// 0 with the span in `at` and `end`, or 42.
+#[no_mangle]
+pub extern "C" fn puffbramble_span_of(words: &[u32], offset: usize) -> Answer
+    ensures { λ r. ⌜ r ≡ span-of (runs-of (now (words .entry))) offset ⌝ }
+{
+    spans::span_of_words(words, offset)
+}

@@ -1,0 +1,74 @@
+/* Puffbramble's functions for C, in the archive libc_entry.a (x86-64 Linux; `rt staticlib c_entry` writes it). What they answer is proved
+ * in crates/c_entry for all bytes and numbers: none is refused a call. What the caller owes is what C asks of any pointer.
+ *
+ * Lent memory. A pointer stands with the number of elements behind it (of bytes for uint8_t, of words of four bytes for uint32_t); the memory
+ * must be readable for the whole call, nobody may write to it meanwhile, and it must be aligned as its type is: uint8_t anywhere, uint32_t at a
+ * multiple of 4. Where the number is 0 the pointer may be null. Nothing is kept after the call, nothing is written but the answer.
+ *
+ * The stack. puffbramble_read takes up to 64 KB, by the depth of the file's records (41 KB was seen at depth 128). puffbramble_check and
+ * puffbramble_code_answer take up to 1.2 MB, whatever the image (1,093 KB was seen): their tables are local.
+ * Every function may be called from several threads at once.
+ *
+ * From Rust, declare the same in an `extern "C"` block: pb_answer is a `#[repr(C)] struct` of five u64, size_t is usize.
+ */
+#ifndef PUFFBRAMBLE_H
+#define PUFFBRAMBLE_H
+
+#include <stddef.h>
+#include <stdint.h>
+
+#ifdef __cplusplus
+extern "C" {
+#endif
+
+/* An answer: 40 bytes, aligned to 8, returned by value. A field that a number does not name is 0.
+ *
+ *   number  what the answer is: 0 accepted, else a refusal (01's table; docs/PROMISES.md says when each is given)
+ *   at      3, 4, 5: the place in the tree file, in bytes; 10 to 23, and 0 from puffbramble_span_of: the span's start
+ *   end     10 to 23, and 0 from puffbramble_span_of: the span's end
+ *   name    10, 11, 12: the number of the name
+ *   length  0 from the compiler: the length of the image; 31: the length that is needed; 0 from puffbramble_check: the number of instructions
+ */
+typedef struct {
+    uint64_t number;
+    uint64_t at;
+    uint64_t end;
+    uint64_t name;
+    uint64_t length;
+} pb_answer;
+
+/* Reads a tree file without compiling it.
+ *
+ *   tree, tree_len   the file, in bytes
+ *
+ * Answers 0 (all else 0), 2 (too long), or 3, 4 or 5 with the place in `at`. */
+pb_answer puffbramble_read(const uint8_t *tree, size_t tree_len);
+
+/* Checks an image.
+ *
+ *   image, image_len   the image, in bytes
+ *
+ * Answers 0 with the number of instructions in `length`, or 40. */
+pb_answer puffbramble_check(const uint8_t *image, size_t image_len);
+
+/* Says whether an image has a function of a number: the number of the code lookup.
+ *
+ *   image, image_len   the image, in bytes
+ *   k                  the function's number, from 0
+ *
+ * Answers 0, 40 where the bytes are no image, or 41 where it has no function k; all else 0. */
+pb_answer puffbramble_code_answer(const uint8_t *image, size_t image_len, size_t k);
+
+/* The span of one code byte.
+ *
+ *   words, words_len   runs, three words each: start, end, count; words_len counts words. One or two words left over are no run
+ *   offset             the code byte, from 0
+ *
+ * Answers 0 with the span in `at` and `end`, or 42 where the offset is not below the sum of the counts. */
+pb_answer puffbramble_span_of(const uint32_t *words, size_t words_len, size_t offset);
+
+#ifdef __cplusplus
+}
+#endif
+
+#endif

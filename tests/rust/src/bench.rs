@@ -1,0 +1,126 @@
+//! Timings beside the port, in one process over the same bytes: the two sides in turn, the least of several rounds.
+//! Built by `bench` with the archive of `rt staticlib c_entry` and without the checks that the other commands run with.
+
+use std::hint::black_box;
+use std::time::Instant;
+
+use crate::check;
+use crate::examples::{every_kind, examples};
+use crate::images;
+use crate::scripts::SCRIPTS;
+
+/// The C entry's answer; include/puffbramble.h says what the fields are.
+#[repr(C)]
+struct Answer {
+    number: u64,
+    at: u64,
+    end: u64,
+    name: u64,
+    length: u64,
+}
+
+#[link(name = "c_entry", kind = "static")]
+extern "C" {
+    fn puffbramble_read(tree: *const u8, length: usize) -> Answer;
+    fn puffbramble_check(image: *const u8, length: usize) -> Answer;
+}
+
+const ROUNDS: usize = 200;
+/// A round goes on for about so many bytes, so that a clock's step does not show.
+const ROUND_BYTES: usize = 400_000;
+const BAR: f64 = 0.5;
+
+/// Seconds that one call takes: `calls` in a row, what they give dropped after the clock has stopped.
+fn timed<T>(calls: usize, mut call: impl FnMut() -> T) -> f64 {
+    let mut kept = Vec::with_capacity(calls);
+    let start = Instant::now();
+    for _ in 0..calls {
+        kept.push(call());
+    }
+    let seconds = start.elapsed().as_secs_f64();
+    black_box(kept);
+    seconds / calls as f64
+}
+
+fn ours(tree: &[u8]) -> Answer {
+    // The slice's own pointer and length.
+    unsafe { puffbramble_read(black_box(tree).as_ptr(), tree.len()) }
+}
+
+/// The least time of each side, in seconds.
+fn both(tree: &[u8]) -> (f64, f64) {
+    let answer = ours(tree);
+    assert_eq!((answer.number, answer.at, answer.end, answer.name, answer.length), (0, 0, 0, 0, 0));
+    assert!(plain::decode(tree).is_ok());
+    let calls = (ROUND_BYTES / tree.len()).clamp(1, 5_000);
+    (0..ROUNDS).fold((f64::MAX, f64::MAX), |(a, b), _| {
+        let a = a.min(timed(calls, || ours(tree)));
+        (a, b.min(timed(calls, || plain::decode(black_box(tree)))))
+    })
+}
+
+/// The tree reader beside the Rust side's decoder, over sound trees.
+pub fn trees() {
+    let mut trees = vec![
+        ("P2".to_string(), examples().swap_remove(1).tree.bytes()),
+        ("every record kind".to_string(), every_kind().bytes()),
+    ];
+    for (name, make) in SCRIPTS {
+        for size in [10_000, 100_000, 1_000_000] {
+            trees.push((name.to_string(), make(size)));
+        }
+    }
+    println!("{:18} {:>9} {:>11} {:>11} {:>6}", "tree", "bytes", "ours us", "Rust us", "ratio");
+    let mut most: f64 = 0.0;
+    for (name, tree) in &trees {
+        let (a, b) = both(tree);
+        most = most.max(a / b);
+        println!("{name:18} {:>9} {:>11.3} {:>11.3} {:>6.3}", tree.len(), a * 1e6, b * 1e6, a / b);
+    }
+    println!("largest ratio {most:.3}, {} {BAR}", if most <= BAR { "at most" } else { "ABOVE" });
+}
+
+fn checked(image: &[u8]) -> Answer {
+    // The slice's own pointer and length.
+    unsafe { puffbramble_check(black_box(image).as_ptr(), image.len()) }
+}
+
+/// The least time of so many rounds; the answer must be the Rust's checker's.
+fn check_time(image: &[u8], rounds: usize) -> f64 {
+    let (answer, told) = (checked(image), check(image));
+    assert_eq!((answer.number, answer.length), (told.number.into(), told.length.into()));
+    let calls = (ROUND_BYTES / image.len()).clamp(1, 100);
+    (0..rounds).map(|_| timed(calls, || checked(image))).fold(f64::MAX, f64::min)
+}
+
+/// The image checker over images of the compiler, by size, and over the images that take it longest.
+pub fn images() {
+    println!("{:18} {:>9} {:>11} {:>8} {:>8}", "image of", "bytes", "us", "ns/byte", "MB/s");
+    for (name, make) in SCRIPTS {
+        let growth = image_of(&make(100_000)).len() as f64 / 100_000.0;
+        let mut each = vec![];
+        for size in [10_000.0, 40_000.0, 200_000.0, 1_000_000.0, 4_000_000.0] {
+            let image = image_of(&make(((size / growth) as usize).min(1_030_000)));
+            let seconds = check_time(&image, ROUNDS);
+            each.push(seconds / image.len() as f64);
+            let rate = image.len() as f64 / seconds / 1e6;
+            println!(
+                "{name:18} {:>9} {:>11.1} {:>8.2} {rate:>8.0}",
+                image.len(),
+                seconds * 1e6,
+                1e9 * each[each.len() - 1]
+            );
+        }
+        let (least, most) = each.iter().fold((f64::MAX, 0f64), |(a, b), &x| (a.min(x), b.max(x)));
+        println!("{name:18} time a byte, greatest to least: {:.2}", most / least);
+    }
+    println!("{:54} {:>9} {:>6} {:>11}", "image of a mebibyte", "bytes", "number", "ms");
+    for (name, image) in images::worst() {
+        let seconds = check_time(&image, 3);
+        println!("{name:54} {:>9} {:>6} {:>11.2}", image.len(), checked(&image).number, seconds * 1e3);
+    }
+}
+
+fn image_of(tree: &[u8]) -> Vec<u8> {
+    plain::run(tree, 0).image.expect("these scripts are accepted")
+}
