@@ -1,9 +1,10 @@
 /* Puffbramble's functions for C, in the archive libc_entry.a (x86-64 Linux; `rt staticlib c_entry` writes it). What they answer is proved
  * in crates/c_entry for all bytes and numbers: none is refused a call. What the caller owes is what C asks of any pointer.
  *
- * Lent memory. A pointer stands with the number of elements behind it (of bytes for uint8_t, of words of four bytes for uint32_t); the memory
- * must be readable for the whole call, nobody may write to it meanwhile, and it must be aligned as its type is: uint8_t anywhere, uint32_t at a
- * multiple of 4. Where the number is 0 the pointer may be null. Nothing is kept after the call, nothing is written but the answer.
+ * Lent memory. A pointer stands with the number of elements behind it (of bytes for uint8_t, of words of four bytes for uint32_t, of eight for
+ * uint64_t); the memory must be readable for the whole call, and writable where the pointer is not to const; nobody else may use it meanwhile, no
+ * two areas may overlap, and each must be aligned as its type is: uint8_t anywhere, uint32_t at a multiple of 4, uint64_t at a multiple of 8. Where
+ * the number is 0 the pointer may be null. Nothing is kept after the call, and nothing is written outside what was lent to be written.
  *
  * The stack. puffbramble_read takes up to 64 KB, by the depth of the file's records (41 KB was seen at depth 128). puffbramble_check and
  * puffbramble_code_answer take up to 1.2 MB, whatever the image (1,093 KB was seen): their tables are local.
@@ -36,6 +37,31 @@ typedef struct {
     uint64_t name;
     uint64_t length;
 } pb_answer;
+
+/* Compiles a tree file to an image.
+ *
+ *   tree, tree_len      the file, in bytes; it is not changed
+ *   out, out_len        where the image goes: PB_OUTPUT_BYTES(tree_len) is room enough for every file
+ *   table, table_words  a work area: at least PB_TABLE_WORDS words, or the answer is 1; more changes nothing
+ *   code, code_len      a work area for the code of the functions that are open: PB_CODE_BYTES(tree_len) is enough
+ *   spans, spans_words  a work area for their span runs: PB_SPAN_WORDS(tree_len) is enough
+ *
+ * What the areas hold before the call does not matter. Answers, in this order:
+ *   1            the table is too short
+ *   2            the file is longer than 1,048,576 bytes
+ *   3, 4, 5      the file has not the form of a tree file; records or functions lie too deep in one another: the place in `at`
+ *   10 to 23     what the compiler of loxcraft refuses: the span in `at` and `end`, for 10, 11 and 12 the name's number in `name`
+ *   30           code or spans too short, or more than 262,144 bytes of code are open
+ *   31           out is too short for the image: the length needed is in `length`
+ *   0            compiled: the image's length is in `length`
+ * After 0, out has the image and then zeros; after any other answer only zeros. The work areas end all zero, whatever the answer. */
+#define PB_TABLE_WORDS ((size_t)17412)
+#define PB_OUTPUT_BYTES(tree_len) (17 * (size_t)(tree_len))
+#define PB_CODE_BYTES(tree_len) (6 * (size_t)(tree_len) < 262144 ? 6 * (size_t)(tree_len) : (size_t)262144)
+#define PB_SPAN_WORDS(tree_len) (3 * PB_CODE_BYTES(tree_len))
+
+pb_answer puffbramble_compile(const uint8_t *tree, size_t tree_len, uint8_t *out, size_t out_len, uint64_t *table, size_t table_words,
+                              uint8_t *code, size_t code_len, uint32_t *spans, size_t spans_words);
 
 /* Reads a tree file without compiling it.
  *

@@ -1,11 +1,27 @@
 // What C and Rust programs call: include/puffbramble.h says the same for them. A slice comes as a pointer and a number of elements, and an
 // answer goes back as a struct of five numbers. Nothing is decided here: each function hands on to the one that is proved against the rules.
 ghost use mathlib.Core.Path.{_≡_};
+ghost use lib.ListN.{length};
+ghost use Rattle.rules.specs.Entry as rules;
 ghost use Rattle.rules.specs.Checker.{check, code-answer, span-of};
 ghost use Rattle.spans.specs.Words.{runs-of};
 ghost use Rattle.c_entry.specs.Read.{read-answer};
 use rules::Answer;
 use tree::Checked;
+
+// 0 with the image's length in `length`, or a refusal. The output has the image and then zeros, or only zeros; the work areas end all zero.
+#[no_mangle]
+pub extern "C" fn puffbramble_compile(
+    tree: &[u8],
+    out: &mut [u8],
+    table: &mut [u64],
+    code: &mut [u8],
+    spans: &mut [u32],
+) -> Answer
+    ensures { λ r. ⌜ record { answer = r; output = now (out .exit); table = now (table .exit); code = now (code .exit); spans = now (spans .exit) } ≡ rules.compile (now (tree .entry)) (record { table-words = length (now (table .entry)); code-bytes = length (now (code .entry)); span-words = length (now (spans .entry)); output-bytes = length (now (out .entry)) }) ⌝ }
+{
+    entry::compile(tree, out, table, code, spans)
+}
 
 // 0, or 2 to 5 with the place in `at`.
 #[no_mangle]
