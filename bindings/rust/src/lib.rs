@@ -1,7 +1,8 @@
 //! Puffbramble for Rust programs: tree files to images, images checked, and the lookups, over the functions of include/puffbramble.h.
 //! What they answer is proved; this crate lends them memory and gives the answers types. Nothing here panics, whatever the bytes.
 //!
-//! The stack: `check` and what calls it (`Image::new`) take up to 1.2 MB of it, so a thread needs 2 MB, Rust's default.
+//! The stack: `check`, `code_answer` and `Image::new` take up to 1.2 MB of it, so a thread that calls them needs 2 MB, Rust's default; the others
+//! take up to 192 KB.
 //!
 //! The archive is x86-64's: elsewhere this crate is empty.
 #![cfg(target_arch = "x86_64")]
