@@ -6,7 +6,8 @@
  * two areas may overlap, and each must be aligned as its type is: uint8_t anywhere, uint32_t at a multiple of 4, uint64_t at a multiple of 8. Where
  * the number is 0 the pointer may be null. Nothing is kept after the call, and nothing is written outside what was lent to be written.
  *
- * The stack. puffbramble_read takes up to 64 KB, by the depth of the file's records (41 KB was seen at depth 128). puffbramble_check and
+ * The stack. puffbramble_read takes up to 64 KB, by the depth of the file's records (41 KB was seen at depth 128), puffbramble_compile up to
+ * 192 KB (115 KB was seen at depth 128). puffbramble_check and
  * puffbramble_code_answer take up to 1.2 MB, whatever the image (1,093 KB was seen): their tables are local.
  * Every function may be called from several threads at once.
  *

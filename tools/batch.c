@@ -76,7 +76,6 @@ static void read_all(source *in, FILE *out) {
     }
 }
 
-#ifdef PUFFBRAMBLE_COMPILE
 enum { TABLE_WORDS = 17412, CODE_BYTES = 262144, SPAN_WORDS = 786432 };
 
 typedef struct {
@@ -112,12 +111,6 @@ static void compile_all(source *in, FILE *out) {
     areas a = {lent(8 * TABLE_WORDS), lent(CODE_BYTES), lent(4 * SPAN_WORDS), lent(64), 64};
     while (in->at < in->length) compile_one(in, out, &a);
 }
-#else
-static void compile_all(source *in, FILE *out) {
-    (void)in, (void)out;
-    die("there is no compiler yet: --images and --read only");
-}
-#endif
 
 int main(int argc, char **argv) {
     void (*all)(source *, FILE *) = compile_all;

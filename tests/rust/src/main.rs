@@ -6,6 +6,7 @@ mod bench;
 mod checker;
 mod compare;
 mod examples;
+mod fan;
 mod files;
 mod images;
 mod kinds;
@@ -42,6 +43,7 @@ beside compare [--images | --read] FILE BATCH
                                       difference in full, and made small
 beside pack CASES ANSWERS OUT, beside unpack IN CASES ANSWERS
 beside vectors DIR                    writes the committed vectors and a table of what they cover
+beside example DIR                    writes the rules of examples/: text, tree file and, where it is accepted, image
 beside selftest";
 
 fn main() -> ExitCode {
@@ -92,6 +94,7 @@ fn run(args: &[&str]) -> io::Result<bool> {
         ["compare", "--read", cases, batch] => compare::trees(cases, batch)?,
         ["compare", "--images", images, batch] => compare::images(images, batch)?,
         ["vectors", folder] => vectors::write(folder)?,
+        ["example", folder] => example(folder)?,
         ["selftest"] => selftest::run(),
         #[cfg(feature = "archive")]
         ["bench", "trees"] => bench::trees(),
@@ -129,6 +132,22 @@ fn check(image: &[u8]) -> Answer {
         Some(opcodes) => Answer { length: opcodes.len() as u32, ..Answer::default() },
         None => Answer { number: 40, ..Answer::default() },
     }
+}
+
+/// The rules of `examples/`.
+fn example(folder: &str) -> io::Result<()> {
+    fs::create_dir_all(folder)?;
+    for (name, text, tree) in [("fan", fan::FAN, fan::fan()), ("refused", fan::REFUSED, fan::refused())] {
+        let case = Case::plenty(tree.bytes());
+        fs::write(format!("{folder}/{name}.lox"), text)?;
+        fs::write(format!("{folder}/{name}.tree"), &case.tree)?;
+        let told = answer::answer(&case);
+        println!("{name}: number {}, at {}, end {}, name {}", told.number, told.at, told.end, told.name);
+        if told.number == 0 {
+            fs::write(format!("{folder}/{name}.image"), &told.image)?;
+        }
+    }
+    Ok(())
 }
 
 fn read_both(cases: &str, answers: &str) -> io::Result<Vec<(Case, Answer)>> {

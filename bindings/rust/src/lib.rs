@@ -1,0 +1,111 @@
+//! Puffbramble for Rust programs: tree files to images, images checked, and the lookups, over the functions of include/puffbramble.h.
+//! What they answer is proved; this crate lends them memory and gives the answers types. Nothing here panics, whatever the bytes.
+//!
+//! The stack: `check`, `code_answer` and `Image::new` take up to 1.2 MB of it, so a thread that calls them needs 2 MB, Rust's default; the others
+//! take up to 192 KB.
+//!
+//! The archive is x86-64's: elsewhere this crate is empty.
+#![cfg(target_arch = "x86_64")]
+
+mod image;
+mod raw;
+mod refusal;
+
+pub use image::{Function, Image};
+pub use refusal::{Refusal, Span};
+
+/// No tree file is longer, in bytes.
+pub const MAX_TREE: usize = 1_048_576;
+/// The words of the table; with fewer the answer is `WorkShort`.
+pub const TABLE_WORDS: usize = 17_412;
+const MAX_CODE: usize = 262_144;
+
+/// What is lent to the compiler.
+#[derive(Clone, Copy, Debug, Eq, PartialEq)]
+pub struct Sizes {
+    pub table_words: usize,
+    pub code_bytes: usize,
+    pub span_words: usize,
+    pub output_bytes: usize,
+}
+
+impl Sizes {
+    /// Room for every tree file of so many bytes: proved to suffice, but where more code is open than any room takes.
+    /// A file that is too long is refused before it is looked at, and so needs none.
+    pub const fn enough(tree_bytes: usize) -> Self {
+        let n = if tree_bytes > MAX_TREE { 0 } else { tree_bytes };
+        let code_bytes = if 6 * n < MAX_CODE { 6 * n } else { MAX_CODE };
+        Self { table_words: TABLE_WORDS, code_bytes, span_words: 3 * code_bytes, output_bytes: 17 * n }
+    }
+}
+
+/// Memory for the compiler, to be used for one tree after the other. What it holds before a call does not matter.
+#[derive(Clone, Debug)]
+pub struct Areas {
+    pub(crate) table: Vec<u64>,
+    pub(crate) code: Vec<u8>,
+    pub(crate) spans: Vec<u32>,
+    pub(crate) output: Vec<u8>,
+}
+
+impl Areas {
+    /// Areas of these sizes; what is above the most that any tree can use is left out, as it changes no answer.
+    pub fn new(sizes: Sizes) -> Self {
+        let most = Sizes::enough(MAX_TREE);
+        Self {
+            table: vec![0; sizes.table_words.min(most.table_words)],
+            code: vec![0; sizes.code_bytes.min(most.code_bytes)],
+            spans: vec![0; sizes.span_words.min(most.span_words)],
+            output: vec![0; sizes.output_bytes.min(most.output_bytes)],
+        }
+    }
+}
+
+/// Compiles a tree file to an image, in memory of its own that is large enough.
+pub fn compile(tree: &[u8]) -> Result<Vec<u8>, Refusal> {
+    let mut areas = Areas::new(Sizes::enough(tree.len()));
+    let length = compile_in(tree, &mut areas)?.len();
+    let mut image = areas.output;
+    image.truncate(length);
+    Ok(image)
+}
+
+/// Compiles a tree file to an image in the areas that are lent.
+pub fn compile_in<'a>(tree: &[u8], areas: &'a mut Areas) -> Result<&'a [u8], Refusal> {
+    let answer = raw::compile(tree, areas);
+    Refusal::of(answer)?;
+    // the length is never above the output's: the contract says that the output holds the image
+    Ok(usize::try_from(answer.length).ok().and_then(|length| areas.output.get(..length)).unwrap_or(&[]))
+}
+
+/// Reads a tree file without compiling it: `TreeTooLong`, `TreeForm`, `TreeTooDeep`, `TooManyOpen`, or nothing against it.
+pub fn read(tree: &[u8]) -> Result<(), Refusal> {
+    Refusal::of(raw::read(tree))
+}
+
+/// Checks an image: the number of its instructions, or `ImageRefused`.
+pub fn check(image: &[u8]) -> Result<u64, Refusal> {
+    let answer = raw::check(image);
+    Refusal::of(answer).map(|()| answer.length)
+}
+
+/// Whether these bytes are an image with a function `k`: `ImageRefused` comes before `NoSuchFunction`. It checks the whole image; `Image` does
+/// so once for many lookups.
+pub fn code_answer(image: &[u8], k: usize) -> Result<(), Refusal> {
+    Refusal::of(raw::code_answer(image, k))
+}
+
+/// So many code bytes in a row come from one span.
+#[repr(C)]
+#[derive(Clone, Copy, Debug, Eq, PartialEq)]
+pub struct Run {
+    pub start: u32,
+    pub end: u32,
+    pub count: u32,
+}
+
+/// The span of one code byte, or `NoSuchByte`.
+pub fn span_of(runs: &[Run], offset: usize) -> Result<Span, Refusal> {
+    let answer = raw::span_of(runs, offset);
+    Refusal::of(answer).map(|()| Span { start: answer.at, end: answer.end })
+}
