@@ -86,7 +86,7 @@ fn replay(kind: Kind, packed: &mut [u8], space: &mut [u8]) -> u8 {
     2
 }
 
-fn one_if(a: u8, b: u8) -> u64
+pub fn one_if(a: u8, b: u8) -> u64
     ensures { λ r. ⌜ r ≤ 1 ⌝ }
 {
     if a == b {
@@ -96,7 +96,7 @@ fn one_if(a: u8, b: u8) -> u64
 }
 
 // How many agree, and how many differ.
-fn report(same: u64, other: u64) {
+pub fn report(same: u64, other: u64) {
     io::print_decimal(1, same);
     io::write_all(1, b" vectors agree\n");
     if 0 < other {

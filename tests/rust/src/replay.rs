@@ -37,6 +37,55 @@ pub fn tree_replay(folder: &Path, cases: &[(Case, Answer)]) -> io::Result<()> {
     write(folder, "tree_replay", both)
 }
 
+/// Vectors for the whole compiler, nothing varied.
+pub fn compile_replay(folder: &Path, cases: &[(Case, Answer)]) -> io::Result<()> {
+    write(folder, "compile_replay", (pack_cases(cases), format!("{} vectors agree\n", cases.len())))
+}
+
+/// What the program must write: an image, or a refusal's number and a line end.
+fn written(answer: &Answer) -> Vec<u8> {
+    if answer.number == 0 { answer.image.clone() } else { format!("{}\n", answer.number).into_bytes() }
+}
+
+/// The longest tree that the program takes.
+const PROGRAM_MOST: usize = 65_536;
+
+/// The answers that such a tree can have. 13 wants 65,536 bytes of code, which no such tree has.
+const SHORT: [u32; 17] = [0, 3, 4, 5, 10, 11, 12, 14, 15, 16, 17, 18, 19, 20, 21, 22, 23];
+
+/// P2 as the program's run in the gate; and for its further runs P2, the shortest tree for each answer, and a tree of
+/// 65,536 bytes (one long name) with one that is a byte longer.
+pub fn program(folder: &Path, cases: &[(Case, Answer)]) -> io::Result<()> {
+    let p2 = Case::plenty(examples().swap_remove(1).tree.bytes());
+    let mut runs = vec![("P2".to_string(), p2.tree.clone(), written(&answer(&p2)))];
+    let plenty = |case: &Case| *case == Case::plenty(case.tree.clone()) && case.tree.len() <= PROGRAM_MOST;
+    for number in SHORT {
+        let those = cases.iter().filter(|(case, answer)| plenty(case) && answer.number == number);
+        let (case, answer) = those.min_by_key(|(case, _)| case.tree.len()).expect("a short tree for each answer");
+        runs.push((format!("answer-{number}"), case.tree.clone(), written(answer)));
+    }
+    let longest = Case::plenty(one_name(PROGRAM_MOST));
+    runs.push(("longest".to_string(), longest.tree.clone(), written(&answer(&longest))));
+    // Document 01: a longer one is 2 there.
+    runs.push(("answer-2".to_string(), one_name(PROGRAM_MOST + 1), b"2\n".to_vec()));
+    let of_p2 = runs[0].clone();
+    for (name, tree, output) in runs {
+        fs::create_dir_all(folder.join("program"))?;
+        fs::write(folder.join("program").join(format!("{name}.tree")), tree)?;
+        fs::write(folder.join("program").join(format!("{name}.out")), output)?;
+    }
+    write(folder, "puffbramble", (of_p2.1, of_p2.2))
+}
+
+/// A script with no statement and one name, so many bytes long.
+fn one_name(size: usize) -> Vec<u8> {
+    let length = size - 10;
+    let mut tree = b"TR\x01\x00\x00\x00NM".to_vec();
+    tree.extend((length as u16).to_le_bytes());
+    tree.resize(size, b'a');
+    tree
+}
+
 /// The images of P2, P10 (a loop), P11 (jumps ahead) and P12 (captured variables), and one by hand with the rest.
 pub fn image_replay(folder: &Path, images: &[Checked]) -> io::Result<()> {
     let examples = examples();
@@ -74,7 +123,7 @@ fn spans_of(run: &[u32]) -> Vec<Answer> {
     vec![Answer { at: run[0], end: run[1], ..Answer::default() }; run[2] as usize]
 }
 
-fn write(folder: &Path, program: &str, (input, output): (Vec<u8>, String)) -> io::Result<()> {
+fn write(folder: &Path, program: &str, (input, output): (Vec<u8>, impl AsRef<[u8]>)) -> io::Result<()> {
     let folder = folder.join(program);
     fs::create_dir_all(&folder)?;
     fs::write(folder.join("stdin"), input)?;

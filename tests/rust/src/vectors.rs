@@ -124,6 +124,9 @@ pub fn write(folder: &str) -> io::Result<()> {
     }
     let for_reader: Vec<Answered> = tree.iter().chain(&limit).cloned().collect();
     replay::tree_replay(Path::new(folder), &for_reader)?;
+    let for_compiler: Vec<Answered> = compile.iter().chain(&limit).cloned().collect();
+    replay::compile_replay(Path::new(folder), &for_compiler)?;
+    replay::program(Path::new(folder), &for_compiler)?;
     replay::image_replay(Path::new(folder), &images)?;
     replay::span_replay(Path::new(folder), &images)?;
     let sizes: Vec<String> = files.iter().map(|(name, bytes)| format!("{name}.pack {}", bytes.len())).collect();

@@ -1,0 +1,2 @@
+-- What the program answers.
+pub mod Program
