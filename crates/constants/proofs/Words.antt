@@ -79,35 +79,34 @@ pub constants-more : (words : List ℕ) (i w : ℕ) → i < length words → con
 unfolding constants-of
 constants-more words i w h = ap (map constant-of) (take-suc-set words i w h) ∙ map-more (take i words) w
 
-pub record Gathering (s : List ℕ) (begin n : ℕ) (words : List ℕ) (at i : ℕ) : Type 0 where
+pub record Gathering (s : List ℕ) (begin n room : ℕ) (words : List ℕ) (at i : ℕ) : Type 0 where
   pub within : i ≤ n
-  pub size : length words ≡ 65536
+  pub size : length words ≡ room
   pub done : many i (read-constant s) begin ≡ got (constants-of i words) at
   pub left : place-told (many n (read-constant s) begin) ≡ place-told (many (n - i) (read-constant s) at)
 
 module _ (s : List ℕ) (begin n : ℕ) (words : List ℕ) where
-  pub gather-begin : length words ≡ 65536 → Gathering s begin n words begin 0
+  pub gather-begin : Gathering s begin n (length words) words begin 0
   unfolding constants-of
-  gather-begin l =
+  gather-begin =
       record {
         within = omega arith;
-        size = l;
+        size = refl;
         done = many-none (read-constant s) 0 begin refl;
         left = ap place-told (passed-none (read-constant s) n begin);
       }
 
-  module _ (at i : ℕ) (g : Gathering s begin n words at i) where
+  module _ (room at i : ℕ) (g : Gathering s begin n room words at i) where
     pub gather-stop : i < n → Fails (read-constant s at) → Gathered s begin n Bad words
     gather-stop h f =
         record {
           told = skip-stops (read-constant s) n i at h f ∙ sym (g .left);
           are = λ next e. absurd (let z : _≡_ {A = ℕ} 0 1 = cc in omega arith);
-          size = g .size;
         }
 
-    pub gather-on : (w next : ℕ) → n < 65536 → i < n → Constant-is (read-constant s at) w next → Gathering s begin n (set words i w) next (i + 1)
+    pub gather-on : (w next : ℕ) → n ≤ room → i < n → Constant-is (read-constant s at) w next → Gathering s begin n room (set words i w) next (i + 1)
     gather-on w next small h c =
-        let room : i < length words = omega (arith, g .size) in
+        let inside : i < length words = omega (arith, g .size) in
         let e : constant-of w ≡ c .value = ap constant-of (c .coded) ∙ constant-back (c .value) in
         record {
           within = omega arith;
@@ -116,7 +115,7 @@ module _ (s : List ℕ) (begin n : ℕ) (words : List ℕ) where
               rw add-one
               (many-more (read-constant s) (c .value) at next (c .is) i begin (constants-of i words) (g .done) ∙
               ap (λ (v : Constant). got (constants-of i words ++ (v ∷ [])) next) (sym e) ∙
-              ap (λ (l : List Constant). got l next) (sym (constants-more words i w room)));
+              ap (λ (l : List Constant). got l next) (sym (constants-more words i w inside)));
           left = g .left ∙ skip-goes (read-constant s) n i at next (c .value) h (c .is);
         }
 
@@ -129,5 +128,4 @@ module _ (s : List ℕ) (begin n : ℕ) (words : List ℕ) where
               λ next e. (let m : at ≡ next = cc in
               ap (λ (j : ℕ). many j (read-constant s) begin) (sym q) ∙ g .done ∙ ap (λ (j : ℕ). got (constants-of j words) at) q ∙
               ap (got (constants-of n words)) m);
-          size = g .size;
         }

@@ -35,9 +35,8 @@ upvalues-at functions number = upvalues-in (getElem? functions number)
 
 -- `k` functions were read, and the table has how many variables each of them captures, as far as it goes
 pub record Counts (image : List ℕ) (k : ℕ) (counts : List ℕ) : Type 0 where
-  pub size : length counts ≡ 65536
   pub there : is-got (many k (read-function image) 6) ≡ true
-  pub known : (j : ℕ) → j < k → j < 65536 → getD counts j 0 ≡ upvalues-at (earlier image k) j
+  pub known : (j : ℕ) → j < k → j < length counts → getD counts j 0 ≡ upvalues-at (earlier image k) j
 
 -- a constant of function `k` as a word of the table of constants; 0 where it names no earlier function
 unfoldable pub kind-word : List ObjectFunction → (k : ℕ) → Constant → ℕ

@@ -4,7 +4,7 @@ use mathlib.Core.Bool.{Bool, true, false}
 use mathlib.Core.List.{List, [], _∷_, map}
 use Prim.Native.Nat.{ℕ, _+_, _*_, _/_, _%_, _<_, _≤_}
 use lib.ListN.{length, getD, take}
-use lib.Dec.{eqb}
+use lib.Dec.{eqb, ltb}
 use Rattle.rules.specs.Base.{if_then_else_}
 use Rattle.rules.specs.Reader.{Read, got, many}
 use Rattle.rules.specs.Chunk.{Constant, CN, CS, CF}
@@ -24,7 +24,10 @@ constants-of n words = map constant-of (take n words)
 pub record Gathered (image : List ℕ) (begin n : ℕ) (r : Place) (words : List ℕ) : Type 0 where
   pub told : r ≡ place-told (many n (read-constant image) begin)
   pub are : (next : ℕ) → r ≡ At next → many n (read-constant image) begin ≡ got (constants-of n words) next
-  pub size : length words ≡ 65536
+
+-- where the stamp of a word stands among `size` stamps
+unfoldable pub slot-in : (size word : ℕ) → ℕ
+slot-in size word = if ltb size 65536 then word % 4093 else word % 65521
 
 -- the first place below `n` that has the word, or `n`
 pub record Place-of (words : List ℕ) (n word r : ℕ) : Type 0 where

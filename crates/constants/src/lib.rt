@@ -8,15 +8,15 @@ ghost use Rattle.rules.specs.Reader.{got, many};
 ghost use Rattle.rules.specs.ImageFile.{read-function};
 ghost use Rattle.rules.specs.Chunk.{ObjectFunction};
 ghost use Rattle.rules.specs.Checker.{distinct};
-ghost use Rattle.constants.specs.Words.{constant-of, constants-of, Gathered, Place-of};
+ghost use Rattle.constants.specs.Words.{constant-of, constants-of, Gathered, slot-in, Place-of};
 ghost use Rattle.constants.specs.Earlier.{earlier, is-got, upvalues-at, Counts, kind-word, Kinds};
 use records::Head;
 use records::Place;
 use records::Word;
 
 // `n` constants from `begin` on, each as one word.
-pub fn gather(s: &[u8], begin: usize, n: usize, words: &mut [u64; 65536]) -> Place
-    requires { ⌜ (n < 65536) × (length (now words) ≡ 65536) ⌝ }
+pub fn gather(s: &[u8], begin: usize, n: usize, words: &mut [u64]) -> Place
+    requires { ⌜ n ≤ length (now words) ⌝ }
     ensures { λ r. ⌜ Gathered (now (s .entry)) begin n r (now (words .exit)) ⌝ }
 {
     let mut at = begin;
@@ -33,8 +33,8 @@ pub fn gather(s: &[u8], begin: usize, n: usize, words: &mut [u64; 65536]) -> Pla
 }
 
 // The first place below `n` that has the word, or `n`.
-fn find(words: &[u64; 65536], n: usize, word: u64) -> usize
-    requires { ⌜ n ≤ 65536 ⌝ }
+fn find(words: &[u64], n: usize, word: u64) -> usize
+    requires { ⌜ n ≤ length (now words) ⌝ }
     ensures { λ r. ⌜ Place-of (now (words .entry)) n word r ⌝ }
 {
     let mut i: usize = 0;
@@ -47,23 +47,27 @@ fn find(words: &[u64; 65536], n: usize, word: u64) -> usize
     i
 }
 
-// Where a word's stamp stands. A prime below 65,536.
-fn slot_of(word: u64) -> usize
-    ensures { λ r. ⌜ (r ≡ word % 65521) × (r < 65536) ⌝ }
+// Where a word's stamp stands among `size` stamps. By primes that are written out: to divide by the size itself would cost more.
+fn slot_of(word: u64, size: usize) -> usize
+    requires { ⌜ 4093 ≤ size ⌝ }
+    ensures { λ r. ⌜ (r ≡ slot-in size word) × (r < size) ⌝ }
 {
+    if size < 65536 {
+        return (word % 4093) as usize;
+    }
     (word % 65521) as usize
 }
 
 // Whether no two of the first `n` constants are equal. A word whose slot has not this function's mark is new; the others are looked for
 // among the words before. A mark that was left there by another function costs time and nothing else, so nobody clears the stamps.
-pub fn all_new(words: &[u64; 65536], n: usize, mark: u32, stamps: &mut [u32; 65536]) -> bool
-    requires { ⌜ (n ≤ 65536) × ((length (now words) ≡ 65536) × (length (now stamps) ≡ 65536)) ⌝ }
-    ensures { λ r. ⌜ (r ≡ distinct (constants-of n (now (words .entry)))) × (length (now (stamps .exit)) ≡ 65536) ⌝ }
+pub fn all_new(words: &[u64], n: usize, mark: u32, stamps: &mut [u32]) -> bool
+    requires { ⌜ (n ≤ length (now words)) × (4093 ≤ length (now stamps)) ⌝ }
+    ensures { λ r. ⌜ r ≡ distinct (constants-of n (now (words .entry))) ⌝ }
 {
     let mut i: usize = 0;
     while i < n {
         let word = words[i];
-        let slot = slot_of(word);
+        let slot = slot_of(word, stamps.len());
         let stamp = stamps[slot];
         if stamp == mark {
             if find(words, i, word) < i {
@@ -91,11 +95,11 @@ fn upvalues_by_walk(s: &[u8], j: usize) -> u16
     h.upvalues
 }
 
-fn upvalues_of(s: &[u8], j: usize, k: usize, counts: &[u16; 65536]) -> u16
+fn upvalues_of(s: &[u8], j: usize, k: usize, counts: &[u16]) -> u16
     requires { ⌜ Counts (now s) k (now counts) × (j < k) ⌝ }
     ensures { λ r. ⌜ r ≡ upvalues-at (earlier (now (s .entry)) k) j ⌝ }
 {
-    if j < 65536 {
+    if j < counts.len() {
         return counts[j];
     }
     upvalues_by_walk(s, j)
@@ -114,7 +118,7 @@ fn wide64(n: u64) -> usize
 }
 
 // The word of the table for a constant of function `k`.
-fn kind_of(s: &[u8], word: u64, k: usize, counts: &[u16; 65536]) -> u32
+fn kind_of(s: &[u8], word: u64, k: usize, counts: &[u16]) -> u32
     requires { ⌜ Counts (now s) k (now counts) ⌝ }
     ensures { λ r. ⌜ r ≡ kind-word (earlier (now (s .entry)) k) k (constant-of word) ⌝ }
 {
@@ -135,13 +139,13 @@ fn kind_of(s: &[u8], word: u64, k: usize, counts: &[u16; 65536]) -> u32
 // that no CLOSURE can name.
 pub fn kinds_of(
     s: &[u8],
-    words: &[u64; 65536],
+    words: &[u64],
     n: usize,
     k: usize,
-    counts: &[u16; 65536],
+    counts: &[u16],
     kinds: &mut [u32; 256],
 ) -> bool
-    requires { ⌜ (n ≤ 65536) × (Counts (now s) k (now counts) × (length (now words) ≡ 65536)) ⌝ }
+    requires { ⌜ (n ≤ length (now words)) × Counts (now s) k (now counts) ⌝ }
     requires { ⌜ (length (now kinds) ≡ 256) × ((p : ℕ) → getD (now kinds) p 0 ≡ 0) ⌝ }
     ensures { λ r. ⌜ Kinds (earlier (now (s .entry)) k) k (constants-of n (now (words .entry))) r (now (kinds .exit)) ⌝ }
 {

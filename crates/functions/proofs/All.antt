@@ -83,20 +83,19 @@ module _ (s : List ℕ) (k at next : ℕ) (f : ObjectFunction) (p : many k (read
     last-is j h =
         ap (λ (l : List ObjectFunction). upvalues-in (getElem? l j)) earlier-more ∙ ap upvalues-in (elem-at (earlier s k) f [] j (h ∙ sym number-of))
 
-    counts-set : (u : ℕ) → u ≡ f .upvalue-count → k < 65536 → Counts s (k + 1) (set counts k u)
+    counts-set : (u : ℕ) → u ≡ f .upvalue-count → k < length counts → Counts s (k + 1) (set counts k u)
     counts-set u q small =
         record {
-          size = length-set counts k u ∙ c .size;
           there = got-more;
           known =
-              λ j h l. ⊎-elim
-              (λ (x : j ≡ k). ap (λ (m : ℕ). getD (set counts k u) m 0) x ∙ getD-set-same counts k u 0 (omega (arith, c .size)) ∙ q ∙ sym (last-is j x))
-              (λ (x : j < k). getD-set-other counts k j u 0 (λ y. omega arith) ∙ c .known j x l ∙ sym (before-is j x)) (eq-or-lt-of-le (omega arith));
+              λ j h l. let l′ : j < length counts = (let e = length-set counts k u in omega arith) in ⊎-elim
+              (λ (x : j ≡ k). ap (λ (m : ℕ). getD (set counts k u) m 0) x ∙ getD-set-same counts k u 0 small ∙ q ∙ sym (last-is j x))
+              (λ (x : j < k). getD-set-other counts k j u 0 (λ y. omega arith) ∙ c .known j x l′ ∙ sym (before-is j x)) (eq-or-lt-of-le (omega arith));
         }
 
-    counts-past : 65536 ≤ k → Counts s (k + 1) counts
+    counts-past : length counts ≤ k → Counts s (k + 1) counts
     counts-past large =
-        record { size = c .size; there = got-more; known = λ j h l. c .known j (omega arith) l ∙ sym (before-is j (omega arith)) }
+        record { there = got-more; known = λ j h l. c .known j (omega arith) l ∙ sym (before-is j (omega arith)) }
 
 -- what `note_count` does
 module _ (s : List ℕ) (k at : ℕ) (counts : List ℕ) (c : Counts s k counts) (n : Next-is s k at) where
@@ -108,24 +107,25 @@ module _ (s : List ℕ) (k at : ℕ) (counts : List ℕ) (c : Counts s k counts)
       let f = head-fails s at b in
       absurd (let z : _≡_ {A = Read ObjectFunction} (bad (f .fault)) (got (r .value) (r .next)) = sym (f .is) ∙ r .is in let y : _≡_ {A = ℕ} 0 1 = cc in omega arith)
 
-  pub note-set : (h : Header) → head.Is h ≡ head-at s at → k < 65536 → Counts s (k + 1) (set counts k (h .upvalues))
+  pub note-set : (h : Header) → head.Is h ≡ head-at s at → k < length counts → Counts s (k + 1) (set counts k (h .upvalues))
   note-set h b small =
       counts-set s k at (r .next) (r .value) (n .place) (r .is) counts c (h .upvalues) (sym (upvalues-headed s at h (r .value) (r .next) (headed s at h b) (r .is))) small
 
-  pub note-past : 65536 ≤ k → Counts s (k + 1) counts
+  pub note-past : length counts ≤ k → Counts s (k + 1) counts
   note-past large = counts-past s k at (r .next) (r .value) (n .place) (r .is) counts c large
 
 -- ## The loop
 
-pub record Going (s : List ℕ) (count : ℕ) (counts words stamps ring : List ℕ) (at k total : ℕ) : Type 0 where
+pub record Going (s : List ℕ) (count room : ℕ) (counts words stamps ring : List ℕ) (at k total : ℕ) : Type 0 where
   pub within : k ≤ count
   pub counts-are : Counts s k counts
   pub place : many k (read-function s) 6 ≡ got (earlier s k) at
   pub low : total ≤ at
   pub inside : at ≤ length s
   pub left : functions-done 0 [] (length s) (many count (read-function s) 6) ≡ functions-done total (earlier s k) (length s) (many (count - k) (read-function s) at)
-  pub words-size : length words ≡ 65536
-  pub stamps-size : length stamps ≡ 65536
+  pub counts-size : length counts ≡ room
+  pub words-size : length words ≡ 256
+  pub stamps-size : length stamps ≡ 4096
   pub ring-size : length ring ≡ 131072
 
 module _ (n : ℕ) (before : List ObjectFunction) (size : ℕ) (f : ObjectFunction) where
@@ -162,27 +162,28 @@ done-is before (got f m) n next e = by (right before f) refl e
     by false g e = absurd (let z : _≡_ {A = ℕ} 0 1 = cc in omega arith)
 
 module _ (s : List ℕ) (count : ℕ) where
-  pub going-begin : (counts words stamps ring : List ℕ) → 6 ≤ length s → length counts ≡ 65536 → length words ≡ 65536 → length stamps ≡ 65536 → length ring ≡ 131072
-      → Going s count counts words stamps ring 6 0 0
+  pub going-begin : (counts words stamps ring : List ℕ) → 6 ≤ length s → length words ≡ 256 → length stamps ≡ 4096 → length ring ≡ 131072
+      → Going s count (length counts) counts words stamps ring 6 0 0
   unfolding earlier functions-in is-got
-  going-begin counts words stamps ring room c w t g =
+  going-begin counts words stamps ring room w t g =
       let z = many-none (read-function s) 0 6 refl in
       let e : earlier s 0 ≡ [] = ap functions-in z in
       record {
         within = omega arith;
-        counts-are = record { size = c; there = ap is-got z; known = λ j h l. absurd (omega arith) };
+        counts-are = record { there = ap is-got z; known = λ j h l. absurd (omega arith) };
         place = z ∙ ap (λ (l : List ObjectFunction). got l 6) (sym e);
         low = omega arith;
         inside = room;
         left =
             ap (functions-done 0 [] (length s)) (passed-none (read-function s) count 6) ∙
             ap (λ (l : List ObjectFunction). functions-done 0 l (length s) (many (count - 0) (read-function s) 6)) (sym e);
+        counts-size = refl;
         words-size = w;
         stamps-size = t;
         ring-size = g;
       }
 
-  module _ (counts words stamps ring : List ℕ) (at k total : ℕ) (g : Going s count counts words stamps ring at k total) where
+  module _ (size : ℕ) (counts words stamps ring : List ℕ) (at k total : ℕ) (g : Going s count size counts words stamps ring at k total) where
     stop-by : k < count → (r : Read ObjectFunction) → read-function s at ≡ r → done.Bad ≡ function-done (earlier s k) r
         → functions-done total (earlier s k) (length s) (many (count - k) (read-function s) at) ≡ verdict.No
     unfolding function-done functions-done
@@ -208,8 +209,8 @@ module _ (s : List ℕ) (count : ℕ) where
       next-is = record { place = g .place; there = ap is-got (d .is) }
 
       pub going-on : k < count → (at + n ≤ next) × (next ≤ length s) → (counts′ words′ stamps′ ring′ : List ℕ) → Counts s (k + 1) counts′
-          → length words′ ≡ 65536 → length stamps′ ≡ 65536 → length ring′ ≡ 131072 → Going s count counts′ words′ stamps′ ring′ next (k + 1) (total + n)
-      going-on h grows counts′ words′ stamps′ ring′ c w t o =
+          → length counts′ ≡ size → length words′ ≡ 256 → length stamps′ ≡ 4096 → length ring′ ≡ 131072 → Going s count size counts′ words′ stamps′ ring′ next (k + 1) (total + n)
+      going-on h grows counts′ words′ stamps′ ring′ c z w t o =
           let m = earlier-more s k at next (d .value) (g .place) (d .is) in
           record {
             within = omega arith;
@@ -222,6 +223,7 @@ module _ (s : List ℕ) (count : ℕ) where
                 right-on total (earlier s k) (length s) (d .value) _ (d .fine) ∙
                 ap (λ (x : ℕ). functions-done (total + x) (earlier s k ++ (d .value ∷ [])) (length s) (many (count - (k + 1)) (read-function s) next)) (sym (d .number)) ∙
                 ap (λ (l : List ObjectFunction). functions-done (total + n) l (length s) (many (count - (k + 1)) (read-function s) next)) (sym m);
+            counts-size = z;
             words-size = w;
             stamps-size = t;
             ring-size = o;

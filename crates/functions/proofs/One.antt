@@ -364,3 +364,7 @@ pub zeros : (n p : ℕ) → _≡_ {A = ℕ} (getD (replicate n 0) p 0) 0
 zeros zero p = refl
 zeros (suc n) zero = refl
 zeros (suc n) (suc p) = zeros n p
+
+pub blank-size : (n : ℕ) → length {A = ℕ} (replicate n 0) ≡ n
+blank-size zero = refl
+blank-size (suc n) = ap suc (blank-size n)

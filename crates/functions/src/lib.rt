@@ -23,21 +23,20 @@ pub enum Done {
 }
 
 // The `n` constants of function `k`: that they are right, where they end, and their kinds.
-fn constants_right(
+fn constants_in(
     s: &[u8],
     at: usize,
     n: usize,
     k: usize,
-    counts: &[u16; 65536],
-    words: &mut [u64; 65536],
-    stamps: &mut [u32; 65536],
+    counts: &[u16],
+    words: &mut [u64],
+    stamps: &mut [u32],
     kinds: &mut [u32; 256],
 ) -> Place
-    requires { ⌜ (n < 65536) × ((k < 4294967295) × Counts (now s) k (now counts)) ⌝ }
-    requires { ⌜ (length (now words) ≡ 65536) × (length (now stamps) ≡ 65536) ⌝ }
+    requires { ⌜ (k < 4294967295) × Counts (now s) k (now counts) ⌝ }
+    requires { ⌜ (n ≤ length (now words)) × (4093 ≤ length (now stamps)) ⌝ }
     requires { ⌜ (length (now kinds) ≡ 256) × ((p : ℕ) → getD (now kinds) p 0 ≡ 0) ⌝ }
     ensures { λ r. ⌜ Constants-right (now (s .entry)) k at n r (now (kinds .exit)) ⌝ }
-    ensures { λ r. ⌜ (length (now (words .exit)) ≡ 65536) × (length (now (stamps .exit)) ≡ 65536) ⌝ }
 {
     let Place::At(next) = constants::gather(s, at, n, words) else {
         return Place::Bad;
@@ -50,6 +49,66 @@ fn constants_right(
         return Place::Bad;
     }
     Place::At(next)
+}
+
+// The same in tables that hold any constants. A table that a function makes is a slice only behind a reference to it.
+fn constants_lent(
+    s: &[u8],
+    at: usize,
+    n: usize,
+    k: usize,
+    counts: &[u16],
+    words: &mut [u64; 65536],
+    stamps: &mut [u32; 65536],
+    kinds: &mut [u32; 256],
+) -> Place
+    requires { ⌜ (n < 65536) × ((k < 4294967295) × Counts (now s) k (now counts)) ⌝ }
+    requires { ⌜ (length (now words) ≡ 65536) × (length (now stamps) ≡ 65536) ⌝ }
+    requires { ⌜ (length (now kinds) ≡ 256) × ((p : ℕ) → getD (now kinds) p 0 ≡ 0) ⌝ }
+    ensures { λ r. ⌜ Constants-right (now (s .entry)) k at n r (now (kinds .exit)) ⌝ }
+{
+    constants_in(s, at, n, k, counts, words, stamps, kinds)
+}
+
+// More than 256 constants, which no compiler makes: tables of their own, so that the others pay for none.
+fn constants_many(
+    s: &[u8],
+    at: usize,
+    n: usize,
+    k: usize,
+    counts: &[u16],
+    kinds: &mut [u32; 256],
+) -> Place
+    requires { ⌜ (n < 65536) × ((k < 4294967295) × Counts (now s) k (now counts)) ⌝ }
+    requires { ⌜ (length (now kinds) ≡ 256) × ((p : ℕ) → getD (now kinds) p 0 ≡ 0) ⌝ }
+    ensures { λ r. ⌜ Constants-right (now (s .entry)) k at n r (now (kinds .exit)) ⌝ }
+{
+    let mut words = [0u64; 65536];
+    let mut stamps = [0u32; 65536];
+    constants_lent(s, at, n, k, counts, &mut words, &mut stamps, kinds)
+}
+
+// Any number of constants.
+fn constants_right(
+    s: &[u8],
+    at: usize,
+    n: usize,
+    k: usize,
+    counts: &[u16],
+    words: &mut [u64; 256],
+    stamps: &mut [u32; 4096],
+    kinds: &mut [u32; 256],
+) -> Place
+    requires { ⌜ (n < 65536) × ((k < 4294967295) × Counts (now s) k (now counts)) ⌝ }
+    requires { ⌜ (length (now words) ≡ 256) × (length (now stamps) ≡ 4096) ⌝ }
+    requires { ⌜ (length (now kinds) ≡ 256) × ((p : ℕ) → getD (now kinds) p 0 ≡ 0) ⌝ }
+    ensures { λ r. ⌜ Constants-right (now (s .entry)) k at n r (now (kinds .exit)) ⌝ }
+    ensures { λ r. ⌜ (length (now (words .exit)) ≡ 256) × (length (now (stamps .exit)) ≡ 4096) ⌝ }
+{
+    if n <= 256 {
+        return constants_in(s, at, n, k, counts, words, stamps, kinds);
+    }
+    constants_many(s, at, n, k, counts, kinds)
 }
 
 fn long(n: usize) -> u64
@@ -86,19 +145,19 @@ fn code_right(
 }
 
 // Function `k`, which begins at `at`.
-pub fn function(
+fn function(
     s: &[u8],
     at: usize,
     k: usize,
-    counts: &[u16; 65536],
-    words: &mut [u64; 65536],
-    stamps: &mut [u32; 65536],
+    counts: &[u16],
+    words: &mut [u64; 256],
+    stamps: &mut [u32; 4096],
     ring: &mut [u8; 131072],
 ) -> Done
     requires { ⌜ (k < 4294967295) × Counts (now s) k (now counts) ⌝ }
-    requires { ⌜ (length (now words) ≡ 65536) × ((length (now stamps) ≡ 65536) × (length (now ring) ≡ 131072)) ⌝ }
+    requires { ⌜ (length (now words) ≡ 256) × ((length (now stamps) ≡ 4096) × (length (now ring) ≡ 131072)) ⌝ }
     ensures { λ r. ⌜ Judged (now (s .entry)) k at r ⌝ }
-    ensures { λ r. ⌜ (length (now (words .exit)) ≡ 65536) × ((length (now (stamps .exit)) ≡ 65536) × (length (now (ring .exit)) ≡ 131072)) ⌝ }
+    ensures { λ r. ⌜ (length (now (words .exit)) ≡ 256) × ((length (now (stamps .exit)) ≡ 4096) × (length (now (ring .exit)) ≡ 131072)) ⌝ }
 {
     let Head::Is(h) = records::head_of(s, at) else {
         return Done::Bad;
@@ -131,7 +190,7 @@ pub fn function(
 }
 
 // Function `k`, which begins at `at`, joins the table of captured variables.
-fn note_count(s: &[u8], at: usize, k: usize, counts: &mut [u16; 65536])
+fn note_count(s: &[u8], at: usize, k: usize, counts: &mut [u16])
     requires { ⌜ Counts (now s) k (now counts) ⌝ }
     requires { ⌜ Next-is (now s) k at ⌝ }
     ensures { λ r. ⌜ Counts (now (s .entry)) (k + 1) (now (counts .exit)) ⌝ }
@@ -139,22 +198,22 @@ fn note_count(s: &[u8], at: usize, k: usize, counts: &mut [u16; 65536])
     let Head::Is(h) = records::head_of(s, at) else {
         return;
     };
-    if k < 65536 {
+    if k < counts.len() {
         counts[k] = h.upvalues;
     }
 }
 
 // All `count` functions, to the image's last byte: how many instructions they have.
-pub fn judge_all(
+fn judge_all(
     s: &[u8],
     count: usize,
-    counts: &mut [u16; 65536],
-    words: &mut [u64; 65536],
-    stamps: &mut [u32; 65536],
+    counts: &mut [u16],
+    words: &mut [u64; 256],
+    stamps: &mut [u32; 4096],
     ring: &mut [u8; 131072],
 ) -> Verdict
-    requires { ⌜ (count < 4294967296) × ((6 ≤ length (now s)) × (length (now counts) ≡ 65536)) ⌝ }
-    requires { ⌜ (length (now words) ≡ 65536) × ((length (now stamps) ≡ 65536) × (length (now ring) ≡ 131072)) ⌝ }
+    requires { ⌜ (count < 4294967296) × (6 ≤ length (now s)) ⌝ }
+    requires { ⌜ (length (now words) ≡ 256) × ((length (now stamps) ≡ 4096) × (length (now ring) ≡ 131072)) ⌝ }
     ensures { λ r. ⌜ r ≡ functions-done 0 [] (length (now (s .entry))) (many count (read-function (now (s .entry))) 6) ⌝ }
 {
     let mut at: usize = 6;
@@ -173,4 +232,57 @@ pub fn judge_all(
         return Verdict::Yes(total);
     }
     Verdict::No
+}
+
+// The same with tables for functions of up to 256 constants. They are lent to each function, and none is cleared between two.
+fn judge_with(s: &[u8], count: usize, counts: &mut [u16]) -> Verdict
+    requires { ⌜ (count < 4294967296) × (6 ≤ length (now s)) ⌝ }
+    ensures { λ r. ⌜ r ≡ functions-done 0 [] (length (now (s .entry))) (many count (read-function (now (s .entry))) 6) ⌝ }
+{
+    let mut words = [0u64; 256];
+    let mut stamps = [0u32; 4096];
+    let mut ring = [0u8; 131072];
+    judge_all(s, count, counts, &mut words, &mut stamps, &mut ring)
+}
+
+fn few_lent(s: &[u8], count: usize, counts: &mut [u16; 2048]) -> Verdict
+    requires { ⌜ (count < 4294967296) × ((6 ≤ length (now s)) × (length (now counts) ≡ 2048)) ⌝ }
+    ensures { λ r. ⌜ r ≡ functions-done 0 [] (length (now (s .entry))) (many count (read-function (now (s .entry))) 6) ⌝ }
+{
+    judge_with(s, count, counts)
+}
+
+// Tables are made of zeros, which takes a small image as long as its reading: so few functions get a small one.
+fn judge_few(s: &[u8], count: usize) -> Verdict
+    requires { ⌜ (count < 4294967296) × (6 ≤ length (now s)) ⌝ }
+    ensures { λ r. ⌜ r ≡ functions-done 0 [] (length (now (s .entry))) (many count (read-function (now (s .entry))) 6) ⌝ }
+{
+    let mut counts = [0u16; 2048];
+    few_lent(s, count, &mut counts)
+}
+
+fn many_lent(s: &[u8], count: usize, counts: &mut [u16; 65536]) -> Verdict
+    requires { ⌜ (count < 4294967296) × ((6 ≤ length (now s)) × (length (now counts) ≡ 65536)) ⌝ }
+    ensures { λ r. ⌜ r ≡ functions-done 0 [] (length (now (s .entry))) (many count (read-function (now (s .entry))) 6) ⌝ }
+{
+    judge_with(s, count, counts)
+}
+
+fn judge_many(s: &[u8], count: usize) -> Verdict
+    requires { ⌜ (count < 4294967296) × (6 ≤ length (now s)) ⌝ }
+    ensures { λ r. ⌜ r ≡ functions-done 0 [] (length (now (s .entry))) (many count (read-function (now (s .entry))) 6) ⌝ }
+{
+    let mut counts = [0u16; 65536];
+    many_lent(s, count, &mut counts)
+}
+
+// All `count` functions of an image.
+pub fn judge(s: &[u8], count: usize) -> Verdict
+    requires { ⌜ (count < 4294967296) × (6 ≤ length (now s)) ⌝ }
+    ensures { λ r. ⌜ r ≡ functions-done 0 [] (length (now (s .entry))) (many count (read-function (now (s .entry))) 6) ⌝ }
+{
+    if count <= 2048 {
+        return judge_few(s, count);
+    }
+    judge_many(s, count)
 }

@@ -5,7 +5,7 @@ use mathlib.Core.Option.{Option, none, some}
 use mathlib.Core.List.{List, [], _∷_}
 use Prim.Native.Nat.{ℕ, zero, suc, _+_, _-_, _<_, _≤_}
 use native.Mathlib.Omega.{arith}
-use lib.ListN.{length, getD, getElem?, replicate}
+use lib.ListN.{length, getD, getElem?}
 use lib.Dec.{eqb, ltb, leb}
 use borrow.Author.Tests.{lt-ltb, le-ltb, eq-eqb, ne-eqb, eqb-true, eqb-false, leb-true, leb-false}
 use Rattle.rules.specs.Base.{if_then_else_}
@@ -219,7 +219,3 @@ module _ (s : List ℕ) where
   pub check-yes : (n : ℕ) → Yes n ≡ counted-in (image-of s) → accepted n ≡ check s
   unfolding check
   check-yes n e = verdict-yes n (image-of s) e
-
-pub blank-size : (n : ℕ) → length {A = ℕ} (replicate n 0) ≡ n
-blank-size zero = refl
-blank-size (suc n) = ap suc (blank-size n)

@@ -11,7 +11,7 @@ use records::Head;
 use records::Place;
 use rules::Answer;
 
-// How many instructions an image has. The tables are lent to the judging of each function, and none is cleared between two.
+// How many instructions an image has.
 fn count_of(image: &[u8]) -> Verdict
     ensures { λ r. ⌜ r ≡ counted-in (image-of (now (image .entry))) ⌝ }
 {
@@ -25,18 +25,7 @@ fn count_of(image: &[u8]) -> Verdict
     if count == 0 {
         return Verdict::No;
     }
-    let mut counts = [0u16; 65536];
-    let mut words = [0u64; 65536];
-    let mut stamps = [0u32; 65536];
-    let mut ring = [0u8; 131072];
-    let Verdict::Yes(n) = functions::judge_all(
-        image,
-        count,
-        &mut counts,
-        &mut words,
-        &mut stamps,
-        &mut ring,
-    ) else {
+    let Verdict::Yes(n) = functions::judge(image, count) else {
         return Verdict::No;
     };
     if naming::all_named_once(image, count) {

@@ -11,19 +11,24 @@ use Rattle.constants.proofs.upvalues_of.Tie as tie
 mul-result : tie.Need-mul-result
 mul-result c = search needs
 
-element-copy-out-result : tie.Need-element-copy-out-result
-element-copy-out-result c = search needs
+shared-slice-read-result : tie.Need-shared-slice-read-result
+shared-slice-read-result c = search needs
 
 returns : tie.Need-returns
-returns c = c .before .before .before .pre .0 .known (c .before .before .before .args .j) (c .before .before .before .pre .1) (c .before .if1 .taken)
+returns c = c .before .before .before .before .pre .0 .known (c .before .before .before .before .args .j) (c .before .before .before .before .pre .1) (c .before .if1 .taken)
 
 upvalues-by-walk-requires : tie.Need-upvalues-by-walk-requires
 upvalues-by-walk-requires c κs = search needs
 
 returns-2 : tie.Need-returns-2
-returns-2 c = c .upvalues-by-walk .ensures (c .before .before .before .args .k) (c .before .before .before .pre .1) (c .before .before .before .pre .0 .there)
+returns-2 c = c .upvalues-by-walk .ensures (c .before .before .before .before .args .k) (c .before .before .before .before .pre .1) (c .before .before .before .before .pre .0 .there)
 
 pub upvalues-of-spec : {M : Type 1} → statement M
 upvalues-of-spec =
     tie.close
-    (tie.spec mul-result element-copy-out-result returns upvalues-by-walk-requires returns-2)
+    (tie.spec
+    mul-result
+    shared-slice-read-result
+    returns
+    upvalues-by-walk-requires
+    returns-2)

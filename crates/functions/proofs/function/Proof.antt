@@ -24,16 +24,16 @@ enum-told : tie.Need-enum-told
 enum-told c = search needs
 
 returns : tie.Need-returns
-returns c = (headless (c .before .before .before .before .args .s .now) (c .before .before .before .before .args .k) (c .before .before .before .before .args .at) (sym (c .enum-told .given .1) ∙ c .before .before .head-of .ensures), c .before .before .before .before .pre .1)
+returns c = (headless (c .before .before .before .before .before .args .s .now) (c .before .before .before .before .before .args .k) (c .before .before .before .before .before .args .at) (sym (c .enum-told .given .1) ∙ c .before .before .head-of .ensures), c .before .before .before .before .before .pre .1)
 
 add-constants-right : tie.Need-add-constants-right
-add-constants-right c = let w = header-within (c .before .before .before .before .before .args .s .now) (c .before .before .before .before .before .args .k) (c .before .before .before .before .before .args .at) (c .before .h .given .0 .0) (sym (c .before .h .given .1) ∙ c .before .before .before .head-of .ensures) in omega (arith, w, c .before .before .before .before .before .good)
+add-constants-right c = let w = header-within (c .before .before .before .before .before .before .args .s .now) (c .before .before .before .before .before .before .args .k) (c .before .before .before .before .before .before .args .at) (c .before .h .given .0 .0) (sym (c .before .h .given .1) ∙ c .before .before .before .head-of .ensures) in omega (arith, w, c .before .before .before .before .before .before .good)
 
 wide16-requires : tie.Need-wide16-requires
 wide16-requires c κs = search needs
 
 constants-right-requires : tie.Need-constants-right-requires
-constants-right-requires c κs = ((c .before .before .before .wide16 .ensures .1, c .before .before .before .before .before .before .before .before .before .pre .0), ((c .before .before .before .before .before .before .before .before .before .pre .1 .0, c .before .before .before .before .before .before .before .before .before .pre .1 .1 .0), (refl, zeros 256)))
+constants-right-requires c κs = ((c .before .before .before .wide16 .ensures .1, c .before .before .before .before .before .before .before .before .before .before .pre .0), ((c .before .before .before .before .before .before .before .before .before .before .pre .1 .0, c .before .before .before .before .before .before .before .before .before .before .pre .1 .1 .0), (refl, zeros 256)))
 
 enum-known-runs-at : tie.Need-enum-known-runs-at
 enum-known-runs-at c = search needs
@@ -42,7 +42,7 @@ enum-told-2 : tie.Need-enum-told-2
 enum-told-2 c = search needs
 
 returns-2 : tie.Need-returns-2
-returns-2 c = (constants-bad (c .before .before .before .before .before .before .before .before .before .before .before .before .args .s .now) (c .before .before .before .before .before .before .before .before .before .before .before .before .args .k) (c .before .before .before .before .before .before .before .before .before .before .before .before .args .at) (c .before .before .before .before .before .before .before .before .h .given .0 .0) (sym (c .before .before .before .before .before .before .before .before .h .given .1) ∙ c .before .before .before .before .before .before .before .before .before .before .head-of .ensures) (earlier-number (c .before .before .before .before .before .before .before .before .before .before .before .before .args .s .now) (c .before .before .before .before .before .before .before .before .before .before .before .before .args .k) (c .before .before .before .before .before .before .before .before .before .before .before .before .pre .0 .1 .there)) (c .before .before .before .before .before .before .wide16 .result) (c .before .before .before .before .before .before .wide16 .ensures .0) (sym (c .enum-told2 .given .1) ∙ c .before .before .constants-right .ensures .0 .told), (c .before .before .constants-right .ensures .1 .0, (c .before .before .constants-right .ensures .1 .1, c .before .before .before .before .before .before .before .before .before .before .before .before .pre .1 .1 .1)))
+returns-2 c = (constants-bad (c .before .before .before .before .before .before .before .before .before .before .before .before .before .args .s .now) (c .before .before .before .before .before .before .before .before .before .before .before .before .before .args .k) (c .before .before .before .before .before .before .before .before .before .before .before .before .before .args .at) (c .before .before .before .before .before .before .before .before .h .given .0 .0) (sym (c .before .before .before .before .before .before .before .before .h .given .1) ∙ c .before .before .before .before .before .before .before .before .before .before .head-of .ensures) (earlier-number (c .before .before .before .before .before .before .before .before .before .before .before .before .before .args .s .now) (c .before .before .before .before .before .before .before .before .before .before .before .before .before .args .k) (c .before .before .before .before .before .before .before .before .before .before .before .before .before .pre .0 .1 .there)) (c .before .before .before .before .before .before .wide16 .result) (c .before .before .before .before .before .before .wide16 .ensures .0) (sym (c .enum-told2 .given .1) ∙ c .before .before .constants-right .ensures .0 .told), (c .before .before .constants-right .ensures .1 .0, (c .before .before .constants-right .ensures .1 .1, c .before .before .before .before .before .before .before .before .before .before .before .before .before .pre .1 .1 .1)))
 
 wide32-requires : tie.Need-wide32-requires
 wide32-requires c κs = search needs
@@ -57,7 +57,7 @@ enum-told-3 : tie.Need-enum-told-3
 enum-told-3 c = search needs
 
 returns-3 : tie.Need-returns-3
-returns-3 c = (runs-bad (c .before .before .before .before .before .before .before .before .before .before .before .before .before .before .before .before .before .args .s .now) (c .before .before .before .before .before .before .before .before .before .before .before .before .before .before .before .before .before .args .k) (c .before .before .before .before .before .before .before .before .before .before .before .before .before .before .before .before .before .args .at) (c .before .before .before .before .before .before .before .before .before .before .before .before .before .h .given .0 .0) (sym (c .before .before .before .before .before .before .before .before .before .before .before .before .before .h .given .1) ∙ c .before .before .before .before .before .before .before .before .before .before .before .before .before .before .before .head-of .ensures) (earlier-number (c .before .before .before .before .before .before .before .before .before .before .before .before .before .before .before .before .before .args .s .now) (c .before .before .before .before .before .before .before .before .before .before .before .before .before .before .before .before .before .args .k) (c .before .before .before .before .before .before .before .before .before .before .before .before .before .before .before .before .before .pre .0 .1 .there)) (c .before .before .before .before .before .runs-at .given .0 .0) (constants-are (c .before .before .before .before .before .before .before .before .before .before .before .before .before .before .before .before .before .args .s .now) (c .before .before .before .before .before .before .before .before .before .before .before .before .before .before .before .before .before .args .k) (c .before .before .before .before .before .before .before .before .before .before .before .before .before .before .before .before .before .args .at) (c .before .before .before .before .before .before .before .before .before .before .before .before .before .h .given .0 .0) (sym (c .before .before .before .before .before .before .before .before .before .before .before .before .before .h .given .1) ∙ c .before .before .before .before .before .before .before .before .before .before .before .before .before .before .before .head-of .ensures) (earlier-number (c .before .before .before .before .before .before .before .before .before .before .before .before .before .before .before .before .before .args .s .now) (c .before .before .before .before .before .before .before .before .before .before .before .before .before .before .before .before .before .args .k) (c .before .before .before .before .before .before .before .before .before .before .before .before .before .before .before .before .before .pre .0 .1 .there)) (c .before .before .before .before .before .runs-at .given .0 .0) (c .before .before .before .before .before .before .before .before .before .before .before .wide16 .result) (c .before .before .before .before .before .before .before .before .before .before .before .wide16 .ensures .0) (sym (c .before .before .before .before .before .runs-at .given .1) ∙ c .before .before .before .before .before .before .before .constants-right .ensures .0 .told)) (c .before .before .before .wide32 .result) (c .before .before .before .wide32 .ensures .0) (sym (c .enum-told3 .given .1) ∙ c .before .before .runs .ensures), (c .before .before .before .before .before .before .before .constants-right .ensures .1 .0, (c .before .before .before .before .before .before .before .constants-right .ensures .1 .1, c .before .before .before .before .before .before .before .before .before .before .before .before .before .before .before .before .before .pre .1 .1 .1)))
+returns-3 c = (runs-bad (c .before .before .before .before .before .before .before .before .before .before .before .before .before .before .before .before .before .before .args .s .now) (c .before .before .before .before .before .before .before .before .before .before .before .before .before .before .before .before .before .before .args .k) (c .before .before .before .before .before .before .before .before .before .before .before .before .before .before .before .before .before .before .args .at) (c .before .before .before .before .before .before .before .before .before .before .before .before .before .h .given .0 .0) (sym (c .before .before .before .before .before .before .before .before .before .before .before .before .before .h .given .1) ∙ c .before .before .before .before .before .before .before .before .before .before .before .before .before .before .before .head-of .ensures) (earlier-number (c .before .before .before .before .before .before .before .before .before .before .before .before .before .before .before .before .before .before .args .s .now) (c .before .before .before .before .before .before .before .before .before .before .before .before .before .before .before .before .before .before .args .k) (c .before .before .before .before .before .before .before .before .before .before .before .before .before .before .before .before .before .before .pre .0 .1 .there)) (c .before .before .before .before .before .runs-at .given .0 .0) (constants-are (c .before .before .before .before .before .before .before .before .before .before .before .before .before .before .before .before .before .before .args .s .now) (c .before .before .before .before .before .before .before .before .before .before .before .before .before .before .before .before .before .before .args .k) (c .before .before .before .before .before .before .before .before .before .before .before .before .before .before .before .before .before .before .args .at) (c .before .before .before .before .before .before .before .before .before .before .before .before .before .h .given .0 .0) (sym (c .before .before .before .before .before .before .before .before .before .before .before .before .before .h .given .1) ∙ c .before .before .before .before .before .before .before .before .before .before .before .before .before .before .before .head-of .ensures) (earlier-number (c .before .before .before .before .before .before .before .before .before .before .before .before .before .before .before .before .before .before .args .s .now) (c .before .before .before .before .before .before .before .before .before .before .before .before .before .before .before .before .before .before .args .k) (c .before .before .before .before .before .before .before .before .before .before .before .before .before .before .before .before .before .before .pre .0 .1 .there)) (c .before .before .before .before .before .runs-at .given .0 .0) (c .before .before .before .before .before .before .before .before .before .before .before .wide16 .result) (c .before .before .before .before .before .before .before .before .before .before .before .wide16 .ensures .0) (sym (c .before .before .before .before .before .runs-at .given .1) ∙ c .before .before .before .before .before .before .before .constants-right .ensures .0 .told)) (c .before .before .before .wide32 .result) (c .before .before .before .wide32 .ensures .0) (sym (c .enum-told3 .given .1) ∙ c .before .before .runs .ensures), (c .before .before .before .before .before .before .before .constants-right .ensures .1 .0, (c .before .before .before .before .before .before .before .constants-right .ensures .1 .1, c .before .before .before .before .before .before .before .before .before .before .before .before .before .before .before .before .before .before .pre .1 .1 .1)))
 
 wide32-requires-2 : tie.Need-wide32-requires-2
 wide32-requires-2 c κs = search needs
@@ -66,10 +66,10 @@ wide16-requires-2 : tie.Need-wide16-requires-2
 wide16-requires-2 c κs = search needs
 
 code-right-requires : tie.Need-code-right-requires
-code-right-requires c κs = c .before .before .before .before .before .before .before .before .before .before .before .before .before .before .before .before .before .before .before .before .before .before .pre .1 .1 .1
+code-right-requires c κs = c .before .before .before .before .before .before .before .before .before .before .before .before .before .before .before .before .before .before .before .before .before .before .before .pre .1 .1 .1
 
 returns-4 : tie.Need-returns-4
-returns-4 c = (function-judged (c .before .before .before .before .before .before .before .before .before .before .before .before .before .before .before .before .before .before .before .before .before .before .before .args .s .now) (c .before .before .before .before .before .before .before .before .before .before .before .before .before .before .before .before .before .before .before .before .before .before .before .args .k) (c .before .before .before .before .before .before .before .before .before .before .before .before .before .before .before .before .before .before .before .before .before .before .before .args .at) (c .before .before .before .before .before .before .before .before .before .before .before .before .before .before .before .before .before .before .before .h .given .0 .0) (sym (c .before .before .before .before .before .before .before .before .before .before .before .before .before .before .before .before .before .before .before .h .given .1) ∙ c .before .before .before .before .before .before .before .before .before .before .before .before .before .before .before .before .before .before .before .before .before .head-of .ensures) (earlier-number (c .before .before .before .before .before .before .before .before .before .before .before .before .before .before .before .before .before .before .before .before .before .before .before .args .s .now) (c .before .before .before .before .before .before .before .before .before .before .before .before .before .before .before .before .before .before .before .before .before .before .before .args .k) (c .before .before .before .before .before .before .before .before .before .before .before .before .before .before .before .before .before .before .before .before .before .before .before .pre .0 .1 .there)) (c .before .before .before .before .before .before .before .before .before .before .before .runs-at .given .0 .0) (constants-are (c .before .before .before .before .before .before .before .before .before .before .before .before .before .before .before .before .before .before .before .before .before .before .before .args .s .now) (c .before .before .before .before .before .before .before .before .before .before .before .before .before .before .before .before .before .before .before .before .before .before .before .args .k) (c .before .before .before .before .before .before .before .before .before .before .before .before .before .before .before .before .before .before .before .before .before .before .before .args .at) (c .before .before .before .before .before .before .before .before .before .before .before .before .before .before .before .before .before .before .before .h .given .0 .0) (sym (c .before .before .before .before .before .before .before .before .before .before .before .before .before .before .before .before .before .before .before .h .given .1) ∙ c .before .before .before .before .before .before .before .before .before .before .before .before .before .before .before .before .before .before .before .before .before .head-of .ensures) (earlier-number (c .before .before .before .before .before .before .before .before .before .before .before .before .before .before .before .before .before .before .before .before .before .before .before .args .s .now) (c .before .before .before .before .before .before .before .before .before .before .before .before .before .before .before .before .before .before .before .before .before .before .before .args .k) (c .before .before .before .before .before .before .before .before .before .before .before .before .before .before .before .before .before .before .before .before .before .before .before .pre .0 .1 .there)) (c .before .before .before .before .before .before .before .before .before .before .before .runs-at .given .0 .0) (c .before .before .before .before .before .before .before .before .before .before .before .before .before .before .before .before .before .wide16 .result) (c .before .before .before .before .before .before .before .before .before .before .before .before .before .before .before .before .before .wide16 .ensures .0) (sym (c .before .before .before .before .before .before .before .before .before .before .before .runs-at .given .1) ∙ c .before .before .before .before .before .before .before .before .before .before .before .before .before .constants-right .ensures .0 .told)) (c .before .before .before .before .before .before .sum .given .0 .0) (c .before .before .before .before .before .before .sum .given .0 .1 .0) (runs-are (c .before .before .before .before .before .before .before .before .before .before .before .before .before .before .before .before .before .before .before .before .before .before .before .args .s .now) (c .before .before .before .before .before .before .before .before .before .before .before .before .before .before .before .before .before .before .before .before .before .before .before .args .k) (c .before .before .before .before .before .before .before .before .before .before .before .before .before .before .before .before .before .before .before .before .before .before .before .args .at) (c .before .before .before .before .before .before .before .before .before .before .before .before .before .before .before .before .before .before .before .h .given .0 .0) (sym (c .before .before .before .before .before .before .before .before .before .before .before .before .before .before .before .before .before .before .before .h .given .1) ∙ c .before .before .before .before .before .before .before .before .before .before .before .before .before .before .before .before .before .before .before .before .before .head-of .ensures) (earlier-number (c .before .before .before .before .before .before .before .before .before .before .before .before .before .before .before .before .before .before .before .before .before .before .before .args .s .now) (c .before .before .before .before .before .before .before .before .before .before .before .before .before .before .before .before .before .before .before .before .before .before .before .args .k) (c .before .before .before .before .before .before .before .before .before .before .before .before .before .before .before .before .before .before .before .before .before .before .before .pre .0 .1 .there)) (c .before .before .before .before .before .before .before .before .before .before .before .runs-at .given .0 .0) (constants-are (c .before .before .before .before .before .before .before .before .before .before .before .before .before .before .before .before .before .before .before .before .before .before .before .args .s .now) (c .before .before .before .before .before .before .before .before .before .before .before .before .before .before .before .before .before .before .before .before .before .before .before .args .k) (c .before .before .before .before .before .before .before .before .before .before .before .before .before .before .before .before .before .before .before .before .before .before .before .args .at) (c .before .before .before .before .before .before .before .before .before .before .before .before .before .before .before .before .before .before .before .h .given .0 .0) (sym (c .before .before .before .before .before .before .before .before .before .before .before .before .before .before .before .before .before .before .before .h .given .1) ∙ c .before .before .before .before .before .before .before .before .before .before .before .before .before .before .before .before .before .before .before .before .before .head-of .ensures) (earlier-number (c .before .before .before .before .before .before .before .before .before .before .before .before .before .before .before .before .before .before .before .before .before .before .before .args .s .now) (c .before .before .before .before .before .before .before .before .before .before .before .before .before .before .before .before .before .before .before .before .before .before .before .args .k) (c .before .before .before .before .before .before .before .before .before .before .before .before .before .before .before .before .before .before .before .before .before .before .before .pre .0 .1 .there)) (c .before .before .before .before .before .before .before .before .before .before .before .runs-at .given .0 .0) (c .before .before .before .before .before .before .before .before .before .before .before .before .before .before .before .before .before .wide16 .result) (c .before .before .before .before .before .before .before .before .before .before .before .before .before .before .before .before .before .wide16 .ensures .0) (sym (c .before .before .before .before .before .before .before .before .before .before .before .runs-at .given .1) ∙ c .before .before .before .before .before .before .before .before .before .before .before .before .before .constants-right .ensures .0 .told)) (c .before .before .before .before .before .before .sum .given .0 .0) (c .before .before .before .before .before .before .sum .given .0 .1 .0) (c .before .before .before .before .before .before .before .before .before .wide32 .result) (c .before .before .before .before .before .before .before .before .before .wide32 .ensures .0) (sym (c .before .before .before .before .before .before .sum .given .1) ∙ c .before .before .before .before .before .before .before .before .runs .ensures)) (λ i. omega (arith, c .before .before .before .before .before .before .before .before .before .before .before .before .before .before .before .before .before .before .before .before .before .before .shared-slice-known .given i)) _ (c .before .before .before .before .before .before .before .before .before .before .before .before .before .constants-right .ensures .0 .table ((constants-are (c .before .before .before .before .before .before .before .before .before .before .before .before .before .before .before .before .before .before .before .before .before .before .before .args .s .now) (c .before .before .before .before .before .before .before .before .before .before .before .before .before .before .before .before .before .before .before .before .before .before .before .args .k) (c .before .before .before .before .before .before .before .before .before .before .before .before .before .before .before .before .before .before .before .before .before .before .before .args .at) (c .before .before .before .before .before .before .before .before .before .before .before .before .before .before .before .before .before .before .before .h .given .0 .0) (sym (c .before .before .before .before .before .before .before .before .before .before .before .before .before .before .before .before .before .before .before .h .given .1) ∙ c .before .before .before .before .before .before .before .before .before .before .before .before .before .before .before .before .before .before .before .before .before .head-of .ensures) (earlier-number (c .before .before .before .before .before .before .before .before .before .before .before .before .before .before .before .before .before .before .before .before .before .before .before .args .s .now) (c .before .before .before .before .before .before .before .before .before .before .before .before .before .before .before .before .before .before .before .before .before .before .before .args .k) (c .before .before .before .before .before .before .before .before .before .before .before .before .before .before .before .before .before .before .before .before .before .before .before .pre .0 .1 .there)) (c .before .before .before .before .before .before .before .before .before .before .before .runs-at .given .0 .0) (c .before .before .before .before .before .before .before .before .before .before .before .before .before .before .before .before .before .wide16 .result) (c .before .before .before .before .before .before .before .before .before .before .before .before .before .before .before .before .before .wide16 .ensures .0) (sym (c .before .before .before .before .before .before .before .before .before .before .before .runs-at .given .1) ∙ c .before .before .before .before .before .before .before .before .before .before .before .before .before .constants-right .ensures .0 .told)) .cs) (c .before .before .before .before .before .before .before .before .before .before .before .runs-at .given .0 .0) (ap (λ (m : ℕ). many m (read-constant (c .before .before .before .before .before .before .before .before .before .before .before .before .before .before .before .before .before .before .before .before .before .before .before .args .s .now)) (c .before .before .before .before .before .before .before .before .before .before .before .before .before .before .before .before .before .before .before .before .before .before .before .args .at + 17)) (c .before .before .before .before .before .before .before .before .before .before .before .before .before .before .before .before .before .wide16 .ensures .0) ∙ (constants-are (c .before .before .before .before .before .before .before .before .before .before .before .before .before .before .before .before .before .before .before .before .before .before .before .args .s .now) (c .before .before .before .before .before .before .before .before .before .before .before .before .before .before .before .before .before .before .before .before .before .before .before .args .k) (c .before .before .before .before .before .before .before .before .before .before .before .before .before .before .before .before .before .before .before .before .before .before .before .args .at) (c .before .before .before .before .before .before .before .before .before .before .before .before .before .before .before .before .before .before .before .h .given .0 .0) (sym (c .before .before .before .before .before .before .before .before .before .before .before .before .before .before .before .before .before .before .before .h .given .1) ∙ c .before .before .before .before .before .before .before .before .before .before .before .before .before .before .before .before .before .before .before .before .before .head-of .ensures) (earlier-number (c .before .before .before .before .before .before .before .before .before .before .before .before .before .before .before .before .before .before .before .before .before .before .before .args .s .now) (c .before .before .before .before .before .before .before .before .before .before .before .before .before .before .before .before .before .before .before .before .before .before .before .args .k) (c .before .before .before .before .before .before .before .before .before .before .before .before .before .before .before .before .before .before .before .before .before .before .before .pre .0 .1 .there)) (c .before .before .before .before .before .before .before .before .before .before .before .runs-at .given .0 .0) (c .before .before .before .before .before .before .before .before .before .before .before .before .before .before .before .before .before .wide16 .result) (c .before .before .before .before .before .before .before .before .before .before .before .before .before .before .before .before .before .wide16 .ensures .0) (sym (c .before .before .before .before .before .before .before .before .before .before .before .runs-at .given .1) ∙ c .before .before .before .before .before .before .before .before .before .before .before .before .before .constants-right .ensures .0 .told)) .are) (c .before .before .before .before .before .before .before .before .before .before .before .runs-at .given .1)) (c .code-right .result) (c .before .before .before .before .wide322 .result) (c .before .before .before .wide162 .result) (c .before .before .before .before .wide322 .ensures .0) (c .before .before .before .wide162 .ensures .0) (c .code-right .ensures .0) (c .code-right .ensures .1 .0), (c .before .before .before .before .before .before .before .before .before .before .before .before .before .constants-right .ensures .1 .0, (c .before .before .before .before .before .before .before .before .before .before .before .before .before .constants-right .ensures .1 .1, c .code-right .ensures .1 .1)))
+returns-4 c = (function-judged (c .before .before .before .before .before .before .before .before .before .before .before .before .before .before .before .before .before .before .before .before .before .before .before .before .args .s .now) (c .before .before .before .before .before .before .before .before .before .before .before .before .before .before .before .before .before .before .before .before .before .before .before .before .args .k) (c .before .before .before .before .before .before .before .before .before .before .before .before .before .before .before .before .before .before .before .before .before .before .before .before .args .at) (c .before .before .before .before .before .before .before .before .before .before .before .before .before .before .before .before .before .before .before .h .given .0 .0) (sym (c .before .before .before .before .before .before .before .before .before .before .before .before .before .before .before .before .before .before .before .h .given .1) ∙ c .before .before .before .before .before .before .before .before .before .before .before .before .before .before .before .before .before .before .before .before .before .head-of .ensures) (earlier-number (c .before .before .before .before .before .before .before .before .before .before .before .before .before .before .before .before .before .before .before .before .before .before .before .before .args .s .now) (c .before .before .before .before .before .before .before .before .before .before .before .before .before .before .before .before .before .before .before .before .before .before .before .before .args .k) (c .before .before .before .before .before .before .before .before .before .before .before .before .before .before .before .before .before .before .before .before .before .before .before .before .pre .0 .1 .there)) (c .before .before .before .before .before .before .before .before .before .before .before .runs-at .given .0 .0) (constants-are (c .before .before .before .before .before .before .before .before .before .before .before .before .before .before .before .before .before .before .before .before .before .before .before .before .args .s .now) (c .before .before .before .before .before .before .before .before .before .before .before .before .before .before .before .before .before .before .before .before .before .before .before .before .args .k) (c .before .before .before .before .before .before .before .before .before .before .before .before .before .before .before .before .before .before .before .before .before .before .before .before .args .at) (c .before .before .before .before .before .before .before .before .before .before .before .before .before .before .before .before .before .before .before .h .given .0 .0) (sym (c .before .before .before .before .before .before .before .before .before .before .before .before .before .before .before .before .before .before .before .h .given .1) ∙ c .before .before .before .before .before .before .before .before .before .before .before .before .before .before .before .before .before .before .before .before .before .head-of .ensures) (earlier-number (c .before .before .before .before .before .before .before .before .before .before .before .before .before .before .before .before .before .before .before .before .before .before .before .before .args .s .now) (c .before .before .before .before .before .before .before .before .before .before .before .before .before .before .before .before .before .before .before .before .before .before .before .before .args .k) (c .before .before .before .before .before .before .before .before .before .before .before .before .before .before .before .before .before .before .before .before .before .before .before .before .pre .0 .1 .there)) (c .before .before .before .before .before .before .before .before .before .before .before .runs-at .given .0 .0) (c .before .before .before .before .before .before .before .before .before .before .before .before .before .before .before .before .before .wide16 .result) (c .before .before .before .before .before .before .before .before .before .before .before .before .before .before .before .before .before .wide16 .ensures .0) (sym (c .before .before .before .before .before .before .before .before .before .before .before .runs-at .given .1) ∙ c .before .before .before .before .before .before .before .before .before .before .before .before .before .constants-right .ensures .0 .told)) (c .before .before .before .before .before .before .sum .given .0 .0) (c .before .before .before .before .before .before .sum .given .0 .1 .0) (runs-are (c .before .before .before .before .before .before .before .before .before .before .before .before .before .before .before .before .before .before .before .before .before .before .before .before .args .s .now) (c .before .before .before .before .before .before .before .before .before .before .before .before .before .before .before .before .before .before .before .before .before .before .before .before .args .k) (c .before .before .before .before .before .before .before .before .before .before .before .before .before .before .before .before .before .before .before .before .before .before .before .before .args .at) (c .before .before .before .before .before .before .before .before .before .before .before .before .before .before .before .before .before .before .before .h .given .0 .0) (sym (c .before .before .before .before .before .before .before .before .before .before .before .before .before .before .before .before .before .before .before .h .given .1) ∙ c .before .before .before .before .before .before .before .before .before .before .before .before .before .before .before .before .before .before .before .before .before .head-of .ensures) (earlier-number (c .before .before .before .before .before .before .before .before .before .before .before .before .before .before .before .before .before .before .before .before .before .before .before .before .args .s .now) (c .before .before .before .before .before .before .before .before .before .before .before .before .before .before .before .before .before .before .before .before .before .before .before .before .args .k) (c .before .before .before .before .before .before .before .before .before .before .before .before .before .before .before .before .before .before .before .before .before .before .before .before .pre .0 .1 .there)) (c .before .before .before .before .before .before .before .before .before .before .before .runs-at .given .0 .0) (constants-are (c .before .before .before .before .before .before .before .before .before .before .before .before .before .before .before .before .before .before .before .before .before .before .before .before .args .s .now) (c .before .before .before .before .before .before .before .before .before .before .before .before .before .before .before .before .before .before .before .before .before .before .before .before .args .k) (c .before .before .before .before .before .before .before .before .before .before .before .before .before .before .before .before .before .before .before .before .before .before .before .before .args .at) (c .before .before .before .before .before .before .before .before .before .before .before .before .before .before .before .before .before .before .before .h .given .0 .0) (sym (c .before .before .before .before .before .before .before .before .before .before .before .before .before .before .before .before .before .before .before .h .given .1) ∙ c .before .before .before .before .before .before .before .before .before .before .before .before .before .before .before .before .before .before .before .before .before .head-of .ensures) (earlier-number (c .before .before .before .before .before .before .before .before .before .before .before .before .before .before .before .before .before .before .before .before .before .before .before .before .args .s .now) (c .before .before .before .before .before .before .before .before .before .before .before .before .before .before .before .before .before .before .before .before .before .before .before .before .args .k) (c .before .before .before .before .before .before .before .before .before .before .before .before .before .before .before .before .before .before .before .before .before .before .before .before .pre .0 .1 .there)) (c .before .before .before .before .before .before .before .before .before .before .before .runs-at .given .0 .0) (c .before .before .before .before .before .before .before .before .before .before .before .before .before .before .before .before .before .wide16 .result) (c .before .before .before .before .before .before .before .before .before .before .before .before .before .before .before .before .before .wide16 .ensures .0) (sym (c .before .before .before .before .before .before .before .before .before .before .before .runs-at .given .1) ∙ c .before .before .before .before .before .before .before .before .before .before .before .before .before .constants-right .ensures .0 .told)) (c .before .before .before .before .before .before .sum .given .0 .0) (c .before .before .before .before .before .before .sum .given .0 .1 .0) (c .before .before .before .before .before .before .before .before .before .wide32 .result) (c .before .before .before .before .before .before .before .before .before .wide32 .ensures .0) (sym (c .before .before .before .before .before .before .sum .given .1) ∙ c .before .before .before .before .before .before .before .before .runs .ensures)) (λ i. omega (arith, c .before .before .before .before .before .before .before .before .before .before .before .before .before .before .before .before .before .before .before .before .before .before .before .shared-slice-known .given i)) _ (c .before .before .before .before .before .before .before .before .before .before .before .before .before .constants-right .ensures .0 .table ((constants-are (c .before .before .before .before .before .before .before .before .before .before .before .before .before .before .before .before .before .before .before .before .before .before .before .before .args .s .now) (c .before .before .before .before .before .before .before .before .before .before .before .before .before .before .before .before .before .before .before .before .before .before .before .before .args .k) (c .before .before .before .before .before .before .before .before .before .before .before .before .before .before .before .before .before .before .before .before .before .before .before .before .args .at) (c .before .before .before .before .before .before .before .before .before .before .before .before .before .before .before .before .before .before .before .h .given .0 .0) (sym (c .before .before .before .before .before .before .before .before .before .before .before .before .before .before .before .before .before .before .before .h .given .1) ∙ c .before .before .before .before .before .before .before .before .before .before .before .before .before .before .before .before .before .before .before .before .before .head-of .ensures) (earlier-number (c .before .before .before .before .before .before .before .before .before .before .before .before .before .before .before .before .before .before .before .before .before .before .before .before .args .s .now) (c .before .before .before .before .before .before .before .before .before .before .before .before .before .before .before .before .before .before .before .before .before .before .before .before .args .k) (c .before .before .before .before .before .before .before .before .before .before .before .before .before .before .before .before .before .before .before .before .before .before .before .before .pre .0 .1 .there)) (c .before .before .before .before .before .before .before .before .before .before .before .runs-at .given .0 .0) (c .before .before .before .before .before .before .before .before .before .before .before .before .before .before .before .before .before .wide16 .result) (c .before .before .before .before .before .before .before .before .before .before .before .before .before .before .before .before .before .wide16 .ensures .0) (sym (c .before .before .before .before .before .before .before .before .before .before .before .runs-at .given .1) ∙ c .before .before .before .before .before .before .before .before .before .before .before .before .before .constants-right .ensures .0 .told)) .cs) (c .before .before .before .before .before .before .before .before .before .before .before .runs-at .given .0 .0) (ap (λ (m : ℕ). many m (read-constant (c .before .before .before .before .before .before .before .before .before .before .before .before .before .before .before .before .before .before .before .before .before .before .before .before .args .s .now)) (c .before .before .before .before .before .before .before .before .before .before .before .before .before .before .before .before .before .before .before .before .before .before .before .before .args .at + 17)) (c .before .before .before .before .before .before .before .before .before .before .before .before .before .before .before .before .before .wide16 .ensures .0) ∙ (constants-are (c .before .before .before .before .before .before .before .before .before .before .before .before .before .before .before .before .before .before .before .before .before .before .before .before .args .s .now) (c .before .before .before .before .before .before .before .before .before .before .before .before .before .before .before .before .before .before .before .before .before .before .before .before .args .k) (c .before .before .before .before .before .before .before .before .before .before .before .before .before .before .before .before .before .before .before .before .before .before .before .before .args .at) (c .before .before .before .before .before .before .before .before .before .before .before .before .before .before .before .before .before .before .before .h .given .0 .0) (sym (c .before .before .before .before .before .before .before .before .before .before .before .before .before .before .before .before .before .before .before .h .given .1) ∙ c .before .before .before .before .before .before .before .before .before .before .before .before .before .before .before .before .before .before .before .before .before .head-of .ensures) (earlier-number (c .before .before .before .before .before .before .before .before .before .before .before .before .before .before .before .before .before .before .before .before .before .before .before .before .args .s .now) (c .before .before .before .before .before .before .before .before .before .before .before .before .before .before .before .before .before .before .before .before .before .before .before .before .args .k) (c .before .before .before .before .before .before .before .before .before .before .before .before .before .before .before .before .before .before .before .before .before .before .before .before .pre .0 .1 .there)) (c .before .before .before .before .before .before .before .before .before .before .before .runs-at .given .0 .0) (c .before .before .before .before .before .before .before .before .before .before .before .before .before .before .before .before .before .wide16 .result) (c .before .before .before .before .before .before .before .before .before .before .before .before .before .before .before .before .before .wide16 .ensures .0) (sym (c .before .before .before .before .before .before .before .before .before .before .before .runs-at .given .1) ∙ c .before .before .before .before .before .before .before .before .before .before .before .before .before .constants-right .ensures .0 .told)) .are) (c .before .before .before .before .before .before .before .before .before .before .before .runs-at .given .1)) (c .code-right .result) (c .before .before .before .before .wide322 .result) (c .before .before .before .wide162 .result) (c .before .before .before .before .wide322 .ensures .0) (c .before .before .before .wide162 .ensures .0) (c .code-right .ensures .0) (c .code-right .ensures .1 .0), (c .before .before .before .before .before .before .before .before .before .before .before .before .before .constants-right .ensures .1 .0, (c .before .before .before .before .before .before .before .before .before .before .before .before .before .constants-right .ensures .1 .1, c .code-right .ensures .1 .1)))
 
 pub function-spec : {M : Type 1} → statement M
 function-spec =

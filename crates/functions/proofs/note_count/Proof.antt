@@ -20,19 +20,22 @@ enum-told : tie.Need-enum-told
 enum-told c = search needs
 
 returns : tie.Need-returns
-returns c = note-headless (c .before .before .before .before .args .s .now) (c .before .before .before .before .args .k) (c .before .before .before .before .args .at) (c .before .before .before .before .args .counts .now) (c .before .before .before .before .pre .0) (c .before .before .before .before .pre .1) (sym (c .enum-told .given .1) ∙ c .before .before .head-of .ensures)
+returns c = note-headless (c .before .before .before .before .before .args .s .now) (c .before .before .before .before .before .args .k) (c .before .before .before .before .before .args .at) (c .before .before .before .before .before .args .counts .now) (c .before .before .before .before .before .pre .0) (c .before .before .before .before .before .pre .1) (sym (c .enum-told .given .1) ∙ c .before .before .head-of .ensures)
 
 mul-counts : tie.Need-mul-counts
 mul-counts c = search needs
 
-element-write-counts : tie.Need-element-write-counts
-element-write-counts c = search needs
+slice-write-counts : tie.Need-slice-write-counts
+slice-write-counts c = search needs
+
+same-length : tie.Need-same-length
+same-length c = search needs
 
 returns-2 : tie.Need-returns-2
-returns-2 c = note-set (c .before .before .before .before .before .before .args .s .now) (c .before .before .before .before .before .before .args .k) (c .before .before .before .before .before .before .args .at) (c .before .before .before .before .before .before .args .counts .now) (c .before .before .before .before .before .before .pre .0) (c .before .before .before .before .before .before .pre .1) (c .before .before .h .given .0 .0) (sym (c .before .before .h .given .1) ∙ c .before .before .before .before .head-of .ensures) (c .if1 .taken)
+returns-2 c = note-set (c .before .before .before .before .before .before .before .args .s .now) (c .before .before .before .before .before .before .before .args .k) (c .before .before .before .before .before .before .before .args .at) (c .before .before .before .before .before .before .before .args .counts .now) (c .before .before .before .before .before .before .before .pre .0) (c .before .before .before .before .before .before .before .pre .1) (c .before .before .h .given .0 .0) (sym (c .before .before .h .given .1) ∙ c .before .before .before .before .head-of .ensures) (c .if1 .taken)
 
 returns-3 : tie.Need-returns-3
-returns-3 c = note-past (c .before .before .before .before .before .before .args .s .now) (c .before .before .before .before .before .before .args .k) (c .before .before .before .before .before .before .args .at) (c .before .before .before .before .before .before .args .counts .now) (c .before .before .before .before .before .before .pre .0) (c .before .before .before .before .before .before .pre .1) (c .if1 .left)
+returns-3 c = note-past (c .before .before .before .before .before .before .before .args .s .now) (c .before .before .before .before .before .before .before .args .k) (c .before .before .before .before .before .before .before .args .at) (c .before .before .before .before .before .before .before .args .counts .now) (c .before .before .before .before .before .before .before .pre .0) (c .before .before .before .before .before .before .before .pre .1) (c .if1 .left)
 
 pub note-count-spec : {M : Type 1} → statement M
 note-count-spec =
@@ -43,6 +46,7 @@ note-count-spec =
     enum-told
     returns
     mul-counts
-    element-write-counts
+    slice-write-counts
+    same-length
     returns-2
     returns-3)

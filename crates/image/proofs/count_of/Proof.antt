@@ -5,7 +5,7 @@ use mathlib.Core.Path.{_≡_, refl, sym, _∙_, ap}
 use mathlib.Core.Bool.{true, false}
 use lib.ListN.{length, getD}
 use borrow.Author.Tests.{not-true, not-false, leb-true, leb-false}
-use Rattle.image.proofs.Whole.{no-room, no-mark, no-functions, answered-no, all-read, answered-unnamed, answered-yes, blank-size}
+use Rattle.image.proofs.Whole.{no-room, no-mark, no-functions, answered-no, all-read, answered-unnamed, answered-yes}
 use borrow.Author.Needs.{needs}
 use Rattle.image.proofs.count_of.Statement.{statement}
 use Rattle.image.proofs.count_of.Tie as tie
@@ -31,8 +31,8 @@ wide32-requires c κs = search needs
 returns-3 : tie.Need-returns-3
 returns-3 c = no-functions (c .before .before .before .before .before .before .before .before .args .image .now) (leb-true 6 (length (c .before .before .before .before .before .before .before .before .args .image .now)) (sym (c .before .before .before .before .before .before .has .ensures) ∙ not-false (c .before .before .before .before .before .before .has .result) (c .before .before .before .before .before .if1 .left))) (sym (c .before .before .before .before .mark-at .ensures) ∙ c .before .before .before .if2 .left) (c .before .wide32 .result) (c .before .wide32 .ensures .0 ∙ c .before .before .u32-at .ensures) (c .if3 .taken)
 
-judge-all-requires : tie.Need-judge-all-requires
-judge-all-requires c κs = ((c .before .before .before .before .before .wide32 .ensures .1, ((leb-true 6 (length (c .before .before .before .before .before .before .before .before .before .before .before .before .args .image .now)) (sym (c .before .before .before .before .before .before .before .before .before .before .has .ensures) ∙ not-false (c .before .before .before .before .before .before .before .before .before .before .has .result) (c .before .before .before .before .before .before .before .before .before .if1 .left))), blank-size 65536)), (blank-size 65536, (blank-size 65536, blank-size 131072)))
+judge-requires : tie.Need-judge-requires
+judge-requires c κs = (c .before .wide32 .ensures .1, leb-true 6 (length (c .before .before .before .before .before .before .before .before .args .image .now)) (sym (c .before .before .before .before .before .before .has .ensures) ∙ not-false (c .before .before .before .before .before .before .has .result) (c .before .before .before .before .before .if1 .left)))
 
 enum-known-n : tie.Need-enum-known-n
 enum-known-n c = search needs
@@ -41,16 +41,16 @@ enum-told : tie.Need-enum-told
 enum-told c = search needs
 
 returns-4 : tie.Need-returns-4
-returns-4 c = answered-no (c .before .before .before .before .before .before .before .before .before .before .before .before .before .before .before .args .image .now) (leb-true 6 (length (c .before .before .before .before .before .before .before .before .before .before .before .before .before .before .before .args .image .now)) (sym (c .before .before .before .before .before .before .before .before .before .before .before .before .before .has .ensures) ∙ not-false (c .before .before .before .before .before .before .before .before .before .before .before .before .before .has .result) (c .before .before .before .before .before .before .before .before .before .before .before .before .if1 .left))) (sym (c .before .before .before .before .before .before .before .before .before .before .before .mark-at .ensures) ∙ c .before .before .before .before .before .before .before .before .before .before .if2 .left) (c .before .before .before .before .before .before .before .before .wide32 .result) (c .before .before .before .before .before .before .before .before .wide32 .ensures .0 ∙ c .before .before .before .before .before .before .before .before .before .u32-at .ensures) (omega (arith, c .before .before .before .before .before .before .before .if3 .left)) (λ i. omega (arith, c .before .before .before .before .before .before .before .before .before .before .before .before .before .before .shared-slice-known .given i)) (sym (c .enum-told .given .1) ∙ c .before .before .judge-all .ensures)
+returns-4 c = answered-no (c .before .before .before .before .before .before .before .before .before .before .before .args .image .now) (leb-true 6 (length (c .before .before .before .before .before .before .before .before .before .before .before .args .image .now)) (sym (c .before .before .before .before .before .before .before .before .before .has .ensures) ∙ not-false (c .before .before .before .before .before .before .before .before .before .has .result) (c .before .before .before .before .before .before .before .before .if1 .left))) (sym (c .before .before .before .before .before .before .before .mark-at .ensures) ∙ c .before .before .before .before .before .before .if2 .left) (c .before .before .before .before .wide32 .result) (c .before .before .before .before .wide32 .ensures .0 ∙ c .before .before .before .before .before .u32-at .ensures) (omega (arith, c .before .before .before .if3 .left)) (λ i. omega (arith, c .before .before .before .before .before .before .before .before .before .before .shared-slice-known .given i)) (sym (c .enum-told .given .1) ∙ c .before .before .judge .ensures)
 
 all-named-once-requires : tie.Need-all-named-once-requires
-all-named-once-requires c κs = ((omega (arith, c .before .before .before .before .before .before .before .before .if3 .left)), all-read (c .before .before .before .before .before .before .before .before .before .before .before .before .before .before .before .before .args .image .now) (leb-true 6 (length (c .before .before .before .before .before .before .before .before .before .before .before .before .before .before .before .before .args .image .now)) (sym (c .before .before .before .before .before .before .before .before .before .before .before .before .before .before .has .ensures) ∙ not-false (c .before .before .before .before .before .before .before .before .before .before .before .before .before .before .has .result) (c .before .before .before .before .before .before .before .before .before .before .before .before .before .if1 .left))) (sym (c .before .before .before .before .before .before .before .before .before .before .before .before .mark-at .ensures) ∙ c .before .before .before .before .before .before .before .before .before .before .before .if2 .left) (c .before .before .before .before .before .before .before .before .before .wide32 .result) (c .before .before .before .before .before .before .before .before .before .wide32 .ensures .0 ∙ c .before .before .before .before .before .before .before .before .before .before .u32-at .ensures) (omega (arith, c .before .before .before .before .before .before .before .before .if3 .left)) (λ i. omega (arith, c .before .before .before .before .before .before .before .before .before .before .before .before .before .before .before .shared-slice-known .given i)) (c .before .n .given .0 .0) (sym (c .before .n .given .1) ∙ c .before .before .before .judge-all .ensures))
+all-named-once-requires c κs = ((omega (arith, c .before .before .before .before .if3 .left)), all-read (c .before .before .before .before .before .before .before .before .before .before .before .before .args .image .now) (leb-true 6 (length (c .before .before .before .before .before .before .before .before .before .before .before .before .args .image .now)) (sym (c .before .before .before .before .before .before .before .before .before .before .has .ensures) ∙ not-false (c .before .before .before .before .before .before .before .before .before .before .has .result) (c .before .before .before .before .before .before .before .before .before .if1 .left))) (sym (c .before .before .before .before .before .before .before .before .mark-at .ensures) ∙ c .before .before .before .before .before .before .before .if2 .left) (c .before .before .before .before .before .wide32 .result) (c .before .before .before .before .before .wide32 .ensures .0 ∙ c .before .before .before .before .before .before .u32-at .ensures) (omega (arith, c .before .before .before .before .if3 .left)) (λ i. omega (arith, c .before .before .before .before .before .before .before .before .before .before .before .shared-slice-known .given i)) (c .before .n .given .0 .0) (sym (c .before .n .given .1) ∙ c .before .before .before .judge .ensures))
 
 returns-5 : tie.Need-returns-5
-returns-5 c = answered-yes (c .before .before .before .before .before .before .before .before .before .before .before .before .before .before .before .before .before .before .args .image .now) (leb-true 6 (length (c .before .before .before .before .before .before .before .before .before .before .before .before .before .before .before .before .before .before .args .image .now)) (sym (c .before .before .before .before .before .before .before .before .before .before .before .before .before .before .before .before .has .ensures) ∙ not-false (c .before .before .before .before .before .before .before .before .before .before .before .before .before .before .before .before .has .result) (c .before .before .before .before .before .before .before .before .before .before .before .before .before .before .before .if1 .left))) (sym (c .before .before .before .before .before .before .before .before .before .before .before .before .before .before .mark-at .ensures) ∙ c .before .before .before .before .before .before .before .before .before .before .before .before .before .if2 .left) (c .before .before .before .before .before .before .before .before .before .before .before .wide32 .result) (c .before .before .before .before .before .before .before .before .before .before .before .wide32 .ensures .0 ∙ c .before .before .before .before .before .before .before .before .before .before .before .before .u32-at .ensures) (omega (arith, c .before .before .before .before .before .before .before .before .before .before .if3 .left)) (λ i. omega (arith, c .before .before .before .before .before .before .before .before .before .before .before .before .before .before .before .before .before .shared-slice-known .given i)) (c .before .before .before .n .given .0 .0) (sym (c .before .before .before .n .given .1) ∙ c .before .before .before .before .before .judge-all .ensures) (sym (c .if4 .taken) ∙ c .before .all-named-once .ensures)
+returns-5 c = answered-yes (c .before .before .before .before .before .before .before .before .before .before .before .before .before .before .args .image .now) (leb-true 6 (length (c .before .before .before .before .before .before .before .before .before .before .before .before .before .before .args .image .now)) (sym (c .before .before .before .before .before .before .before .before .before .before .before .before .has .ensures) ∙ not-false (c .before .before .before .before .before .before .before .before .before .before .before .before .has .result) (c .before .before .before .before .before .before .before .before .before .before .before .if1 .left))) (sym (c .before .before .before .before .before .before .before .before .before .before .mark-at .ensures) ∙ c .before .before .before .before .before .before .before .before .before .if2 .left) (c .before .before .before .before .before .before .before .wide32 .result) (c .before .before .before .before .before .before .before .wide32 .ensures .0 ∙ c .before .before .before .before .before .before .before .before .u32-at .ensures) (omega (arith, c .before .before .before .before .before .before .if3 .left)) (λ i. omega (arith, c .before .before .before .before .before .before .before .before .before .before .before .before .before .shared-slice-known .given i)) (c .before .before .before .n .given .0 .0) (sym (c .before .before .before .n .given .1) ∙ c .before .before .before .before .before .judge .ensures) (sym (c .if4 .taken) ∙ c .before .all-named-once .ensures)
 
 returns-6 : tie.Need-returns-6
-returns-6 c = answered-unnamed (c .before .before .before .before .before .before .before .before .before .before .before .before .before .before .before .before .before .before .args .image .now) (leb-true 6 (length (c .before .before .before .before .before .before .before .before .before .before .before .before .before .before .before .before .before .before .args .image .now)) (sym (c .before .before .before .before .before .before .before .before .before .before .before .before .before .before .before .before .has .ensures) ∙ not-false (c .before .before .before .before .before .before .before .before .before .before .before .before .before .before .before .before .has .result) (c .before .before .before .before .before .before .before .before .before .before .before .before .before .before .before .if1 .left))) (sym (c .before .before .before .before .before .before .before .before .before .before .before .before .before .before .mark-at .ensures) ∙ c .before .before .before .before .before .before .before .before .before .before .before .before .before .if2 .left) (c .before .before .before .before .before .before .before .before .before .before .before .wide32 .result) (c .before .before .before .before .before .before .before .before .before .before .before .wide32 .ensures .0 ∙ c .before .before .before .before .before .before .before .before .before .before .before .before .u32-at .ensures) (omega (arith, c .before .before .before .before .before .before .before .before .before .before .if3 .left)) (λ i. omega (arith, c .before .before .before .before .before .before .before .before .before .before .before .before .before .before .before .before .before .shared-slice-known .given i)) (c .before .before .before .n .given .0 .0) (sym (c .before .before .before .n .given .1) ∙ c .before .before .before .before .before .judge-all .ensures) (sym (c .if4 .left) ∙ c .before .all-named-once .ensures)
+returns-6 c = answered-unnamed (c .before .before .before .before .before .before .before .before .before .before .before .before .before .before .args .image .now) (leb-true 6 (length (c .before .before .before .before .before .before .before .before .before .before .before .before .before .before .args .image .now)) (sym (c .before .before .before .before .before .before .before .before .before .before .before .before .has .ensures) ∙ not-false (c .before .before .before .before .before .before .before .before .before .before .before .before .has .result) (c .before .before .before .before .before .before .before .before .before .before .before .if1 .left))) (sym (c .before .before .before .before .before .before .before .before .before .before .mark-at .ensures) ∙ c .before .before .before .before .before .before .before .before .before .if2 .left) (c .before .before .before .before .before .before .before .wide32 .result) (c .before .before .before .before .before .before .before .wide32 .ensures .0 ∙ c .before .before .before .before .before .before .before .before .u32-at .ensures) (omega (arith, c .before .before .before .before .before .before .if3 .left)) (λ i. omega (arith, c .before .before .before .before .before .before .before .before .before .before .before .before .before .shared-slice-known .given i)) (c .before .before .before .n .given .0 .0) (sym (c .before .before .before .n .given .1) ∙ c .before .before .before .before .before .judge .ensures) (sym (c .if4 .left) ∙ c .before .all-named-once .ensures)
 
 pub count-of-spec : {M : Type 1} → statement M
 count-of-spec =
@@ -63,7 +63,7 @@ count-of-spec =
     u32-at-requires
     wide32-requires
     returns-3
-    judge-all-requires
+    judge-requires
     enum-known-n
     enum-told
     returns-4
