@@ -76,8 +76,7 @@ static void read_all(source *in, FILE *out) {
     }
 }
 
-#ifdef PUFFBRAMBLE_COMPILE
-enum { TABLE_WORDS = 17412, CODE_BYTES = 262144, SPAN_WORDS = 786432 };
+enum { TABLE_WORDS = PB_TABLE_WORDS, CODE_BYTES = 262144, SPAN_WORDS = 786432 };
 
 typedef struct {
     uint64_t *table;
@@ -96,9 +95,11 @@ static int all_zero(const void *memory, size_t bytes) {
 static void compile_one(source *in, FILE *out, areas *a) {
     size_t code = take_u32(in), spans = take_u32(in), room = take_u32(in), length = take_u32(in);
     const uint8_t *tree = take(in, length);
-    if (code > CODE_BYTES) code = CODE_BYTES;
-    if (spans > SPAN_WORDS) spans = SPAN_WORDS;
-    if (room == PLENTY) room = 17 * length + 64;
+    // Plenty is what the header names for a file of this length: filling and clearing more would take longer than most trees do.
+    if (code == PLENTY) code = PB_CODE_BYTES(length);
+    if (spans == PLENTY) spans = PB_SPAN_WORDS(length);
+    if (room == PLENTY) room = PB_OUTPUT_BYTES(length);
+    if (code > CODE_BYTES || spans > SPAN_WORDS) die("a case lends more than 262,144 code bytes or 786,432 span words");
     if (room > a->out_room) free(a->out), a->out = lent(room), a->out_room = room;
     memset(a->table, 0xA5, 8 * TABLE_WORDS), memset(a->code, 0xA5, code), memset(a->spans, 0xA5, 4 * spans), memset(a->out, 0xA5, room);
     pb_answer r = puffbramble_compile(tree, length, a->out, room, a->table, TABLE_WORDS, a->code, code, a->spans, spans);
@@ -112,12 +113,6 @@ static void compile_all(source *in, FILE *out) {
     areas a = {lent(8 * TABLE_WORDS), lent(CODE_BYTES), lent(4 * SPAN_WORDS), lent(64), 64};
     while (in->at < in->length) compile_one(in, out, &a);
 }
-#else
-static void compile_all(source *in, FILE *out) {
-    (void)in, (void)out;
-    die("there is no compiler yet: --images and --read only");
-}
-#endif
 
 int main(int argc, char **argv) {
     void (*all)(source *, FILE *) = compile_all;

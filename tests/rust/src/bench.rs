@@ -11,12 +11,12 @@ use crate::scripts::SCRIPTS;
 
 /// The C entry's answer; include/puffbramble.h says what the fields are.
 #[repr(C)]
-struct Answer {
-    number: u64,
-    at: u64,
-    end: u64,
-    name: u64,
-    length: u64,
+pub struct Answer {
+    pub number: u64,
+    pub at: u64,
+    pub end: u64,
+    pub name: u64,
+    pub length: u64,
 }
 
 #[link(name = "c_entry", kind = "static")]
@@ -27,11 +27,11 @@ extern "C" {
 
 const ROUNDS: usize = 200;
 /// A round goes on for about so many bytes, so that a clock's step does not show.
-const ROUND_BYTES: usize = 400_000;
-const BAR: f64 = 0.5;
+pub const ROUND_BYTES: usize = 400_000;
+pub const BAR: f64 = 0.5;
 
 /// Seconds that one call takes: `calls` in a row, what they give dropped after the clock has stopped.
-fn timed<T>(calls: usize, mut call: impl FnMut() -> T) -> f64 {
+pub fn timed<T>(calls: usize, mut call: impl FnMut() -> T) -> f64 {
     let mut kept = Vec::with_capacity(calls);
     let start = Instant::now();
     for _ in 0..calls {
