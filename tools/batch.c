@@ -76,39 +76,48 @@ static void read_all(source *in, FILE *out) {
     }
 }
 
-enum { TABLE_WORDS = 17412, CODE_BYTES = 262144, SPAN_WORDS = 786432 };
+/* Memory that is lent again and again, and made larger where a case lends more. */
+typedef struct {
+    void *memory;
+    size_t bytes;
+} area;
 
 typedef struct {
-    uint64_t *table;
-    uint8_t *code;
-    uint32_t *spans;
-    uint8_t *out;
-    size_t out_room;
+    area out, table, code, spans;
 } areas;
+
+/* So many bytes of an area, all of them something else than zero. */
+static void *filled(area *a, size_t bytes) {
+    if (a->memory == NULL || bytes > a->bytes) free(a->memory), a->memory = lent(bytes), a->bytes = bytes;
+    return memset(a->memory, 0xA5, bytes);
+}
 
 static int all_zero(const void *memory, size_t bytes) {
     const uint8_t *b = memory;
     return bytes == 0 || (b[0] == 0 && memcmp(b, b + 1, bytes - 1) == 0);
 }
 
-/* One case. The areas hold something before the call, and what they hold after it is looked at. */
+/* One case. The areas hold something before the call, and what they hold after it is looked at. Plenty is what the header names for a file of
+ * this length: filling and clearing more would take longer than most trees do. */
 static void compile_one(source *in, FILE *out, areas *a) {
     size_t code = take_u32(in), spans = take_u32(in), room = take_u32(in), length = take_u32(in);
     const uint8_t *tree = take(in, length);
-    if (code > CODE_BYTES) code = CODE_BYTES;
-    if (spans > SPAN_WORDS) spans = SPAN_WORDS;
-    if (room == PLENTY) room = 17 * length + 64;
-    if (room > a->out_room) free(a->out), a->out = lent(room), a->out_room = room;
-    memset(a->table, 0xA5, 8 * TABLE_WORDS), memset(a->code, 0xA5, code), memset(a->spans, 0xA5, 4 * spans), memset(a->out, 0xA5, room);
-    pb_answer r = puffbramble_compile(tree, length, a->out, room, a->table, TABLE_WORDS, a->code, code, a->spans, spans);
-    if (!all_zero(a->table, 8 * TABLE_WORDS) || !all_zero(a->code, code) || !all_zero(a->spans, 4 * spans)) die("a work area is not left zero");
+    if (code == PLENTY) code = PB_CODE_BYTES(length);
+    if (spans == PLENTY) spans = PB_SPAN_WORDS(length);
+    if (room == PLENTY) room = PB_OUTPUT_BYTES(length);
+    size_t table_bytes = 8 * PB_TABLE_WORDS, span_bytes = 4 * spans;
+    uint8_t *o = filled(&a->out, room), *c = filled(&a->code, code);
+    uint64_t *t = filled(&a->table, table_bytes);
+    uint32_t *s = filled(&a->spans, span_bytes);
+    pb_answer r = puffbramble_compile(tree, length, o, room, t, PB_TABLE_WORDS, c, code, s, spans);
+    if (!all_zero(t, table_bytes) || !all_zero(c, code) || !all_zero(s, span_bytes)) die("a work area is not left zero");
     size_t image = r.number == 0 ? r.length : 0;
-    if (image > room || !all_zero(a->out + image, room - image)) die("the output behind the image is not left zero");
-    put_answer(out, r, a->out, image);
+    if (image > room || !all_zero(o + image, room - image)) die("the output behind the image is not left zero");
+    put_answer(out, r, o, image);
 }
 
 static void compile_all(source *in, FILE *out) {
-    areas a = {lent(8 * TABLE_WORDS), lent(CODE_BYTES), lent(4 * SPAN_WORDS), lent(64), 64};
+    areas a = {0};
     while (in->at < in->length) compile_one(in, out, &a);
 }
 

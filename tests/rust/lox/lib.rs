@@ -128,11 +128,23 @@ pub fn decode(tree: &[u8]) -> Result<Decoded, Refusal> {
     reader::read::<false>(tree).map(Decoded)
 }
 
+/// What one run gives, with what the compiler allocated for it: a clock can be stopped before that is dropped.
+pub struct Kept {
+    pub run: Run,
+    #[allow(dead_code)]
+    owned: Option<(Gc, Names)>,
+}
+
 /// Reads a tree file and compiles it. `limit` is the code limit; the crate that does not count takes no notice of it.
 pub fn run(tree: &[u8], limit: usize) -> Run {
+    run_kept(tree, limit).run
+}
+
+/// The same, with nothing dropped that the caller could drop later.
+pub fn run_kept(tree: &[u8], limit: usize) -> Kept {
     let file = match reader::read::<false>(tree) {
         Ok(file) => file,
-        Err(refusal) => return Run { image: Err(refusal), peak: 0 },
+        Err(refusal) => return Kept { run: Run { image: Err(refusal), peak: 0 }, owned: None },
     };
     syntax::lay_down(file.program);
     // Outlives an unwinding call: it owns what the compiler allocates.
@@ -143,7 +155,7 @@ pub fn run(tree: &[u8], limit: usize) -> Run {
         Some(Err(errors)) => Err(refusal(&errors[0], &file.names)),
         None => Err([30, 0, 0, 0]),
     };
-    Run { image, peak }
+    Kept { run: Run { image, peak }, owned: Some((gc, file.names)) }
 }
 
 /// The number, span and name of one of the Rust's errors.

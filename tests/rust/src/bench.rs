@@ -2,7 +2,6 @@
 //! Built by `bench` with the archive of `rt staticlib c_entry` and without the checks that the other commands run with.
 
 use std::hint::black_box;
-use std::time::Instant;
 
 use crate::check;
 use crate::examples::{every_kind, examples};
@@ -11,12 +10,12 @@ use crate::scripts::SCRIPTS;
 
 /// The C entry's answer; include/puffbramble.h says what the fields are.
 #[repr(C)]
-struct Answer {
-    number: u64,
-    at: u64,
-    end: u64,
-    name: u64,
-    length: u64,
+pub struct Answer {
+    pub number: u64,
+    pub at: u64,
+    pub end: u64,
+    pub name: u64,
+    pub length: u64,
 }
 
 #[link(name = "c_entry", kind = "static")]
@@ -27,17 +26,30 @@ extern "C" {
 
 const ROUNDS: usize = 200;
 /// A round goes on for about so many bytes, so that a clock's step does not show.
-const ROUND_BYTES: usize = 400_000;
-const BAR: f64 = 0.5;
+pub const ROUND_BYTES: usize = 400_000;
+pub const BAR: f64 = 0.5;
+
+extern "C" {
+    /// The C library's: seconds and nanoseconds of a clock.
+    fn clock_gettime(clock: i32, time: *mut [i64; 2]) -> i32;
+}
+
+/// The processor time of this thread in seconds: what else the machine does meanwhile is not in it.
+fn now() -> f64 {
+    const THREAD_CPUTIME: i32 = 3;
+    let mut time = [0; 2];
+    assert_eq!(unsafe { clock_gettime(THREAD_CPUTIME, &mut time) }, 0);
+    time[0] as f64 + time[1] as f64 * 1e-9
+}
 
 /// Seconds that one call takes: `calls` in a row, what they give dropped after the clock has stopped.
-fn timed<T>(calls: usize, mut call: impl FnMut() -> T) -> f64 {
+pub fn timed<T>(calls: usize, mut call: impl FnMut() -> T) -> f64 {
     let mut kept = Vec::with_capacity(calls);
-    let start = Instant::now();
+    let start = now();
     for _ in 0..calls {
         kept.push(call());
     }
-    let seconds = start.elapsed().as_secs_f64();
+    let seconds = now() - start;
     black_box(kept);
     seconds / calls as f64
 }

@@ -7,7 +7,7 @@ use crate::limits;
 use crate::random::{nested, random_tree, Rng};
 use crate::small::Small;
 
-pub const KINDS: &str = "random damaged small truncated flipped budget limits";
+pub const KINDS: &str = "random damaged small truncated flipped budget limits edges";
 
 /// So many cases of a kind, none with a tree longer than `most`; fewer where the kind has no more.
 pub fn generate(kind: &str, seed: u64, count: usize, most: usize) -> Option<Vec<Case>> {
@@ -22,6 +22,7 @@ pub fn generate(kind: &str, seed: u64, count: usize, most: usize) -> Option<Vec<
         "small" => Small::new().map(Case::plenty).step_by(stride).filter(fits).take(count).collect(),
         "truncated" => truncated().step_by(stride).filter(fits).take(count).collect(),
         "flipped" => flipped().step_by(stride).filter(fits).take(count).collect(),
+        "edges" => edges(&mut rng).into_iter().filter(fits).take(count).collect(),
         "limits" => limits::limits().into_iter().map(|limit| limit.case).filter(fits).take(count).collect(),
         _ => return None,
     })
@@ -138,6 +139,11 @@ fn flipped() -> impl Iterator<Item = Case> {
 fn budget(rng: &mut Rng, most: usize) -> Vec<Case> {
     let Case { tree, .. } = random(rng, most);
     budgets(rng, tree)
+}
+
+/// The limits' trees with room just below, at and above each of their needs.
+fn edges(rng: &mut Rng) -> Vec<Case> {
+    limits::limits().into_iter().flat_map(|limit| budgets(rng, limit.case.tree)).collect()
 }
 
 /// Whether accepted or refused, the need of code is the most that was open until then.

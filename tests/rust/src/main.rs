@@ -3,6 +3,8 @@
 mod answer;
 #[cfg(feature = "archive")]
 mod bench;
+#[cfg(feature = "archive")]
+mod bench_compiler;
 mod checker;
 mod compare;
 mod examples;
@@ -100,6 +102,8 @@ fn run(args: &[&str]) -> io::Result<bool> {
         ["bench", "trees"] => bench::trees(),
         #[cfg(feature = "archive")]
         ["bench", "images"] => bench::images(),
+        #[cfg(feature = "archive")]
+        ["bench", "compile"] => bench_compiler::compile(),
         _ => return Ok(false),
     }
     Ok(true)
