@@ -99,10 +99,10 @@ module _ (w base : ℕ) (seen : List ℕ) (c : Capped seen) where
   abbrev more : ℕ → ℕ
   more = names-one (constant-of w)
 
-  unchanged : ((i : ℕ) → i < 65536 → more (base + i) ≡ 0) → Noted base more seen seen
+  unchanged : ((i : ℕ) → i < length seen → more (base + i) ≡ 0) → Noted base more seen seen
   unchanged z =
       record {
-        size = c .size;
+        size = refl;
         counts = λ i h. (let e : getD seen i 0 + more (base + i) ≡ getD seen i 0 = (let y = z i h in omega arith) in sym (ap cap e ∙ cap-low (getD seen i 0) (c .low i h)));
       }
 
@@ -113,10 +113,10 @@ module _ (w base : ℕ) (seen : List ℕ) (c : Capped seen) where
     pub note-below : w / 4 < base → Noted base more seen seen
     note-below h = unchanged (λ i l. names-other w (base + i) e (λ q. omega arith))
 
-    pub note-above : (slot : ℕ) → w / 4 ≡ base + slot → 65536 ≤ slot → Noted base more seen seen
+    pub note-above : (slot : ℕ) → w / 4 ≡ base + slot → length seen ≤ slot → Noted base more seen seen
     note-above slot q h = unchanged (λ i l. names-other w (base + i) e (λ z. omega arith))
 
-    module _ (slot : ℕ) (is-slot : w / 4 ≡ base + slot) (small : slot < 65536) where
+    module _ (slot : ℕ) (is-slot : w / 4 ≡ base + slot) (small : slot < length seen) where
       other-slot : (i : ℕ) → (i ≡ slot → ⊥) → more (base + i) ≡ 0
       other-slot i n = names-other w (base + i) e (λ z. n (omega arith))
 
@@ -125,9 +125,9 @@ module _ (w base : ℕ) (seen : List ℕ) (c : Capped seen) where
 
       pub note-full : 2 ≤ getD seen slot 0 → Noted base more seen seen
       note-full h =
-          record { size = c .size; counts = λ i l. by i l (eqb i slot) refl }
+          record { size = refl; counts = λ i l. by i l (eqb i slot) refl }
         where
-          by : (i : ℕ) → i < 65536 → (t : Bool) → eqb i slot ≡ t → getD seen i 0 ≡ cap (getD seen i 0 + more (base + i))
+          by : (i : ℕ) → i < length seen → (t : Bool) → eqb i slot ≡ t → getD seen i 0 ≡ cap (getD seen i 0 + more (base + i))
           by i l true f =
               let q : i ≡ slot = eqb-true _ _ f in
               let v : getD seen i 0 ≡ getD seen slot 0 = ap (λ (m : ℕ). getD seen m 0) q in
@@ -140,15 +140,15 @@ module _ (w base : ℕ) (seen : List ℕ) (c : Capped seen) where
               sym (ap cap y ∙ cap-low _ (c .low i l))
 
       pub note-more : getD seen slot 0 < 2 → Noted base more seen (set seen slot (getD seen slot 0 + 1))
-      note-more h = record { size = length-set seen slot _ ∙ c .size; counts = λ i l. by i l (eqb i slot) refl }
+      note-more h = record { size = length-set seen slot _; counts = λ i l. by i l (eqb i slot) refl }
         where
-          by : (i : ℕ) → i < 65536 → (t : Bool) → eqb i slot ≡ t → getD (set seen slot (getD seen slot 0 + 1)) i 0 ≡ cap (getD seen i 0 + more (base + i))
+          by : (i : ℕ) → i < length seen → (t : Bool) → eqb i slot ≡ t → getD (set seen slot (getD seen slot 0 + 1)) i 0 ≡ cap (getD seen i 0 + more (base + i))
           by i l true f =
               let q : i ≡ slot = eqb-true _ _ f in
               let z = this-slot i q in
               let v : getD seen i 0 ≡ getD seen slot 0 = ap (λ (m : ℕ). getD seen m 0) q in
               let y : getD seen i 0 + more (base + i) ≡ getD seen slot 0 + 1 = omega arith in
-              ap (λ (m : ℕ). getD (set seen slot (getD seen slot 0 + 1)) m 0) q ∙ getD-set-same seen slot (getD seen slot 0 + 1) 0 (omega (arith, c .size)) ∙
+              ap (λ (m : ℕ). getD (set seen slot (getD seen slot 0 + 1)) m 0) q ∙ getD-set-same seen slot (getD seen slot 0 + 1) 0 small ∙
               sym (ap cap y ∙ cap-low _ (omega arith))
           by i l false f =
               let n : i ≡ slot → ⊥ = eqb-false _ _ f in
@@ -159,22 +159,23 @@ module _ (w base : ℕ) (seen : List ℕ) (c : Capped seen) where
 -- ## One after the other
 
 pub noted-capped : {base : ℕ} {more : ℕ → ℕ} (seen after : List ℕ) → Noted base more seen after → Capped after
-noted-capped seen after n = record { size = n .size; low = λ i h. (let e = n .counts i h in let l = cap-is (getD seen i 0 + _) in rw e l) }
+noted-capped seen after n = record { low = λ i h. (let e = n .counts i (omega (arith, n .size)) in let l = cap-is (getD seen i 0 + _) in rw e l) }
 
 pub noted-then : (base : ℕ) (a b more : ℕ → ℕ) (seen middle after : List ℕ) → Noted base a seen middle → Noted base b middle after
     → ((x : ℕ) → more x ≡ a x + b x) → Noted base more seen after
 noted-then base a b more seen middle after p q e =
     record {
-      size = q .size;
+      size = q .size ∙ p .size;
       counts =
-          λ i h. (let z : getD seen i 0 + a (base + i) + b (base + i) ≡ getD seen i 0 + more (base + i) = (let y = e (base + i) in omega arith) in
-          q .counts i h ∙ ap (λ (x : ℕ). cap (x + b (base + i))) (p .counts i h) ∙ cap-more (getD seen i 0 + a (base + i)) (b (base + i)) ∙ ap cap z);
+          λ i h. (let h′ : i < length middle = omega (arith, p .size) in
+          let z : getD seen i 0 + a (base + i) + b (base + i) ≡ getD seen i 0 + more (base + i) = (let y = e (base + i) in omega arith) in
+          q .counts i h′ ∙ ap (λ (x : ℕ). cap (x + b (base + i))) (p .counts i h) ∙ cap-more (getD seen i 0 + a (base + i)) (b (base + i)) ∙ ap cap z);
     }
 
 pub noted-none : (base : ℕ) (more : ℕ → ℕ) (seen : List ℕ) → Capped seen → ((x : ℕ) → more x ≡ 0) → Noted base more seen seen
 noted-none base more seen c e =
     record {
-      size = c .size;
+      size = refl;
       counts = λ i h. (let z : getD seen i 0 + more (base + i) ≡ getD seen i 0 = (let y = e (base + i) in omega arith) in sym (ap cap z ∙ cap-low _ (c .low i h)));
     }
 

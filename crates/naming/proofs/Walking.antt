@@ -5,7 +5,7 @@ use mathlib.Core.List.{List, [], _∷_, _++_}
 use Prim.Native.Nat.{ℕ, zero, suc, _+_, _-_, _<_, _≤_}
 use native.Mathlib.Omega.{arith}
 use native.Mathlib.Numerals.{add-one}
-use lib.ListN.{length, getD, replicate}
+use lib.ListN.{length, getD}
 use lib.Dec.{eqb}
 use Rattle.rules.specs.Base.{if_then_else_, all-below}
 use Rattle.rules.specs.Reader.{Read, got, bad, many}
@@ -25,7 +25,6 @@ use Rattle.constants.specs.Earlier.{functions-in, is-got, earlier}
 use Rattle.constants.proofs.Words.{constant-back}
 use Rattle.constants.proofs.Kinding.{Earlier-are, earlier-are, earlier-number}
 use Rattle.functions.proofs.All.{one-more, earlier-more}
-use Rattle.functions.proofs.One.{zeros}
 use Rattle.naming.specs.Noted.{cap, Capped, Noted, names-one, Constants-noted, Function-noted}
 use Rattle.naming.proofs.Counting.{noted-capped, noted-then, noted-none, names-more, all-more, cap-one}
 
@@ -178,19 +177,16 @@ module _ (s : List ℕ) (count base : ℕ) (first : List ℕ) (all-got : is-got 
 
 -- ## Blocks
 
-pub zeros-capped : Capped (replicate 65536 0)
-zeros-capped = record { size = size-of 65536; low = λ i h. (let z = zeros 65536 i in omega arith) }
-  where
-    size-of : (n : ℕ) → length {A = ℕ} (replicate n 0) ≡ n
-    size-of zero = refl
-    size-of (suc n) = ap suc (size-of n)
+module _ (first : List ℕ) (blank : (i : ℕ) → getD first i 0 ≡ 0) where
+  pub zeros-capped : Capped first
+  zeros-capped = record { low = λ i h. (let z = blank i in omega arith) }
 
-pub block-is : (base most : ℕ) (more : ℕ → ℕ) (seen : List ℕ) → most ≤ 65536 → Noted base more (replicate 65536 0) seen
-    → all-below most (λ (i : ℕ). eqb (getD seen i 0) 1) ≡ all-below most (λ (i : ℕ). eqb (more (base + i)) 1)
-block-is base most more seen h n =
-    below-same most _ _ (λ i l. let z = zeros 65536 i in
-    let e : getD (replicate 65536 0) i 0 + more (base + i) ≡ more (base + i) = omega arith in
-    ap (λ (x : ℕ). eqb x 1) (n .counts i (omega arith) ∙ ap cap e) ∙ cap-one (more (base + i)))
+  pub block-is : (base most : ℕ) (more : ℕ → ℕ) (seen : List ℕ) → most ≤ length first → Noted base more first seen
+      → all-below most (λ (i : ℕ). eqb (getD seen i 0) 1) ≡ all-below most (λ (i : ℕ). eqb (more (base + i)) 1)
+  block-is base most more seen h n =
+      below-same most _ _ (λ i l. let z = blank i in
+      let e : getD first i 0 + more (base + i) ≡ more (base + i) = omega arith in
+      ap (λ (x : ℕ). eqb x 1) (n .counts i (omega arith) ∙ ap cap e) ∙ cap-one (more (base + i)))
 
 either-false : (b : Bool) → (if b then false else false) ≡ false
 either-false true = refl

@@ -17,13 +17,12 @@ cap (suc zero) = 1
 cap (suc (suc n)) = 2
 
 pub record Capped (seen : List ℕ) : Type 0 where
-  pub size : length seen ≡ 65536
-  pub low : (i : ℕ) → i < 65536 → getD seen i 0 ≤ 2
+  pub low : (i : ℕ) → i < length seen → getD seen i 0 ≤ 2
 
 -- as often more as `more` says of each number from `base` on
 pub record Noted (base : ℕ) (more : (number : ℕ) → ℕ) (seen after : List ℕ) : Type 0 where
-  pub size : length after ≡ 65536
-  pub counts : (i : ℕ) → i < 65536 → getD after i 0 ≡ cap (getD seen i 0 + more (base + i))
+  pub size : length after ≡ length seen
+  pub counts : (i : ℕ) → i < length seen → getD after i 0 ≡ cap (getD seen i 0 + more (base + i))
 
 -- whether a constant names a function
 unfoldable pub names-one : Constant → (number : ℕ) → ℕ

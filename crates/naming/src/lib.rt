@@ -1,5 +1,5 @@
-// How often each function of an image is named by a constant. Counts stop at two, and stand in a table of 65,536: more functions are taken
-// in blocks of as many.
+// How often each function of an image is named by a constant. Counts stop at two, and stand in a table of up to 65,536: more functions are
+// taken in blocks of as many.
 
 ghost use mathlib.Core.Path.{_≡_};
 ghost use mathlib.Core.Bool.{Bool, true};
@@ -24,7 +24,7 @@ fn wide64(n: u64) -> usize
 }
 
 // One constant.
-fn note(word: u64, base: usize, seen: &mut [u8; 65536])
+fn note(word: u64, base: usize, seen: &mut [u8])
     requires { ⌜ Capped (now seen) ⌝ }
     ensures { λ r. ⌜ Noted base (names-one (constant-of word)) (now (seen .entry)) (now (seen .exit)) ⌝ }
 {
@@ -36,7 +36,7 @@ fn note(word: u64, base: usize, seen: &mut [u8; 65536])
         return;
     }
     let slot = number - base;
-    if slot >= 65536 {
+    if slot >= seen.len() {
         return;
     }
     let times = seen[slot];
@@ -46,7 +46,7 @@ fn note(word: u64, base: usize, seen: &mut [u8; 65536])
 }
 
 // The `n` constants from `begin` on.
-fn note_constants(s: &[u8], begin: usize, n: usize, base: usize, seen: &mut [u8; 65536]) -> Place
+fn note_constants(s: &[u8], begin: usize, n: usize, base: usize, seen: &mut [u8]) -> Place
     requires { ⌜ Capped (now seen) ⌝ }
     ensures { λ r. ⌜ Constants-noted (now (s .entry)) begin n base r (now (seen .entry)) (now (seen .exit)) ⌝ }
 {
@@ -64,7 +64,7 @@ fn note_constants(s: &[u8], begin: usize, n: usize, base: usize, seen: &mut [u8;
 }
 
 // The constants of the function at `at`, and where it ends.
-fn note_function(s: &[u8], at: usize, base: usize, seen: &mut [u8; 65536]) -> Place
+fn note_function(s: &[u8], at: usize, base: usize, seen: &mut [u8]) -> Place
     requires { ⌜ Capped (now seen) ⌝ }
     ensures { λ r. ⌜ Function-noted (now (s .entry)) at base r (now (seen .entry)) (now (seen .exit)) ⌝ }
 {
@@ -79,7 +79,7 @@ fn note_function(s: &[u8], at: usize, base: usize, seen: &mut [u8; 65536]) -> Pl
 }
 
 // The constants of all `count` functions, which were read.
-fn note_all(s: &[u8], count: usize, base: usize, seen: &mut [u8; 65536])
+fn note_all(s: &[u8], count: usize, base: usize, seen: &mut [u8])
     requires { ⌜ Capped (now seen) × (is-got (many count (read-function (now s)) 6) ≡ true) ⌝ }
     ensures { λ r. ⌜ Noted base (λ (number : ℕ). names-in-all number (earlier (now (s .entry)) count)) (now (seen .entry)) (now (seen .exit)) ⌝ }
 {
@@ -95,8 +95,8 @@ fn note_all(s: &[u8], count: usize, base: usize, seen: &mut [u8; 65536])
 }
 
 // Whether the first `most` counts are 1.
-fn all_one(seen: &[u8; 65536], most: usize) -> bool
-    requires { ⌜ most ≤ 65536 ⌝ }
+fn all_one(seen: &[u8], most: usize) -> bool
+    requires { ⌜ most ≤ length (now seen) ⌝ }
     ensures { λ r. ⌜ r ≡ all-below most (λ (i : ℕ). eqb (getD (now (seen .entry)) i 0) 1) ⌝ }
 {
     let mut i: usize = 0;
@@ -109,14 +109,57 @@ fn all_one(seen: &[u8; 65536], most: usize) -> bool
     true
 }
 
-// Whether each of `most` functions from `base` on is named by one constant.
-fn block_once(s: &[u8], count: usize, base: usize, most: usize) -> bool
+// Whether each of `most` functions from `base` on is named by one constant, by a table that is all 0.
+fn once_in(s: &[u8], count: usize, base: usize, most: usize, seen: &mut [u8]) -> bool
+    requires { ⌜ (most ≤ length (now seen)) × ((i : ℕ) → getD (now seen) i 0 ≡ 0) ⌝ }
+    requires { ⌜ is-got (many count (read-function (now s)) 6) ≡ true ⌝ }
+    ensures { λ r. ⌜ r ≡ all-below most (λ (i : ℕ). eqb (names-in-all (base + i) (earlier (now (s .entry)) count)) 1) ⌝ }
+{
+    note_all(s, count, base, seen);
+    all_one(seen, most)
+}
+
+fn few_lent(s: &[u8], count: usize, base: usize, most: usize, seen: &mut [u8; 2048]) -> bool
+    requires { ⌜ (most ≤ 2048) × ((length (now seen) ≡ 2048) × ((i : ℕ) → getD (now seen) i 0 ≡ 0)) ⌝ }
+    requires { ⌜ is-got (many count (read-function (now s)) 6) ≡ true ⌝ }
+    ensures { λ r. ⌜ r ≡ all-below most (λ (i : ℕ). eqb (names-in-all (base + i) (earlier (now (s .entry)) count)) 1) ⌝ }
+{
+    once_in(s, count, base, most, seen)
+}
+
+fn few_once(s: &[u8], count: usize, base: usize, most: usize) -> bool
+    requires { ⌜ (most ≤ 2048) × (is-got (many count (read-function (now s)) 6) ≡ true) ⌝ }
+    ensures { λ r. ⌜ r ≡ all-below most (λ (i : ℕ). eqb (names-in-all (base + i) (earlier (now (s .entry)) count)) 1) ⌝ }
+{
+    let mut seen = [0u8; 2048];
+    few_lent(s, count, base, most, &mut seen)
+}
+
+fn many_lent(s: &[u8], count: usize, base: usize, most: usize, seen: &mut [u8; 65536]) -> bool
+    requires { ⌜ (most ≤ 65536) × ((length (now seen) ≡ 65536) × ((i : ℕ) → getD (now seen) i 0 ≡ 0)) ⌝ }
+    requires { ⌜ is-got (many count (read-function (now s)) 6) ≡ true ⌝ }
+    ensures { λ r. ⌜ r ≡ all-below most (λ (i : ℕ). eqb (names-in-all (base + i) (earlier (now (s .entry)) count)) 1) ⌝ }
+{
+    once_in(s, count, base, most, seen)
+}
+
+fn many_once(s: &[u8], count: usize, base: usize, most: usize) -> bool
     requires { ⌜ (most ≤ 65536) × (is-got (many count (read-function (now s)) 6) ≡ true) ⌝ }
     ensures { λ r. ⌜ r ≡ all-below most (λ (i : ℕ). eqb (names-in-all (base + i) (earlier (now (s .entry)) count)) 1) ⌝ }
 {
     let mut seen = [0u8; 65536];
-    note_all(s, count, base, &mut seen);
-    all_one(&seen, most)
+    many_lent(s, count, base, most, &mut seen)
+}
+
+// The same, by a table that is no larger than it must be: it is made of zeros, which a small image would feel.
+fn block_once(s: &[u8], count: usize, base: usize, most: usize) -> bool
+    requires { ⌜ (most ≤ 65536) × (is-got (many count (read-function (now s)) 6) ≡ true) ⌝ }
+    ensures { λ r. ⌜ r ≡ all-below most (λ (i : ℕ). eqb (names-in-all (base + i) (earlier (now (s .entry)) count)) 1) ⌝ }
+{
+    if most <= 2048 {
+        return few_once(s, count, base, most);
+    }
+    many_once(s, count, base, most)
 }
 
 fn least(a: usize, b: usize) -> usize

@@ -21,8 +21,8 @@ abbrev μ-loop : tie.MeasureT-loop
 loop-holds : tie.Need-loop-holds Inv-loop μ-loop
 loop-holds c = (omega arith, all-begin (λ (j : ℕ). eqb (getD (c .args .seen .now) j 0) 1))
 
-element-copy-out-if1 : tie.Need-element-copy-out-if1 Inv-loop μ-loop
-element-copy-out-if1 c = omega (arith, c .before .before .pre, c .loop-test .taken)
+shared-slice-read-if1 : tie.Need-shared-slice-read-if1 Inv-loop μ-loop
+shared-slice-read-if1 c = omega (arith, c .before .before .before .pre, c .before .loop-test .taken)
 
 returns : tie.Need-returns Inv-loop μ-loop
 returns c = sym (below-false (c .before .before .before .before .args .most) (c .before .before .before .loop .i) (λ (j : ℕ). eqb (getD (c .before .before .before .before .args .seen .now) j 0) 1) (c .before .before .loop-test .taken) (ne-eqb _ _ (c .if1 .taken)))
@@ -46,7 +46,7 @@ all-one-spec =
     Inv-loop
     μ-loop
     loop-holds
-    element-copy-out-if1
+    shared-slice-read-if1
     returns
     add-i
     loop-less

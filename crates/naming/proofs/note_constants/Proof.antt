@@ -20,7 +20,7 @@ abbrev μ-loop : tie.MeasureT-loop
 μ-loop s begin n base seen₀ at₀ i₀ seen at i = n - i
 
 loop-holds : tie.Need-loop-holds Inv-loop μ-loop
-loop-holds c = noting-begin (c .before .args .s .now) (c .before .args .begin) (c .before .args .n) (c .before .args .base) (c .before .args .seen .now) (c .before .pre)
+loop-holds c = noting-begin (c .before .before .args .s .now) (c .before .before .args .begin) (c .before .before .args .n) (c .before .before .args .base) (c .before .before .args .seen .now) (c .before .before .pre)
 
 constant-requires : tie.Need-constant-requires Inv-loop μ-loop
 constant-requires c κs = search needs
@@ -31,23 +31,29 @@ enum-known-word c = search needs
 enum-told : tie.Need-enum-told Inv-loop μ-loop
 enum-told c = search needs
 
+same-length : tie.Need-same-length Inv-loop μ-loop
+same-length c = c .before .before .before .before .loop .inv .noted .size
+
 returns : tie.Need-returns Inv-loop μ-loop
-returns c = noting-stop (c .before .before .before .before .before .before .args .s .now) (c .before .before .before .before .before .before .args .begin) (c .before .before .before .before .before .before .args .n) (c .before .before .before .before .before .before .args .base) (c .before .before .before .before .before .before .args .seen .now) (c .before .before .before .before .loop .seen) (c .before .before .before .before .loop .at) (c .before .before .before .before .loop .i) (c .before .before .before .before .loop .inv) (c .before .before .before .loop-test .taken) (constant-fails (read-constant (c .before .before .before .before .before .before .args .s .now) (c .before .before .before .before .loop .at)) (sym (c .enum-told .given .1) ∙ c .before .before .constant .ensures))
+returns c = noting-stop (c .before .before .before .before .before .before .before .args .s .now) (c .before .before .before .before .before .before .before .args .begin) (c .before .before .before .before .before .before .before .args .n) (c .before .before .before .before .before .before .before .args .base) (c .before .before .before .before .before .before .before .args .seen .now) (c .before .before .before .before .loop .seen) (c .before .before .before .before .loop .at) (c .before .before .before .before .loop .i) (c .before .before .before .before .loop .inv) (c .before .before .before .loop-test .taken) (constant-fails (read-constant (c .before .before .before .before .before .before .before .args .s .now) (c .before .before .before .before .loop .at)) (sym (c .enum-told .given .1) ∙ c .before .before .constant .ensures))
 
 note-requires : tie.Need-note-requires Inv-loop μ-loop
-note-requires c κs = noting-capped (c .before .before .before .before .before .before .before .before .args .s .now) (c .before .before .before .before .before .before .before .before .args .begin) (c .before .before .before .before .before .before .before .before .args .n) (c .before .before .before .before .before .before .before .before .args .base) (c .before .before .before .before .before .before .before .before .args .seen .now) (c .before .before .before .before .before .before .loop .seen) (c .before .before .before .before .before .before .loop .at) (c .before .before .before .before .before .before .loop .i) (c .before .before .before .before .before .before .loop .inv)
+note-requires c κs = noting-capped (c .before .before .before .before .before .before .before .before .before .args .s .now) (c .before .before .before .before .before .before .before .before .before .args .begin) (c .before .before .before .before .before .before .before .before .before .args .n) (c .before .before .before .before .before .before .before .before .before .args .base) (c .before .before .before .before .before .before .before .before .before .args .seen .now) (c .before .before .before .before .before .before .loop .seen) (c .before .before .before .before .before .before .loop .at) (c .before .before .before .before .before .before .loop .i) (c .before .before .before .before .before .before .loop .inv)
 
 add-i : tie.Need-add-i Inv-loop μ-loop
-add-i c = omega (arith, c .before .before .before .before .before .before .loop-test .taken)
+add-i c = omega (arith, c .before .before .before .before .before .before .before .before .loop-test .taken)
 
 loop-less : tie.Need-loop-less Inv-loop μ-loop
-loop-less c = omega (arith, c .before .before .before .before .before .before .loop-test .taken)
+loop-less c = omega (arith, c .before .before .before .before .before .before .before .before .loop-test .taken)
 
 loop-again : tie.Need-loop-again Inv-loop μ-loop
-loop-again c = noting-on (c .before .before .before .before .before .before .before .before .before .args .s .now) (c .before .before .before .before .before .before .before .before .before .args .begin) (c .before .before .before .before .before .before .before .before .before .args .n) (c .before .before .before .before .before .before .before .before .before .args .base) (c .before .before .before .before .before .before .before .before .before .args .seen .now) (c .before .before .before .before .before .before .before .loop .seen) (c .before .before .before .before .before .before .before .loop .at) (c .before .before .before .before .before .before .before .loop .i) (c .before .before .before .before .before .before .before .loop .inv) (c .before .before .before .word .given .0 .0) (c .before .before .before .word .given .0 .1 .0) (c .before .before .before .before .before .before .loop-test .taken) (constant-is (read-constant (c .before .before .before .before .before .before .before .before .before .args .s .now) (c .before .before .before .before .before .before .before .loop .at)) (c .before .before .before .word .given .0 .0) (c .before .before .before .word .given .0 .1 .0) (sym (c .before .before .before .word .given .1) ∙ c .before .before .before .before .before .constant .ensures)) _ (c .note .ensures)
+loop-again c = noting-on (c .before .before .before .before .before .before .before .before .before .before .before .before .args .s .now) (c .before .before .before .before .before .before .before .before .before .before .before .before .args .begin) (c .before .before .before .before .before .before .before .before .before .before .before .before .args .n) (c .before .before .before .before .before .before .before .before .before .before .before .before .args .base) (c .before .before .before .before .before .before .before .before .before .before .before .before .args .seen .now) (c .before .before .before .before .before .before .before .before .before .loop .seen) (c .before .before .before .before .before .before .before .before .before .loop .at) (c .before .before .before .before .before .before .before .before .before .loop .i) (c .before .before .before .before .before .before .before .before .before .loop .inv) (c .before .before .before .before .before .word .given .0 .0) (c .before .before .before .before .before .word .given .0 .1 .0) (c .before .before .before .before .before .before .before .before .loop-test .taken) (constant-is (read-constant (c .before .before .before .before .before .before .before .before .before .before .before .before .args .s .now) (c .before .before .before .before .before .before .before .before .before .loop .at)) (c .before .before .before .before .before .word .given .0 .0) (c .before .before .before .before .before .word .given .0 .1 .0) (sym (c .before .before .before .before .before .word .given .1) ∙ c .before .before .before .before .before .before .before .constant .ensures)) _ (c .before .before .note .ensures)
+
+same-length-2 : tie.Need-same-length-2 Inv-loop μ-loop
+same-length-2 c = c .before .loop .inv .noted .size
 
 returns-2 : tie.Need-returns-2 Inv-loop μ-loop
-returns-2 c = noting-done (c .before .before .before .args .s .now) (c .before .before .before .args .begin) (c .before .before .before .args .n) (c .before .before .before .args .base) (c .before .before .before .args .seen .now) (c .before .loop .seen) (c .before .loop .at) (c .before .loop .i) (c .before .loop .inv) (c .loop-test .left)
+returns-2 c = noting-done (c .before .before .before .before .args .s .now) (c .before .before .before .before .args .begin) (c .before .before .before .before .args .n) (c .before .before .before .before .args .base) (c .before .before .before .before .args .seen .now) (c .before .loop .seen) (c .before .loop .at) (c .before .loop .i) (c .before .loop .inv) (c .loop-test .left)
 
 pub note-constants-spec : {M : Type 1} → statement M
 note-constants-spec =
@@ -59,9 +65,11 @@ note-constants-spec =
     constant-requires
     enum-known-word
     enum-told
+    same-length
     returns
     note-requires
     add-i
     loop-less
     loop-again
+    same-length-2
     returns-2)
