@@ -138,7 +138,7 @@ static void print_hex(const uint8_t *at, size_t length) {
 static void print_image(bytes tree, const uint8_t *image, size_t length) {
     pb_answer checked = puffbramble_check(image, length);
     printf("check     %llu: %llu instructions\n", (unsigned long long)checked.number, (unsigned long long)checked.length);
-    printf("image    ");
+    printf("image");
     print_hex(image, length);
     for (uint32_t k = 0; k < number(image + 2, 4); k++) {
         function f = function_of(image, length, k);
