@@ -323,7 +323,7 @@ pub fn worst() -> Vec<(&'static str, Vec<u8>)> {
     // The port's table of constants has 65,521 places, or 4,093 for up to 256 constants: these all fall into one place of it.
     let falling = |count: u64| (0..count).map(|number| Constant::Number(65_521 * number)).collect::<Vec<_>>();
     let falling_functions = (0..65_535).map(|number| Constant::Function(65_521 * number)).collect();
-    let falling_few: Vec<Constant> = (0..256).map(|number| Constant::Text(4_093 * number)).collect();
+    let falling_few: Vec<Constant> = (0..256).map(|number| Constant::Number(4_093 * number)).collect();
     let spread = |count: u64| (0..count).map(Constant::Number).collect::<Vec<_>>();
     let [low, high] = 65_535u16.to_le_bytes();
     let ahead = [[28, low - 2, high, 1].repeat(220_000), vec![1; 66_000]].concat();
@@ -347,8 +347,8 @@ pub fn worst() -> Vec<(&'static str, Vec<u8>)> {
             vec![with_constants(&[], falling(65_535)), with_constants(&[], falling(39_310))],
         ),
         ("numbers that do not", vec![with_constants(&[], spread(65_535)), with_constants(&[], spread(39_310))]),
-        ("functions of 256 strings that fall into one place", vec![with_constants(&[], falling_few); 670]),
-        ("functions of 257 strings", vec![with_constants(&[], (0..257).map(Constant::Text).collect()); 670]),
+        ("functions of 256 numbers that fall into one place", vec![with_constants(&[], falling_few); 400]),
+        ("functions of 257 strings", vec![with_constants(&[], (0..257).map(Constant::Text).collect()); 1_000]),
         ("functions, each named by the next", chain),
         ("pairs", [pairs, vec![pairing]].concat()),
         ("the farthest jumps ahead", vec![script(&ahead)]),
