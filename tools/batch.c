@@ -6,35 +6,17 @@
 
 #include "../include/puffbramble.h"
 
+#define TOOL "batch"
+#include "files.h"
+
 #define PLENTY 0xFFFFFFFFu
 
-static void die(const char *what) {
-    fprintf(stderr, "batch: %s\n", what);
-    exit(1);
-}
-
-static void *lent(size_t bytes) {
-    void *memory = malloc(bytes + 1);
-    if (memory == NULL) die("no memory");
-    return memory;
-}
-
+/* A file that is read from its start to its end. */
 typedef struct {
     uint8_t *bytes;
     size_t length;
     size_t at;
 } source;
-
-static source read_file(const char *path) {
-    FILE *file = fopen(path, "rb");
-    if (file == NULL || fseek(file, 0, SEEK_END) != 0) die("the input cannot be opened");
-    source s = {NULL, (size_t)ftell(file), 0};
-    rewind(file);
-    s.bytes = lent(s.length);
-    if (fread(s.bytes, 1, s.length, file) != s.length) die("the input cannot be read");
-    fclose(file);
-    return s;
-}
 
 static const uint8_t *take(source *s, size_t count) {
     if (s->length - s->at < count) die("the input is cut");
@@ -126,7 +108,8 @@ int main(int argc, char **argv) {
     if (argc == 4 && strcmp(argv[1], "--images") == 0) all = check_all;
     else if (argc == 4 && strcmp(argv[1], "--read") == 0) all = read_all;
     else if (argc != 3) die("usage: batch [--images | --read] INPUT ANSWERS");
-    source in = read_file(argv[argc - 2]);
+    bytes file = read_file(argv[argc - 2]);
+    source in = {file.bytes, file.length, 0};
     FILE *out = fopen(argv[argc - 1], "wb");
     if (out == NULL) die("the answers cannot be opened");
     all(&in, out);

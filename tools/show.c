@@ -6,32 +6,8 @@
 
 #include "../include/puffbramble.h"
 
-static void die(const char *what) {
-    fprintf(stderr, "show: %s\n", what);
-    exit(2);
-}
-
-static void *lent(size_t bytes) {
-    void *memory = malloc(bytes + 1);
-    if (memory == NULL) die("no memory");
-    return memory;
-}
-
-typedef struct {
-    uint8_t *bytes;
-    size_t length;
-} bytes;
-
-static bytes read_file(const char *path) {
-    FILE *file = fopen(path, "rb");
-    if (file == NULL || fseek(file, 0, SEEK_END) != 0) die("the tree file cannot be opened");
-    bytes b = {NULL, (size_t)ftell(file)};
-    rewind(file);
-    b.bytes = lent(b.length);
-    if (fread(b.bytes, 1, b.length, file) != b.length) die("the tree file cannot be read");
-    fclose(file);
-    return b;
-}
+#define TOOL "show"
+#include "files.h"
 
 static uint32_t number(const uint8_t *at, int width) {
     uint32_t n = 0;

@@ -21,6 +21,7 @@ use Rattle.compiler.specs.Exprs.{There}
 use Rattle.compiler.proofs.Monad.{on-to}
 use Rattle.parts.specs.Output.{funs-left, stmt-at, stmts-at, Worked, Walked, Ready}
 use Rattle.parts.proofs.Growing.{Run, Free, of-gave, of-grew, to-grew, run-seq, run-refused-seq, grown, reached, refused, stopped, conclude, worked-like, ready-after}
+use Rattle.arms.proofs.Calls.{further}
 use Rattle.arms.proofs.Cuts.{block-cut}
 
 -- ## A statement by what it is, and by its parts
@@ -29,13 +30,7 @@ pub by-parts : {class limit l at n : ℕ} {m : Compile Unit} {before : Mem} {out
     → Worked class limit l at n m before out now out′ r → Worked class limit l at n (compile-stmt limit s) before out now out′ r
 by-parts {limit = limit} q h w = worked-like (λ z. ap (λ (s : Stmt). compile-stmt limit s z) q ∙ h z) w
 
-pub later : {a b c : ℕ} → a ≤ b → b ≤ c → a ≤ c
-later h g = omega arith
-
-further : (at k : ℕ) → at ≤ at + k
-further at k = omega arith
-
-less-deep : (d left : ℕ) → 0 < left → d + 2 * left ≤ deepest → d + 1 + 2 * (left - 1) ≤ deepest
+pub less-deep : (d left : ℕ) → 0 < left → d + 2 * left ≤ deepest → d + 1 + 2 * (left - 1) ≤ deepest
 less-deep d left h g = omega arith
 
 pub over-zero : (d : ℕ) {e : ℕ} → e ≡ d + 1 → 0 < e

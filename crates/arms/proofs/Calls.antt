@@ -95,6 +95,12 @@ ready-back {tree} {m} {at} {l} {limit} left h y = subst (λ (k : ℕ). Ready tre
 pub some-room : (left : ℕ) → 0 < left + 1
 some-room left = omega arith
 
+pub same-on : {a b : ℕ} → b ≡ a → a ≤ b
+same-on q = omega arith
+
+pub ten-on : (at : ℕ) {n : ℕ} → at + 10 ≤ n → at ≤ n
+ten-on at h = omega arith
+
 pub further : (at k : ℕ) → at ≤ at + k
 further at k = omega arith
 
@@ -126,10 +132,7 @@ below-levels l h = omega arith
 -- a statement that finishes no function
 pub plainly : (tree : List ℕ) (left l at : ℕ) {class limit : ℕ} {before now : Mem} {r : Step} (out : List ℕ) → Plainly class limit l (stmt-at tree left l at) before now r
     → Walked class limit l at (stmt-at tree left l at) (compile-stmt limit) before out now out r
-plainly tree left l at out p = record { did = λ s n h. plain out (ten-less at (later-stmt tree (word16 tree 2) left (funs-left l) at h)) (p .did s n h) }
-  where
-    ten-less : (at : ℕ) {n : ℕ} → at + 10 ≤ n → at ≤ n
-    ten-less at h = omega arith
+plainly tree left l at out p = record { did = λ s n h. plain out (ten-on at (later-stmt tree (word16 tree 2) left (funs-left l) at h)) (p .did s n h) }
 
 -- none of the other nine kinds
 pub last-kind : (tree : List ℕ) (left l at : ℕ) → There (stmt-at tree left l at) → (letters tree at ≡ 0x5345 → ⊥) → (letters tree at ≡ 0x5350 → ⊥) → (letters tree at ≡ 0x5356 → ⊥) → (letters tree at ≡ 0x5352 → ⊥)

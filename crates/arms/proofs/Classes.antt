@@ -29,6 +29,7 @@ use Rattle.parts.specs.Parts.{open-class, close-class, compile-method}
 use Rattle.parts.proofs.Growing.{Run, free-steady, of-gave, of-grew, to-grew, run-seq, run-refused-seq, grown, reached, refused, worked, stopped, conclude, ready-after, Onward, onward-start, onward-step, onward-refused, onward-done}
 use Rattle.classes.specs.Classes.{inner, opening, closing, entering, ClassHead, InnerClass, ClassOpened, ClassClosed}
 use Rattle.classes.proofs.Cut.{class-then-pop, class-grown, closes, free-closing, some-count}
+use Rattle.arms.proofs.Calls.{same-on}
 use Rattle.arms.proofs.Cuts.{no-methods-cut, methods-cut}
 use Rattle.arms.proofs.Blocks.{by-parts}
 
@@ -115,9 +116,6 @@ fifteen-on at h = omega arith
 open-depth : (b : Bool) (d : ℕ) → b ≡ true → 0 < opening b .depth d
 open-depth true d q = omega arith
 open-depth false d q = let z : _≡_ {A = ℕ} 0 1 = cc in absurd (omega arith)
-
-same-on : {a b : ℕ} → b ≡ a → a ≤ b
-same-on q = omega arith
 
 twelve-on : (at : ℕ) {n : ℕ} → n ≡ at + 12 → at ≤ n
 twelve-on at q = omega arith

@@ -30,8 +30,9 @@ use Rattle.parts.specs.Parts.{close-loop}
 use Rattle.parts.proofs.Growing.{Run, free-steady, of-gave, of-grew, to-grew, told-run, run-seq, run-bind, run-refused, run-refused-seq, grown, reached, refused, stopped, conclude, ready-after}
 use Rattle.loops.specs.Loops.{cond-at, incr-at, place-of, ConditionedAs, Conditioned, Incremented}
 use Rattle.loops.specs.declared.Cond.{Cond}
+use Rattle.arms.proofs.Calls.{further, same-on}
 use Rattle.arms.proofs.Cuts.{for-cut}
-use Rattle.arms.proofs.Blocks.{by-parts, begun, over-zero, free-shallower}
+use Rattle.arms.proofs.Blocks.{by-parts, begun, less-deep, over-zero, free-shallower}
 use Rattle.arms.proofs.Ifs.{none-row, one-row, no-deeper, eleven-on}
 
 small : (k : ℕ) → k < 2 → (k ≡ 1 → ⊥) → k ≡ 0
@@ -40,18 +41,9 @@ small k h g = omega arith
 below-two : (k : ℕ) → k % 2 < 2
 below-two k = omega arith
 
-eleven-more : (at : ℕ) → at ≤ at + 11
-eleven-more at = omega arith
-
-one-scope : (d left : ℕ) → 0 < left → d + 2 * left ≤ deepest → d + 1 + 2 * (left - 1) ≤ deepest
-one-scope d left h g = omega arith
-
 later-maybe : (tree : List ℕ) (b : Bool) (d : ℕ) {at : ℕ} {o : Option Expr} {n : ℕ} → maybe b (read-expr tree (word16 tree 2) d) at ≡ got o n → at ≤ n
 later-maybe tree true d {at} r = let i = maybe-yes (read-expr tree (word16 tree 2) d) at r in later-expr tree (word16 tree 2) d at (i .one-is)
 later-maybe tree false d {at} r = let i = maybe-no (read-expr tree (word16 tree 2) d) at r in same-on (i .1)
-  where
-    same-on : {a b : ℕ} → b ≡ a → a ≤ b
-    same-on q = omega arith
 
 row-if : (k : ℕ) (b : Bool) (stmt : Reader Stmt) (at : ℕ) → k < 2 → eqb k 1 ≡ b → {ss : Stmts} {n : ℕ} → maybe-stmt b stmt at ≡ got ss n → read-stmts k stmt at ≡ got ss n
 row-if k true stmt at h q r = ap (λ (j : ℕ). read-stmts j stmt at) (eqb-true k 1 q) ∙ one-row stmt at ∙ r
@@ -76,7 +68,7 @@ module _ (tree : List ℕ) (l at left : ℕ) (mark : letters tree at ≡ 0x534F)
   module _ (span : Span) {class limit : ℕ} {before m0 m1 : Mem} {out out1 : List ℕ} {ra : Step} (o : Gave class limit l deeper begin-scope tt before m0)
       (w : Walked class limit l (at + 11) (stmts-at tree (word8 tree (at + 10) % 2) (left - 1) l (at + 11)) (compile-stmts limit) m0 out m1 out1 ra) where
     scope : Run class limit l at (at + 11) deeper begin-scope tt before out m0 out
-    scope = begun out (eleven-more at) o
+    scope = begun out (further at 11) o
 
     init-did : {s : Stmt} {n : ℕ} (h : stmt-at tree left l at ≡ got s n) → Worked class limit l (at + 11) (parts h .mid₁) (compile-stmts limit (parts h .init)) m0 out m1 out1 ra
     init-did h = w .did (parts h .init) (parts h .mid₁) (init-row h)
@@ -128,7 +120,7 @@ module _ (tree : List ℕ) (l at left : ℕ) (mark : letters tree at ≡ 0x534F)
           pub for-ready : There (stmt-at tree left l at) → 0 < left → Ready tree before at left l limit → Ready tree m2 n2 (left - 1) l limit
           for-ready h g y =
               subst (λ (p : ℕ). Ready tree m2 p (left - 1) l limit) (sym (passed (h .is) .1))
-              (ready-after y (run-seq (record { past = λ made rest. refl }) _ scope (run-seq free-steady (for-cond limit (parts (h .is) .cond) span) (first (h .is)) (second (h .is)))) (one-scope (depth-at before l) left g (y .shallow)))
+              (ready-after y (run-seq (record { past = λ made rest. refl }) _ scope (run-seq free-steady (for-cond limit (parts (h .is) .cond) span) (first (h .is)) (second (h .is)))) (less-deep (depth-at before l) left g (y .shallow)))
 
           module _ {m3 : Mem} {out3 : List ℕ} {rd : Step} (d : Walked class limit l n2 (stmt-at tree (left - 1) l n2) (compile-stmt limit) m2 out1 m3 out3 rd) where
             body-did : {s : Stmt} {n : ℕ} (h : stmt-at tree left l at ≡ got s n) → Worked class limit l n2 (parts h .mid₃) (compile-stmt limit (parts h .body)) m2 out1 m3 out3 rd

@@ -29,7 +29,8 @@ use Rattle.parts.specs.Parts.{close-loop}
 use Rattle.parts.proofs.Growing.{Run, free-steady, of-gave, of-grew, to-grew, told-run, run-seq, run-bind, run-refused, run-refused-seq, grown, reached, refused, stopped, conclude, ready-after}
 use Rattle.arms.proofs.Cuts.{while-cut}
 use Rattle.arms.proofs.Blocks.{by-parts}
-use Rattle.arms.proofs.Ifs.{no-deeper, ten-on}
+use Rattle.arms.proofs.Calls.{ten-on}
+use Rattle.arms.proofs.Ifs.{no-deeper}
 
 module _ (tree : List ℕ) (l at left : ℕ) (mark : letters tree at ≡ 0x5357) where
   abbrev parts : {s : Stmt} {n : ℕ} → stmt-at tree left l at ≡ got s n → WhileAt tree (word16 tree 2) (read-expr tree (word16 tree 2) (left - 1)) (read-stmt tree (word16 tree 2) (left - 1) (funs-left l)) at s n
