@@ -148,7 +148,12 @@ pub fn check_expr(tree: &[u8], names: u16, depth: usize, at: usize) -> Step
 {
     match open_expr(tree, names, depth, at) {
         Opened::Bad(r) => Step::Bad(r),
-        Opened::Exprs(from, count) => check_exprs(tree, names, depth - 1, count, from),
+        Opened::Exprs(from, count) => {
+            if count == 0 {
+                return Step::At(from);
+            }
+            check_exprs(tree, names, depth - 1, count, from)
+        }
     }
 }
 

@@ -245,7 +245,8 @@ pub fn check_stmt(
     }
 }
 
-// The records that a statement's fields announce.
+// The records that a statement's fields announce. The last answer is taken apart and made anew, since one that is only handed on is copied, and
+// the copy waits for what was just written.
 fn check_kids(tree: &[u8], names: u16, depth: usize, plan: Plan) -> Step
     ensures { λ r. ⌜ r ≡ kids-place (now (tree .entry)) names depth plan ⌝ }
 {
@@ -262,7 +263,14 @@ fn check_kids(tree: &[u8], names: u16, depth: usize, plan: Plan) -> Step
     let Step::At(at) = body else {
         return body;
     };
-    check_exprs(tree, names, depth, plan.incr, at)
+    if plan.incr == 0 {
+        return Step::At(at);
+    }
+    let incr = check_exprs(tree, names, depth, plan.incr, at);
+    let Step::At(at) = incr else {
+        return incr;
+    };
+    Step::At(at)
 }
 
 // `count` statements or methods in a row.

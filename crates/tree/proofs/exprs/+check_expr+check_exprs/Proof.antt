@@ -67,22 +67,6 @@ check-expr-enum-known-from : (t : ℕ) → check-expr-lts.Need-enum-known-from (
 ) (check-expr-at t) check-expr.Post
 check-expr-enum-known-from t c = search needs
 
-check-expr-sub-check-exprs : (t : ℕ) → check-expr-lts.Need-sub-check-exprs (
-  open-expr-reads.Asked,
-  open-expr-reads.Learnt,
-  check-exprs-below t,
-  check-exprs.Post,
-) (check-expr-at t) check-expr.Post
-check-expr-sub-check-exprs t c = omega (arith, c .before .before .before .open-expr .ensures .room _ _ (c .before .from .given .1))
-
-check-expr-check-exprs-requires : (t : ℕ) → check-expr-lts.Need-check-exprs-requires (
-  open-expr-reads.Asked,
-  open-expr-reads.Learnt,
-  check-exprs-below t,
-  check-exprs.Post,
-) (check-expr-at t) check-expr.Post
-check-expr-check-exprs-requires t c κs = (omega (arith, c .before .before .before .open-expr .ensures .room _ _ (c .before .from .given .1), c .before .before .before .before .before .pre .0), tt)
-
 check-expr-returns : (t : ℕ) → check-expr-lts.Need-returns (
   open-expr-reads.Asked,
   open-expr-reads.Learnt,
@@ -90,7 +74,23 @@ check-expr-returns : (t : ℕ) → check-expr-lts.Need-returns (
   check-exprs.Post,
 ) (check-expr-at t) check-expr.Post
 unfolding follow
-check-expr-returns t c = sym (c .before .before .before .open-expr .ensures .whole ∙ ap (follow (λ n. place (read-expr (c .before .before .before .before .before .args .tree .now) (c .before .before .before .before .before .args .names) (c .before .before .before .before .before .args .depth - 1) n))) (c .before .r .given .1))
+check-expr-returns t c = sym (c .before .before .before .before .open-expr .ensures .whole ∙ ap (follow (λ n. place (read-expr (c .before .before .before .before .before .before .args .tree .now) (c .before .before .before .before .before .before .args .names) (c .before .before .before .before .before .before .args .depth - 1) n))) (c .before .before .from .given .1) ∙ row-none (λ n. place (read-expr (c .before .before .before .before .before .before .args .tree .now) (c .before .before .before .before .before .before .args .names) (c .before .before .before .before .before .before .args .depth - 1) n)) _ _ (omega (arith, c .if1 .taken)))
+
+check-expr-sub-check-exprs : (t : ℕ) → check-expr-lts.Need-sub-check-exprs (
+  open-expr-reads.Asked,
+  open-expr-reads.Learnt,
+  check-exprs-below t,
+  check-exprs.Post,
+) (check-expr-at t) check-expr.Post
+check-expr-sub-check-exprs t c = omega (arith, c .before .before .before .before .open-expr .ensures .room _ _ (c .before .before .from .given .1))
+
+check-expr-check-exprs-requires : (t : ℕ) → check-expr-lts.Need-check-exprs-requires (
+  open-expr-reads.Asked,
+  open-expr-reads.Learnt,
+  check-exprs-below t,
+  check-exprs.Post,
+) (check-expr-at t) check-expr.Post
+check-expr-check-exprs-requires t c κs = (omega (arith, c .before .before .before .before .open-expr .ensures .room _ _ (c .before .before .from .given .1), c .before .before .before .before .before .before .pre .0), tt)
 
 check-expr-returns-2 : (t : ℕ) → check-expr-lts.Need-returns-2 (
   open-expr-reads.Asked,
@@ -99,7 +99,16 @@ check-expr-returns-2 : (t : ℕ) → check-expr-lts.Need-returns-2 (
   check-exprs.Post,
 ) (check-expr-at t) check-expr.Post
 unfolding follow
-check-expr-returns-2 t c = c .check-exprs .ensures ∙ sym (c .before .before .before .before .open-expr .ensures .whole ∙ ap (follow (λ n. place (read-expr (c .before .before .before .before .before .before .args .tree .now) (c .before .before .before .before .before .before .args .names) (c .before .before .before .before .before .before .args .depth - 1) n))) (c .before .before .from .given .1))
+check-expr-returns-2 t c = sym (c .before .before .before .open-expr .ensures .whole ∙ ap (follow (λ n. place (read-expr (c .before .before .before .before .before .args .tree .now) (c .before .before .before .before .before .args .names) (c .before .before .before .before .before .args .depth - 1) n))) (c .before .r .given .1))
+
+check-expr-returns-3 : (t : ℕ) → check-expr-lts.Need-returns-3 (
+  open-expr-reads.Asked,
+  open-expr-reads.Learnt,
+  check-exprs-below t,
+  check-exprs.Post,
+) (check-expr-at t) check-expr.Post
+unfolding follow
+check-expr-returns-3 t c = c .check-exprs .ensures ∙ sym (c .before .before .before .before .before .open-expr .ensures .whole ∙ ap (follow (λ n. place (read-expr (c .before .before .before .before .before .before .before .args .tree .now) (c .before .before .before .before .before .before .before .args .names) (c .before .before .before .before .before .before .before .args .depth - 1) n))) (c .before .before .before .from .given .1))
 
 abbrev check-exprs-Inv-loop : check-exprs-lts.InvT-loop
 check-exprs-Inv-loop tree names depth count at left₀ next₀ left next = row (λ n. place (read-expr tree names depth n)) left next ≡ row (λ n. place (read-expr tree names depth n)) count at
@@ -177,10 +186,11 @@ pub +check-expr+check-exprs-spec : {M : Type 1} → statement M
     (check-expr-open-expr-requires t)
     (check-expr-enum-known-r t)
     (check-expr-enum-known-from t)
+    (check-expr-returns t)
     (check-expr-sub-check-exprs t)
     (check-expr-check-exprs-requires t)
-    (check-expr-returns t)
-    (check-expr-returns-2 t))
+    (check-expr-returns-2 t)
+    (check-expr-returns-3 t))
     λ t. check-exprs-lts.spec
     (check-expr-below t, check-expr.Post)
     (check-exprs-at t)

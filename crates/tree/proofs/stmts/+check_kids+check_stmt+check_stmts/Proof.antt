@@ -155,6 +155,15 @@ check-kids-returns-3 : (t : ℕ) → check-kids-lts.Need-returns-3 (
 unfolding kids-place
 check-kids-returns-3 t c = c .enum-told3 .given .1 ∙ sym (goes _ (sym (c .before .before .before .before .before .before .before .before .before .before .check-stmts .ensures) ∙ c .before .before .before .before .before .before .before .before .init .given .1) ∙ goes _ (sym (c .before .before .before .before .before .before .check-exprs .ensures) ∙ c .before .before .before .before .cond .given .1) ∙ stops _ (sym (c .before .before .check-stmts2 .ensures) ∙ c .enum-told3 .given .1))
 
+check-kids-returns-4 : (t : ℕ) → check-kids-lts.Need-returns-4 (
+  check-stmts-below t,
+  check-stmts.Post,
+  check-exprs-reads.Asked,
+  check-exprs-reads.Learnt,
+) (check-kids-at t) check-kids.Post
+unfolding kids-place
+check-kids-returns-4 t c = sym (goes _ (sym (c .before .before .before .before .before .before .before .before .before .before .before .before .before .check-stmts .ensures) ∙ c .before .before .before .before .before .before .before .before .before .before .before .init .given .1) ∙ goes _ (sym (c .before .before .before .before .before .before .before .before .before .check-exprs .ensures) ∙ c .before .before .before .before .before .before .before .cond .given .1) ∙ goes _ (sym (c .before .before .before .before .before .check-stmts2 .ensures) ∙ c .before .before .before .body .given .1) ∙ row-none _ _ _ (omega (arith, c .if1 .taken)))
+
 check-kids-check-exprs-requires-2 : (t : ℕ) → check-kids-lts.Need-check-exprs-requires-2 (
   check-stmts-below t,
   check-stmts.Post,
@@ -163,14 +172,39 @@ check-kids-check-exprs-requires-2 : (t : ℕ) → check-kids-lts.Need-check-expr
 ) (check-kids-at t) check-kids.Post
 check-kids-check-exprs-requires-2 t c κs = search needs
 
-check-kids-returns-4 : (t : ℕ) → check-kids-lts.Need-returns-4 (
+check-kids-enum-known-incr : (t : ℕ) → check-kids-lts.Need-enum-known-incr (
+  check-stmts-below t,
+  check-stmts.Post,
+  check-exprs-reads.Asked,
+  check-exprs-reads.Learnt,
+) (check-kids-at t) check-kids.Post
+check-kids-enum-known-incr t c = search needs
+
+check-kids-enum-told-4 : (t : ℕ) → check-kids-lts.Need-enum-told-4 (
+  check-stmts-below t,
+  check-stmts.Post,
+  check-exprs-reads.Asked,
+  check-exprs-reads.Learnt,
+) (check-kids-at t) check-kids.Post
+check-kids-enum-told-4 t c = search needs
+
+check-kids-returns-5 : (t : ℕ) → check-kids-lts.Need-returns-5 (
   check-stmts-below t,
   check-stmts.Post,
   check-exprs-reads.Asked,
   check-exprs-reads.Learnt,
 ) (check-kids-at t) check-kids.Post
 unfolding kids-place
-check-kids-returns-4 t c = c .check-exprs2 .ensures ∙ sym (goes _ (sym (c .before .before .before .before .before .before .before .before .before .before .before .before .check-stmts .ensures) ∙ c .before .before .before .before .before .before .before .before .before .before .init .given .1) ∙ goes _ (sym (c .before .before .before .before .before .before .before .before .check-exprs .ensures) ∙ c .before .before .before .before .before .before .cond .given .1) ∙ goes _ (sym (c .before .before .before .before .check-stmts2 .ensures) ∙ c .before .before .body .given .1))
+check-kids-returns-5 t c = c .before .before .check-exprs2 .ensures ∙ sym (goes _ (sym (c .before .before .before .before .before .before .before .before .before .before .before .before .before .before .before .before .check-stmts .ensures) ∙ c .before .before .before .before .before .before .before .before .before .before .before .before .before .before .init .given .1) ∙ goes _ (sym (c .before .before .before .before .before .before .before .before .before .before .before .before .check-exprs .ensures) ∙ c .before .before .before .before .before .before .before .before .before .before .cond .given .1) ∙ goes _ (sym (c .before .before .before .before .before .before .before .before .check-stmts2 .ensures) ∙ c .before .before .before .before .before .before .body .given .1))
+
+check-kids-returns-6 : (t : ℕ) → check-kids-lts.Need-returns-6 (
+  check-stmts-below t,
+  check-stmts.Post,
+  check-exprs-reads.Asked,
+  check-exprs-reads.Learnt,
+) (check-kids-at t) check-kids.Post
+unfolding kids-place
+check-kids-returns-6 t c = sym (c .before .incr .given .1) ∙ c .before .before .before .check-exprs2 .ensures ∙ sym (goes _ (sym (c .before .before .before .before .before .before .before .before .before .before .before .before .before .before .before .before .before .check-stmts .ensures) ∙ c .before .before .before .before .before .before .before .before .before .before .before .before .before .before .before .init .given .1) ∙ goes _ (sym (c .before .before .before .before .before .before .before .before .before .before .before .before .before .check-exprs .ensures) ∙ c .before .before .before .before .before .before .before .before .before .before .before .cond .given .1) ∙ goes _ (sym (c .before .before .before .before .before .before .before .before .before .check-stmts2 .ensures) ∙ c .before .before .before .before .before .before .before .body .given .1))
 
 check-stmt-open-stmt-requires : (t : ℕ) → check-stmt-lts.Need-open-stmt-requires (
   open-stmt-reads.Asked,
@@ -316,8 +350,12 @@ pub +check-kids+check-stmt+check-stmts-spec : {M : Type 1} → statement M
     (check-kids-enum-known-body t)
     (check-kids-enum-told-3 t)
     (check-kids-returns-3 t)
+    (check-kids-returns-4 t)
     (check-kids-check-exprs-requires-2 t)
-    (check-kids-returns-4 t))
+    (check-kids-enum-known-incr t)
+    (check-kids-enum-told-4 t)
+    (check-kids-returns-5 t)
+    (check-kids-returns-6 t))
     (λ t. check-stmt-lts.spec (
       open-stmt-reads.Asked,
       open-stmt-reads.Learnt,
