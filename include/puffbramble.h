@@ -47,6 +47,10 @@ typedef struct {
  *   code, code_len      a work area for the code of the functions that are open: PB_CODE_BYTES(tree_len) is enough
  *   spans, spans_words  a work area for their span runs: PB_SPAN_WORDS(tree_len) is enough
  *
+ * Every lent byte is cleared, so a smaller room takes less time. The sizes named PB_FIRST_.. are enough for ordinary scripts: lend them first,
+ * and where the answer is 30 or 31 call again with the sizes that are enough for every file. That gives what one call with these would have
+ * given: a larger room changes no answer but 1, 30 and 31 (proved, docs/PROMISES.md).
+ *
  * What the areas hold before the call does not matter. Answers, in this order:
  *   1            the table is too short
  *   2            the file is longer than 1,048,576 bytes
@@ -60,6 +64,9 @@ typedef struct {
 #define PB_OUTPUT_BYTES(tree_len) (17 * (size_t)(tree_len))
 #define PB_CODE_BYTES(tree_len) (6 * (size_t)(tree_len) < 262144 ? 6 * (size_t)(tree_len) : (size_t)262144)
 #define PB_SPAN_WORDS(tree_len) (3 * PB_CODE_BYTES(tree_len))
+#define PB_FIRST_OUTPUT_BYTES(tree_len) (4 * (size_t)(tree_len) + 64)
+#define PB_FIRST_CODE_BYTES(tree_len) ((size_t)(tree_len) / 3 + 64 < 262144 ? (size_t)(tree_len) / 3 + 64 : (size_t)262144)
+#define PB_FIRST_SPAN_WORDS(tree_len) (3 * PB_FIRST_CODE_BYTES(tree_len))
 
 pb_answer puffbramble_compile(const uint8_t *tree, size_t tree_len, uint8_t *out, size_t out_len, uint64_t *table, size_t table_words,
                               uint8_t *code, size_t code_len, uint32_t *spans, size_t spans_words);

@@ -37,6 +37,14 @@ impl Sizes {
         let code_bytes = if 6 * n < MAX_CODE { 6 * n } else { MAX_CODE };
         Self { table_words: TABLE_WORDS, code_bytes, span_words: 3 * code_bytes, output_bytes: 17 * n }
     }
+
+    /// Room for an ordinary script of so many bytes. All that is lent is cleared, so that a smaller room takes less time; a tree that needs
+    /// more is refused by `CodeFull` or `OutFull`.
+    pub const fn first(tree_bytes: usize) -> Self {
+        let n = if tree_bytes > MAX_TREE { 0 } else { tree_bytes };
+        let code_bytes = if n / 3 + 64 < MAX_CODE { n / 3 + 64 } else { MAX_CODE };
+        Self { table_words: TABLE_WORDS, code_bytes, span_words: 3 * code_bytes, output_bytes: 4 * n + 64 }
+    }
 }
 
 /// Memory for the compiler, to be used for one tree after the other. What it holds before a call does not matter.
@@ -61,9 +69,17 @@ impl Areas {
     }
 }
 
-/// Compiles a tree file to an image, in memory of its own that is large enough.
+/// Compiles a tree file to an image, in memory of its own: in the first room, and where that is too small in one that is enough. A larger room
+/// changes no answer but a shortage.
 pub fn compile(tree: &[u8]) -> Result<Vec<u8>, Refusal> {
-    let mut areas = Areas::new(Sizes::enough(tree.len()));
+    match compile_with(tree, Sizes::first(tree.len())) {
+        Err(Refusal::CodeFull | Refusal::OutFull { .. }) => compile_with(tree, Sizes::enough(tree.len())),
+        answer => answer,
+    }
+}
+
+fn compile_with(tree: &[u8], sizes: Sizes) -> Result<Vec<u8>, Refusal> {
+    let mut areas = Areas::new(sizes);
     let length = compile_in(tree, &mut areas)?.len();
     let mut image = areas.output;
     image.truncate(length);

@@ -11,9 +11,8 @@ fn main() {
 
 #[cfg(target_arch = "x86_64")]
 fn main() {
-    for name in ["tree", "compile", "limits"] {
-        on_x86::compiles(name);
-    }
+    let second: usize = ["tree", "compile", "limits"].map(on_x86::compiles).iter().sum();
+    assert!(second > 0, "no case needs more than the first room");
     on_x86::checks();
     on_x86::work_short();
     on_x86::p2();
@@ -68,9 +67,10 @@ mod on_x86 {
         }
     }
 
-    /// The compiler, with what the case lends, and the reader, on each case of a pack.
-    pub fn compiles(pack: &str) {
+    /// The compiler, with what the case lends, and the reader, on each case of a pack. How many accepted cases the first room does not take.
+    pub fn compiles(pack: &str) -> usize {
         let cases = unpack::cases(&file(&format!("tests/vectors/{pack}.pack")));
+        let mut second = 0;
         for (k, case) in cases.iter().enumerate() {
             let enough = Sizes::enough(case.tree.len());
             let sizes = Sizes {
@@ -87,11 +87,14 @@ mod on_x86 {
                     compile(&case.tree) == want.map(<[u8]>::to_vec),
                     "{pack}.pack, case {k}: not the same in memory of its own"
                 );
+                let first = compile_in(&case.tree, &mut Areas::new(Sizes::first(case.tree.len()))).is_ok();
+                second += usize::from(want.is_ok() && !first);
             }
             let read_as = if (2..=5).contains(&case.told.number) { Err(refusal(&case.told)) } else { Ok(()) };
             assert_eq!(read(&case.tree), read_as, "{pack}.pack, case {k}: the reader");
         }
-        println!("{pack}.pack: {} cases agree", cases.len());
+        println!("{pack}.pack: {} cases agree, {second} of them in the second room", cases.len());
+        second
     }
 
     /// The checker on each image, and the lookups' refusals.
