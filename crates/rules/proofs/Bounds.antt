@@ -1,4 +1,5 @@
--- What a server can rely on, by the tree file's length `n`: an image is at most 17 n bytes, its code at most 6 n, and so which rooms suffice.
+-- What a server can rely on, by the tree file's length `n`: an image is at most 17 n bytes, the open functions' code at no time more than 2 n, and so
+-- which rooms suffice.
 use mathlib.Core.Path.{_≡_, sym, _∙_, subst}
 use mathlib.Core.Logic.{_≢_}
 use mathlib.Core.List.{List}
@@ -19,46 +20,21 @@ use Rattle.rules.proofs.Agrees as agreeing
 use Rattle.rules.proofs.Agrees.{Under, agrees}
 use Rattle.rules.proofs.Trees.{Of-stmts, stmts-size}
 use Rattle.rules.proofs.TreeBytes.{Fitting, tree-fits, fitting}
-use Rattle.rules.proofs.Sizes.{Within, within, finished}
 use Rattle.rules.proofs.ImageSizes.{image-at-most}
 use Rattle.rules.proofs.CodeNeed.{needed-most}
 use Rattle.rules.proofs.Exactly.{work-short-exactly, code-full-exactly, out-full-only, compiled-functions}
 
 -- ## By the tree file's length
 
--- the code under any limit is that under one that suffices
-all-code : (limit most : ℕ) (stmts : Stmts) → most ≤ 16 → Of-stmts (fitting most) stmts most → (fs : List ObjectFunction) (s : Compiler) →
-    c.compile-functions limit stmts ≡ ok fs s → finished fs ≤ 6 * stmts-size stmts + 3
-all-code limit most stmts nested o fs s e = by-agreement (agrees limit larger (omega arith) stmts)
-  where
-    larger : ℕ
-    larger = limit + (6 * stmts-size stmts + 2)
-
-    at-most : (x : Outcome (List ObjectFunction)) → x ≡ ok fs s → Within (stmts-size stmts) x → finished fs ≤ 6 * stmts-size stmts + 3
-    at-most (ok gs t) e h = let z : gs ≡ fs = cc in subst (λ (fs : List ObjectFunction). finished fs ≤ 6 * stmts-size stmts + 3) z h
-    at-most (err r) e h = let z : _≡_ {A = ℕ} 0 1 = cc in absurd (omega arith)
-
-    by-agreement : Under (c.compile-functions limit stmts) (c.compile-functions larger stmts) → finished fs ≤ 6 * stmts-size stmts + 3
-    by-agreement (agreeing.full e′) = let z : _≡_ {A = ℕ} 0 1 = cc in absurd (omega arith)
-    by-agreement (agreeing.same e′) = at-most (c.compile-functions larger stmts) (sym e′ ∙ e) (within larger most stmts nested o (omega arith))
-
 module _ (limits : Limits) (nested : limits .funs ≤ 16) (tree : List ℕ) (bytes : Bytes tree) (lent : Lent) where
-  -- the functions' code, and one for each function, are at most six for each byte of the tree; the image at most seventeen
-  pub record Bounded (fs : List ObjectFunction) : Type 0 where
-    pub code : finished fs ≤ 6 * length tree
-    pub image : length (image-bytes fs) ≤ 17 * length tree
-
-  pub bounded : (fs : List ObjectFunction) → compile-lent limits tree lent ≡ functions-are fs → Bounded fs
-  bounded fs e = record { code = omega (arith, code, fits .size); image = omega (arith, image, fits .size) }
+  pub image-bound : (fs : List ObjectFunction) → compile-lent limits tree lent ≡ functions-are fs → length (image-bytes fs) ≤ 17 * length tree
+  image-bound fs e = omega (arith, image, fits .size)
     where
       from : From limits tree (code-limit lent) fs
       from = from-tree limits tree (code-limit lent) fs (from-lent limits tree lent fs e)
 
       fits : Fitting tree (limits .funs) (from .stmts)
       fits = tree-fits tree bytes (limits .depth) (limits .funs) (from .stmts) (from .next) (from .read)
-
-      code : finished fs ≤ 6 * stmts-size (from .stmts) + 3
-      code = all-code (code-limit lent) (limits .funs) (from .stmts) nested (fits .parts) fs (from .state) (from .compiled)
 
       image : length (image-bytes fs) ≤ 17 * stmts-size (from .stmts) + 49
       image =
@@ -68,13 +44,13 @@ module _ (limits : Limits) (nested : limits .funs ≤ 16) (tree : List ℕ) (byt
   -- a room in which no tree of this length is refused by 1, 30 or 31
   pub record Ample : Type 0 where
     pub table-words : limits .table-bytes ≤ 8 * lent .table-words
-    pub code-bytes : 6 * length tree ≤ lent .code-bytes
-    pub span-words : 18 * length tree ≤ lent .span-words
+    pub code-bytes : 2 * length tree ≤ lent .code-bytes
+    pub span-words : 6 * length tree ≤ lent .span-words
     pub output-bytes : 17 * length tree ≤ lent .output-bytes
     -- the code limit's own bound
-    pub largest : 6 * length tree ≤ max-code
+    pub largest : 2 * length tree ≤ max-code
 
-  ample-limit : Ample → 6 * length tree ≤ code-limit lent
+  ample-limit : Ample → 2 * length tree ≤ code-limit lent
   unfolding code-limit
   ample-limit a = omega (arith, a .code-bytes, a .span-words, a .largest)
 
@@ -83,19 +59,19 @@ module _ (limits : Limits) (nested : limits .funs ≤ 16) (tree : List ℕ) (byt
 
   pub ample-30 : Ample → compile-within limits tree lent .answer .number ≢ 30
   ample-30 a e =
-      let (stmts, w, l) = code-full-exactly limits tree bytes lent nested .0 e in
+      let (stmts, w, l) = code-full-exactly limits tree bytes lent .0 e in
       omega (arith, l, ample-limit a, needed-most stmts, tree-fits tree bytes (limits .depth) (limits .funs) stmts (w .next) (w .read) .size)
 
   pub ample-31 : Ample → compile-within limits tree lent .answer .number ≢ 31
   ample-31 a e =
       let (fs, w, l) = out-full-only limits tree bytes lent e in
-      omega (arith, l, a .output-bytes, bounded fs (compiled-functions limits tree lent fs w) .image)
+      omega (arith, l, a .output-bytes, image-bound fs (compiled-functions limits tree lent fs w))
 
 -- ## Rooms for the published limits
 
--- a tree file of at most 43,690 bytes needs no more than this
-pub room-that-suffices : (tree : List ℕ) → Bytes tree → (lent : Lent) → 17_412 ≤ lent .table-words → 6 * length tree ≤ lent .code-bytes →
-    18 * length tree ≤ lent .span-words → 17 * length tree ≤ lent .output-bytes → 6 * length tree ≤ max-code →
+-- a tree file of at most 131,072 bytes needs no more than this
+pub room-that-suffices : (tree : List ℕ) → Bytes tree → (lent : Lent) → 17_412 ≤ lent .table-words → 2 * length tree ≤ lent .code-bytes →
+    6 * length tree ≤ lent .span-words → 17 * length tree ≤ lent .output-bytes → 2 * length tree ≤ max-code →
     (compile tree lent .answer .number ≢ 1) × (compile tree lent .answer .number ≢ 30) × (compile tree lent .answer .number ≢ 31)
 room-that-suffices tree bytes lent t c s o l = (
   ample-1 first-limits (omega arith) tree bytes lent a,
@@ -129,14 +105,13 @@ module _ (tree : List ℕ) (bytes : Bytes tree) (lent : Lent) (largest : Largest
         arith,
         l,
         largest .output-bytes,
-        bounded first-limits (omega arith) tree bytes lent fs
-            (compiled-functions first-limits tree lent fs w) .image,
+        image-bound first-limits (omega arith) tree bytes lent fs (compiled-functions first-limits tree lent fs w),
       )
 
   pub largest-30 : compile tree lent .answer .number ≡ 30 → (lent′ : Lent) → 17_412 ≤ lent′ .table-words → compile tree lent′ .answer .number ≡ 30
   largest-30 e lent′ t =
-      let (stmts, w, l) = code-full-exactly first-limits tree bytes lent (omega arith) .0 e in
-      code-full-exactly first-limits tree bytes lent′ (omega arith) .1 (
+      let (stmts, w, l) = code-full-exactly first-limits tree bytes lent .0 e in
+      code-full-exactly first-limits tree bytes lent′ .1 (
         stmts,
         record { started = record { table = omega arith; short = w .started .short }; next = w .next; read = w .read },
         omega (arith, l, largest-limit tree lent lent′ largest),

@@ -271,10 +271,10 @@ module _ (limits : Limits) (tree : List ℕ) (bytes : Bytes tree) (lent : Lent) 
   against-a-rule-then r h stmts w e = leads limits tree lent (against-a-rule r h stmts w e)
 
   -- 30 CodeFull: the compiler meets the code limit, which is below what the tree needs
-  pub code-full-exactly : limits .funs ≤ 16 →
+  pub code-full-exactly :
       (answered .number ≡ 30) ↔ ((stmts : Stmts) × Was-read limits tree lent stmts × (code-limit lent < code-needed stmts))
   unfolding refusal
-  code-full-exactly nested =
+  code-full-exactly =
       (only, λ p. ap (λ (a : Answer). a .number) (leads limits tree lent (code-full (p .0) (p .1) (full-below (p .0) (code-limit lent) (p .2)))))
     where
       only : answered .number ≡ 30 → (stmts : Stmts) × Was-read limits tree lent stmts × (code-limit lent < code-needed stmts)
@@ -282,7 +282,7 @@ module _ (limits : Limits) (tree : List ℕ) (bytes : Bytes tree) (lent : Lent) 
           let (stmts, w, d) = full-only-then limits tree lent (way limits tree lent bytes) e in (
             stmts,
             w,
-            full-only (limits .funs) nested stmts (tree-fits tree bytes (limits .depth) (limits .funs) stmts (w .next) (w .read) .parts)
+            full-only (limits .funs) stmts (tree-fits tree bytes (limits .depth) (limits .funs) stmts (w .next) (w .read) .parts)
                 (code-limit lent) d,
           )
 
@@ -312,17 +312,17 @@ module _ (limits : Limits) (tree : List ℕ) (bytes : Bytes tree) (lent : Lent) 
     pub output : (fs : List ObjectFunction) → Was-compiled limits tree lent fs → length (image-bytes fs) ≤ lent .output-bytes
 
   -- "Room enough means none of 1, 30, 31"
-  pub room-enough-exactly : limits .funs ≤ 16 → ((answered .number ≢ 1) × (answered .number ≢ 30) × (answered .number ≢ 31)) ↔ Room-enough
+  pub room-enough-exactly : ((answered .number ≢ 1) × (answered .number ≢ 30) × (answered .number ≢ 31)) ↔ Room-enough
   unfolding refusal
-  room-enough-exactly nested = (
+  room-enough-exactly = (
     λ n. record {
       table = at-least (limits .table-bytes) (8 * lent .table-words) (λ l. n .0 (work-short-exactly .1 l));
-      code = λ stmts w. at-least (code-needed stmts) (code-limit lent) (λ l. n .1 (code-full-exactly nested .1 (stmts, w, l)));
+      code = λ stmts w. at-least (code-needed stmts) (code-limit lent) (λ l. n .1 (code-full-exactly .1 (stmts, w, l)));
       output = λ fs w. at-least (length (image-bytes fs)) (lent .output-bytes) (λ l. n .2 (ap (λ (a : Answer). a .number) (out-full-then fs w l)));
     },
     λ e. (
       λ n. omega (arith, e .table, work-short-exactly .0 n),
-      λ n. let (stmts, w, l) = code-full-exactly nested .0 n in omega (arith, l, e .code stmts w),
+      λ n. let (stmts, w, l) = code-full-exactly .0 n in omega (arith, l, e .code stmts w),
       λ n. let (fs, w, l) = out-full-only n in omega (arith, l, e .output fs w),
     ),
   )

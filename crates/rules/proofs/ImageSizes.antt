@@ -27,7 +27,7 @@ use Rattle.rules.proofs.Trees.{Of-stmts, stmts-size}
 use Rattle.rules.proofs.Steps as steps
 use Rattle.rules.proofs.Steps.{Laws}
 use Rattle.rules.proofs.Held as open-ones
-use Rattle.rules.proofs.Held.{sum-of, times, Measure, spent, Spent, more}
+use Rattle.rules.proofs.Held.{sum-of, summed, times, Measure, sum-holds, Holds, spent, Spent, more}
 use Rattle.rules.proofs.Spends as spends
 use Rattle.rules.proofs.Spends.{Spends, Ends}
 use Rattle.rules.proofs.TreeBytes.{fitting}
@@ -205,7 +205,7 @@ Any r = Unit {0}
 
 module _ (limit most top : ℕ) (nested : most ≤ 16) where
   abbrev J : ℕ → ℕ → Compiler → Type 0
-  J g k s = Spent held weigh-all most g k s
+  J g k s = Spent (summed held) weigh-all most g k s
 
   abbrev Does : {A : Type 0} → (g h n : ℕ) → Compile A → Type 0
   Does g h n m = Spends J Any top g h n m
@@ -213,14 +213,17 @@ module _ (limit most top : ℕ) (nested : most ≤ 16) where
   infixl 10 _>>=_
   _>>=_ : {A B : Type 0} {g h i n n′ : ℕ} {m : Compile A} {f : A → Compile B} → Does g h n m → ((a : A) → Does h i n′ (f a)) →
       Does g i (n + n′) (c._>>=_ m f)
-  hm >>= hf = spends.bind J Any top (more held weigh-all most) hm hf
+  hm >>= hf = spends.bind J Any top (more (summed held) weigh-all most) hm hf
 
   infixl 10 _>>_
   _>>_ : {A B : Type 0} {g h i n n′ : ℕ} {m : Compile A} {p : Compile B} → Does g h n m → Does h i n′ p → Does g i (n + n′) (c._>>_ m p)
-  hm >> hp = spends.follow J Any top (more held weigh-all most) hm hp
+  hm >> hp = spends.follow J Any top (more (summed held) weigh-all most) hm hp
 
   few : (n : ℕ) → n ≤ most → times 3 n ≤ 48
   few n l = omega (arith, thrice n)
+
+  holds : Holds (summed held) 48 12 most
+  holds = sum-holds held 3 12 measure most 48 few
 
   -- ## What writes
 
@@ -242,7 +245,7 @@ module _ (limit most top : ℕ) (nested : most ≤ 16) where
   Last span s = Last-is span (s .ctx .chunk .spans)
 
   record Both (span : Span) (g k : ℕ) (s : Compiler) : Type 0 where
-    spent : Spent held weigh-all most g k s
+    spent : Spent (summed held) weigh-all most g k s
     last : Last span s
 
   emit-last : {g : ℕ} (k b : ℕ) (span : Span) → Triple (J g k) (c.emit-u8 limit b span) (λ _. Both span g (k + 12))
@@ -296,7 +299,7 @@ module _ (limit most top : ℕ) (nested : most ≤ 16) where
       (record { levels = i .levels; spent = omega (arith, i .spent) }))
     where
       widen : (o : Outcome (Unit {0})) → After (λ _. Both span g (k + 10 + 12)) o → After (λ _. Both span g (k + 22)) o
-      widen (ok a t) h = record { spent = more held weigh-all most g (k + 10 + 12) (k + 22) t (omega arith) (h .spent); last = h .last }
+      widen (ok a t) h = record { spent = more (summed held) weigh-all most g (k + 10 + 12) (k + 22) t (omega arith) (h .spent); last = h .last }
       widen (err r) h = tt
   place-last s k no-room span i e = tt
 
@@ -426,7 +429,7 @@ module _ (limit most top : ℕ) (nested : most ≤ 16) where
 
       ended : (s : Compiler) (k : ℕ) → J g k s → Ends J Any top g (k + 0) (c.pop-locals limit (s .ctx .locals) span (c.with-ctx s (lower (s .ctx))))
       ended s k i =
-          spends.ends-more J Any top (more held weigh-all most) g k (k + 0)
+          spends.ends-more J Any top (more (summed held) weigh-all most) g k (k + 0)
           (c.pop-locals limit (s .ctx .locals) span (c.with-ctx s (lower (s .ctx)))) (omega arith)
           (pop-locals (s .ctx .locals) span (c.with-ctx s (lower (s .ctx))) k refl (record { levels = i .levels; spent = i .spent }))
 
@@ -436,7 +439,7 @@ module _ (limit most top : ℕ) (nested : most ≤ 16) where
   closes {g} k k′ number us span t l i = by-outcome (c.emit-closure limit number us span t) ((emit-closure k number us span) .run t i)
     where
       by-outcome : (o : Outcome (Unit {0})) → After (λ _. J g (k + 12 + 22 + (11 + 3 * length us))) o → Ends J Any top g k′ o
-      by-outcome (ok a u) h = more held weigh-all most g (k + 12 + 22 + (11 + 3 * length us)) k′ u (omega arith) h
+      by-outcome (ok a u) h = more (summed held) weigh-all most g (k + 12 + 22 + (11 + 3 * length us)) k′ u (omega arith) h
       by-outcome (err r) h = tt
 
   back-to : {h : ℕ} (g : ℕ) (s : Compiler) (k : ℕ) (ps : List CompilerCtx) (span : Span) → s .parents ≡ ps → g ≡ suc h → g ≤ most → J h k s →
@@ -444,7 +447,7 @@ module _ (limit most top : ℕ) (nested : most ≤ 16) where
   unfolding c.back-to c.finish go-on
   back-to g s k [] span e up b i = closes k (k + 64) 0 [] span s (omega arith) (record { levels = omega (arith, ap length e); spent = i .spent })
   back-to g s k (p ∷ ps) span e up b i =
-      closes (spent held weigh-all t) (k + 64) (length (s .functions)) us span t
+      closes (spent (summed held) weigh-all t) (k + 64) (length (s .functions)) us span t
       (omega (arith, i .spent, ap (sum-of held) e, weigh-end (s .functions) (c.finish (s .ctx))))
       (record { levels = omega (arith, i .levels, ap length e); spent = omega arith })
     where
@@ -467,20 +470,20 @@ module _ (limit most top : ℕ) (nested : most ≤ 16) where
         super-name = omega arith;
         _>>=_ = λ hm hf. hm >>= hf;
         _>>_ = λ hm hp. hm >> hp;
-        enough = λ hm b b′. spends.enough J Any top (more held weigh-all most) hm b′;
-        needs = λ b r o f. spends.needs J Any top (more held weigh-all most) b r tt f;
-        return = λ a. spends.return J Any top (more held weigh-all most) a;
-        the = λ f. spends.the J Any top (more held weigh-all most) f;
-        need = λ b r o. spends.need J Any top (more held weigh-all most) b r tt;
-        refuse = λ r o. spends.refuse J Any top (more held weigh-all most) r tt;
-        resolve = λ name span. open-ones.resolve held weigh-all 3 12 measure most 48 few Any (λ r o. tt) top name span;
-        patch-jump = λ at span. open-ones.patch-jump held weigh-all 3 12 measure most 48 few Any (λ r o. tt) top at span;
-        declare-local = λ name span. open-ones.declare-local held weigh-all 3 12 measure most 48 few Any (λ r o. tt) top name span;
-        define-local = open-ones.define-local held weigh-all 3 12 measure most 48 few Any (λ r o. tt) top;
-        begin-scope = open-ones.begin-scope held weigh-all 3 12 measure most 48 few Any (λ r o. tt) top;
-        push-class-ctx = λ b. open-ones.push-class-ctx held weigh-all 3 12 measure most 48 few Any (λ r o. tt) top b;
-        pop-class-ctx = open-ones.pop-class-ctx held weigh-all 3 12 measure most 48 few Any (λ r o. tt) top;
-        begin-ctx = λ name arity depth type up n a. open-ones.begin-ctx held weigh-all 3 12 measure most 48 few Any
+        enough = λ hm b b′. spends.enough J Any top (more (summed held) weigh-all most) hm b′;
+        needs = λ b r o f. spends.needs J Any top (more (summed held) weigh-all most) b r tt f;
+        return = λ a. spends.return J Any top (more (summed held) weigh-all most) a;
+        the = λ f. spends.the J Any top (more (summed held) weigh-all most) f;
+        need = λ b r o. spends.need J Any top (more (summed held) weigh-all most) b r tt;
+        refuse = λ r o. spends.refuse J Any top (more (summed held) weigh-all most) r tt;
+        resolve = λ name span. open-ones.resolve (summed held) weigh-all 48 12 most holds Any (λ r o. tt) top name span;
+        patch-jump = λ at span. open-ones.patch-jump (summed held) weigh-all 48 12 most holds Any (λ r o. tt) top at span;
+        declare-local = λ name span. open-ones.declare-local (summed held) weigh-all 48 12 most holds Any (λ r o. tt) top name span;
+        define-local = open-ones.define-local (summed held) weigh-all 48 12 most holds Any (λ r o. tt) top;
+        begin-scope = open-ones.begin-scope (summed held) weigh-all 48 12 most holds Any (λ r o. tt) top;
+        push-class-ctx = λ b. open-ones.push-class-ctx (summed held) weigh-all 48 12 most holds Any (λ r o. tt) top b;
+        pop-class-ctx = open-ones.pop-class-ctx (summed held) weigh-all 48 12 most holds Any (λ r o. tt) top;
+        begin-ctx = λ name arity depth type up n a. open-ones.begin-ctx (summed held) weigh-all 48 12 most holds Any
             (λ r o. tt) top name arity depth type (up .0);
         emit-u8 = λ b span n. emit-u8 b span;
         emit-constant = λ v span o n. emit-constant v span;
@@ -498,13 +501,13 @@ image-at-most limit most stmts nested o = by-outcome (c.compile-script limit stm
     top : ℕ
     top = 17 * stmts-size stmts + 24
 
-    compiled : Ends (λ g k s. Spent held weigh-all most g k s) Any top most (0 + top) (c.compile-script limit stmts c.new)
+    compiled : Ends (λ g k s. Spent (summed held) weigh-all most g k s) Any top most (0 + top) (c.compile-script limit stmts c.new)
     compiled =
         (steps.compile-script (fitting most) limit limit (λ A g h n w m m′. Does limit most top nested {A = A} g h w m)
         (laws limit most top nested) stmts most o) .run c.new 0 (omega arith)
         (record { levels = omega arith; spent = omega arith })
 
-    by-outcome : (r : Outcome (Unit {0})) → Ends (λ g k s. Spent held weigh-all most g k s) Any top most (0 + top) r →
+    by-outcome : (r : Outcome (Unit {0})) → Ends (λ g k s. Spent (summed held) weigh-all most g k s) Any top most (0 + top) r →
         After (λ fs _. length (image-bytes fs) ≤ 17 * stmts-size stmts + 49)
         (go-on r (λ _. c.the (λ (s : Compiler). s .functions ++ (c.finish (s .ctx) ∷ []))))
     by-outcome (ok a s) i =

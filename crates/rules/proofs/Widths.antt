@@ -304,7 +304,7 @@ module _ (limit top : ℕ) where
         the = λ f. spends.the Fit Compilers top more f;
         need = λ b r o. spends.need Fit Compilers top more b r (rusts-compilers r o);
         refuse = λ r o. spends.refuse Fit Compilers top more r (rusts-compilers r o);
-        resolve = λ name span. costs 32 (resolve name span);
+        resolve = λ name span. costs 2 (resolve name span);
         patch-jump = λ at span. patch-jump at span;
         declare-local = λ name span. costs 1 (declare-local name span);
         define-local = update _ (λ x h. h);
@@ -325,11 +325,11 @@ module _ (limit top : ℕ) where
 pub record Widths (size : ℕ) (fs : List ObjectFunction) : Type 0 where
   pub each : All Wide-function fs
   pub some : 0 < length fs
-  pub count : length fs ≤ 6 * size + 3
+  pub count : length fs ≤ 2 * size + 3
 
 module _ (limit funs : ℕ) (stmts : Stmts) (o : Of-stmts (fitting funs) stmts funs) where
   top : ℕ
-  top = 6 * stmts-size stmts + 2
+  top = 2 * stmts-size stmts + 2
 
   compiled : Ends Fit Compilers top funs (0 + top) (c.compile-script limit stmts c.new)
   unfolding top
