@@ -1,4 +1,4 @@
--- What a server can rely on, by the tree file's length `n`: an image is at most 17 n bytes, the open functions' code at no time more than 2 n, and so
+-- What a server can rely on, by the tree file's length `n`: an image is at most 17 n bytes, the open functions' code at no time more than n, and so
 -- which rooms suffice.
 use mathlib.Core.Path.{_≡_, sym, _∙_, subst}
 use mathlib.Core.Logic.{_≢_}
@@ -44,13 +44,13 @@ module _ (limits : Limits) (nested : limits .funs ≤ 16) (tree : List ℕ) (byt
   -- a room in which no tree of this length is refused by 1, 30 or 31
   pub record Ample : Type 0 where
     pub table-words : limits .table-bytes ≤ 8 * lent .table-words
-    pub code-bytes : 2 * length tree ≤ lent .code-bytes
-    pub span-words : 6 * length tree ≤ lent .span-words
+    pub code-bytes : length tree ≤ lent .code-bytes
+    pub span-words : 3 * length tree ≤ lent .span-words
     pub output-bytes : 17 * length tree ≤ lent .output-bytes
     -- the code limit's own bound
-    pub largest : 2 * length tree ≤ max-code
+    pub largest : length tree ≤ max-code
 
-  ample-limit : Ample → 2 * length tree ≤ code-limit lent
+  ample-limit : Ample → length tree ≤ code-limit lent
   unfolding code-limit
   ample-limit a = omega (arith, a .code-bytes, a .span-words, a .largest)
 
@@ -69,9 +69,9 @@ module _ (limits : Limits) (nested : limits .funs ≤ 16) (tree : List ℕ) (byt
 
 -- ## Rooms for the published limits
 
--- a tree file of at most 131,072 bytes needs no more than this
-pub room-that-suffices : (tree : List ℕ) → Bytes tree → (lent : Lent) → 17_412 ≤ lent .table-words → 2 * length tree ≤ lent .code-bytes →
-    6 * length tree ≤ lent .span-words → 17 * length tree ≤ lent .output-bytes → 2 * length tree ≤ max-code →
+-- a tree file of at most 262,144 bytes needs no more than this
+pub room-that-suffices : (tree : List ℕ) → Bytes tree → (lent : Lent) → 17_412 ≤ lent .table-words → length tree ≤ lent .code-bytes →
+    3 * length tree ≤ lent .span-words → 17 * length tree ≤ lent .output-bytes → length tree ≤ max-code →
     (compile tree lent .answer .number ≢ 1) × (compile tree lent .answer .number ≢ 30) × (compile tree lent .answer .number ≢ 31)
 room-that-suffices tree bytes lent t c s o l = (
   ample-1 first-limits (omega arith) tree bytes lent a,

@@ -1,5 +1,5 @@
--- The least code limit that suffices for a tree, `code-needed`: 30 comes back exactly under a smaller one, and it is at most two for each byte of the
--- tree's records. So a code area of two bytes for each byte of the tree file, and a span area of six words for each, are room enough.
+-- The least code limit that suffices for a tree, `code-needed`: 30 comes back exactly under a smaller one, and it is at most one for each byte of the
+-- tree's records. So a code area of a byte for each byte of the tree file, and a span area of three words for each, are room enough.
 use mathlib.Core.Path.{_≡_, refl, ap, subst}
 use mathlib.Core.Bool.{Bool, true, false, not}
 use mathlib.Core.List.{List}
@@ -71,7 +71,7 @@ unfoldable pub suffices : Stmts → (limit : ℕ) → Bool
 suffices stmts limit = not (met (c.compile-functions limit stmts))
 
 unfoldable pub code-needed : Stmts → ℕ
-code-needed stmts = least (2 * stmts-size stmts + 2) (suffices stmts)
+code-needed stmts = least (stmts-size stmts + 2) (suffices stmts)
 
 not-met : {A : Type 0} (o : Outcome A) → T (not (met o)) → o ≡ err CodeFull → ⊥
 unfolding answer.refusal
@@ -89,22 +89,22 @@ suffices-upward stmts m n l t = by-agreement (agrees m n l stmts)
 pub full-below : (stmts : Stmts) (limit : ℕ) → limit < code-needed stmts → c.compile-functions limit stmts ≡ err CodeFull
 unfolding code-needed suffices
 full-below stmts limit l =
-    by-test (met (c.compile-functions limit stmts)) refl (least-least (2 * stmts-size stmts + 2) (suffices stmts) (suffices-upward stmts) limit l)
+    by-test (met (c.compile-functions limit stmts)) refl (least-least (stmts-size stmts + 2) (suffices stmts) (suffices-upward stmts) limit l)
   where
     by-test : (b : Bool) → met (c.compile-functions limit stmts) ≡ b → (T (not (met (c.compile-functions limit stmts))) → ⊥) →
         c.compile-functions limit stmts ≡ err CodeFull
     by-test true e n = met-full (c.compile-functions limit stmts) e
     by-test false e n = absurd (n (rw e tt))
 
-pub needed-most : (stmts : Stmts) → code-needed stmts ≤ 2 * stmts-size stmts + 2
+pub needed-most : (stmts : Stmts) → code-needed stmts ≤ stmts-size stmts + 2
 unfolding code-needed
-needed-most stmts = least-bound (2 * stmts-size stmts + 2) (suffices stmts)
+needed-most stmts = least-bound (stmts-size stmts + 2) (suffices stmts)
 
 module _ (most : ℕ) (stmts : Stmts) (o : Of-stmts (fitting most) stmts most) where
-  enough-suffices : T (suffices stmts (2 * stmts-size stmts + 2))
+  enough-suffices : T (suffices stmts (stmts-size stmts + 2))
   unfolding suffices
   enough-suffices =
-      by-outcome (c.compile-functions (2 * stmts-size stmts + 2) stmts) (within (2 * stmts-size stmts + 2) most stmts o (omega arith))
+      by-outcome (c.compile-functions (stmts-size stmts + 2) stmts) (within (stmts-size stmts + 2) most stmts o (omega arith))
     where
       by-number : (r : Refusal) (b : Bool) → eqb (number-of r) 30 ≡ b → Rusts r → T (not b)
       by-number r true e h = omega (arith, eqb→eq (number-of r) 30 (rw e tt), rusts-number r h)
@@ -124,4 +124,4 @@ module _ (most : ℕ) (stmts : Stmts) (o : Of-stmts (fitting most) stmts most) w
       by-test false l =
           absurd (not-met (c.compile-functions limit stmts)
           (suffices-upward stmts (code-needed stmts) limit (nltb→le limit (code-needed stmts) (rw l tt))
-          (least-suffices (2 * stmts-size stmts + 2) (suffices stmts) enough-suffices)) e)
+          (least-suffices (stmts-size stmts + 2) (suffices stmts) enough-suffices)) e)

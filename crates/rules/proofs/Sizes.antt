@@ -1,4 +1,4 @@
--- How much room suffices: the open functions' code, summed, is at no time more than two bytes for each byte of the tree file, however deep they lie in
+-- How much room suffices: the open functions' code, summed, is at no time more than a byte for each byte of the tree file, however deep they lie in
 -- one another. So a code limit of that much is never met.
 use mathlib.Core.Path.{_≡_, refl, ap, subst, subst⁻¹}
 use mathlib.Core.Bool.{Bool, true, false}
@@ -521,13 +521,13 @@ abbrev pub Within : Outcome (List ObjectFunction) → Type 0
 Within (ok fs s) = Unit {0}
 Within (err r) = Rusts r
 
-pub within : (limit most : ℕ) (stmts : Stmts) → Of-stmts (fitting most) stmts most → 2 * stmts-size stmts + 2 ≤ limit →
+pub within : (limit most : ℕ) (stmts : Stmts) → Of-stmts (fitting most) stmts most → stmts-size stmts + 2 ≤ limit →
     Within (c.compile-functions limit stmts)
 unfolding c.compile-functions c._>>_ c.the c.finish go-on
 within limit most stmts o room = by-outcome (c.compile-script limit stmts c.new) compiled
   where
     top : ℕ
-    top = 2 * stmts-size stmts + 2
+    top = stmts-size stmts + 2
 
     compiled : Ends (λ g k s. Spent peak gone most g k s) Rusts top most (0 + top) (c.compile-script limit stmts c.new)
     compiled =

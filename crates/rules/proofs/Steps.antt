@@ -1,6 +1,6 @@
 -- What each step of the compiler has, the compiler has: a fact `R from to code image m m′` of a step `m` under one code limit and the same step `m′`
 -- under another, where `from` and `to` are levels of nested functions, and `code` and `image` count the bytes that the step may come to cost: of code,
--- and of the image. From a law for each small step, the law for every expression and statement whose leaves are as asked, at most 2 and 17 for each
+-- and of the image. From a law for each small step, the law for every expression and statement whose leaves are as asked, at most 1 and 17 for each
 -- byte of its record. Which jumps wait is not followed here: that is what `Keeps` does.
 use mathlib.Core.Bool.{Bool, true, false}
 use mathlib.Core.Option.{Option, none, some}
@@ -262,7 +262,7 @@ module _ (l : Leaf) (limit limit′ : ℕ) (R : (A : Type 0) → (from to : l .l
     call-value : {g : l .level} {n k w v : ℕ} {callee callee′ args args′ : Compile (Unit {0})} (count : ℕ) (span : Span) →
         R _ g g n w callee callee′ →
         R _ g g k v args args′ → l .span span →
-        R _ g g (n + k + 24) (w + v + 204) (c.call-value limit callee args count span) (c.call-value limit′ callee′ args′ count span)
+        R _ g g (n + k + 12) (w + v + 204) (c.call-value limit callee args count span) (c.call-value limit′ callee′ args′ count span)
     unfolding c.call-value
     call-value count span hc ha s =
         enough
@@ -275,7 +275,7 @@ module _ (l : Leaf) (limit limit′ : ℕ) (R : (A : Type 0) → (from to : l .l
     mutual
       unfolding c.compile-expr
 
-      pub compile-expr : (e : Expr) {g : l .level} → Of-expr l e → Has g g (2 * expr-size e) (17 * expr-size e) (λ limit. c.compile-expr limit e)
+      pub compile-expr : (e : Expr) {g : l .level} → Of-expr l e → Has g g (expr-size e) (17 * expr-size e) (λ limit. c.compile-expr limit e)
       compile-expr (ExprAssign span name value) o =
           enough
           (do
@@ -318,8 +318,8 @@ module _ (l : Leaf) (limit limit′ : ℕ) (R : (A : Type 0) → (from to : l .l
       compile-expr (ExprVar span name) o = enough (get-variable name span (o .1) (o .0)) (omega arith) (omega arith)
 
       pub compile-call : (e : Expr) (n : ℕ) (span : Span) {g : l .level} {k v : ℕ} {callee callee′ args args′ : Compile (Unit {0})} →
-          R _ g g (2 * expr-size e) (17 * expr-size e) callee callee′ → R _ g g k v args args′ →
-          Of-expr l e → l .span span → R _ g g (2 * expr-size e + k + 24) (17 * expr-size e + v + 204) (c.compile-call limit e callee args n span)
+          R _ g g (expr-size e) (17 * expr-size e) callee callee′ → R _ g g k v args args′ →
+          Of-expr l e → l .span span → R _ g g (expr-size e + k + 12) (17 * expr-size e + v + 204) (c.compile-call limit e callee args n span)
           (c.compile-call limit′ e callee′ args′ n span)
       compile-call (ExprGet _ name object) n span hc ha o s =
           enough (call-method name n span (compile-expr object (o .2)) ha (o .1) s) (omega arith) (omega arith)
@@ -333,7 +333,7 @@ module _ (l : Leaf) (limit limit′ : ℕ) (R : (A : Type 0) → (from to : l .l
       compile-call (ExprVar _ _) n span hc ha o s = call-value n span hc ha s
 
       pub compile-exprs : (es : Exprs) {g : l .level} → Of-exprs l es →
-          Has g g (2 * exprs-size es) (17 * exprs-size es) (λ limit. c.compile-exprs limit es)
+          Has g g (exprs-size es) (17 * exprs-size es) (λ limit. c.compile-exprs limit es)
       compile-exprs []ᵉ o = done
       compile-exprs (e ∷ᵉ es) o =
           enough
@@ -345,13 +345,13 @@ module _ (l : Leaf) (limit limit′ : ℕ) (R : (A : Type 0) → (from to : l .l
     -- ## Statements
 
     compile-value : {g : l .level} (v : Option Expr) (span : Span) → If-some (Of-expr l) v → l .span span →
-        Has g g (2 * option-size expr-size v + 1) (17 * option-size expr-size v + 12) (λ limit. c.compile-value limit v span)
+        Has g g (option-size expr-size v + 1) (17 * option-size expr-size v + 12) (λ limit. c.compile-value limit v span)
     unfolding c.compile-value
     compile-value none span o s = emit-op _ _ s
     compile-value (some value) span o s = enough (compile-expr value o) (omega arith) (omega arith)
 
     return-value : {g : l .level} (t : FunctionType) (v : Option Expr) (span : Span) → If-some (Of-expr l) v → l .span span →
-        Has g g (2 * option-size expr-size v + 2) (17 * option-size expr-size v + 24) (λ limit. c.return-value limit t v span)
+        Has g g (option-size expr-size v + 2) (17 * option-size expr-size v + 24) (λ limit. c.return-value limit t v span)
     unfolding c.return-value
     return-value Script v span o s = enough (refuse _ tt) (omega arith) (omega arith)
     return-value Initializer (some value) span o s = enough (refuse _ tt) (omega arith) (omega arith)
@@ -360,7 +360,7 @@ module _ (l : Leaf) (limit limit′ : ℕ) (R : (A : Type 0) → (from to : l .l
     return-value Method v span o s = enough (compile-value v span o s) (omega arith) (omega arith)
 
     compile-return : {g : l .level} (v : Option Expr) (span : Span) → If-some (Of-expr l) v → l .span span →
-        Has g g (2 * option-size expr-size v + 3) (17 * option-size expr-size v + 36) (λ limit. c.compile-return limit v span)
+        Has g g (option-size expr-size v + 3) (17 * option-size expr-size v + 36) (λ limit. c.compile-return limit v span)
     unfolding c.compile-return
     compile-return v span o s =
         enough
@@ -379,7 +379,7 @@ module _ (l : Leaf) (limit limit′ : ℕ) (R : (A : Type 0) → (from to : l .l
     define-global name span n s = emit-op-constant _ (CS name) _ n s
 
     compile-var : {g : l .level} (name : ℕ) (v : Option Expr) (span : Span) → If-some (Of-expr l) v → l .name name → l .span span →
-        Has g g (2 * option-size expr-size v + 3) (17 * option-size expr-size v + 46) (λ limit. c.compile-var limit name v span)
+        Has g g (option-size expr-size v + 3) (17 * option-size expr-size v + 46) (λ limit. c.compile-var limit name v span)
     unfolding c.compile-var
     compile-var name v span o n s =
         enough
@@ -405,7 +405,7 @@ module _ (l : Leaf) (limit limit′ : ℕ) (R : (A : Type 0) → (from to : l .l
 
     compile-superclass : {g : l .level} (class : ℕ) (sup : Option Superclass) (span : Span) → If-some (Of-superclass l) sup → l .name class →
         l .span span →
-        Has g g (2 * option-size (λ _. 12) sup) (17 * option-size (λ _. 12) sup) (λ limit. c.compile-superclass limit class sup span)
+        Has g g (option-size (λ _. 12) sup) (17 * option-size (λ _. 12) sup) (λ limit. c.compile-superclass limit class sup span)
     unfolding c.compile-superclass
     compile-superclass class none span o n s = done
     compile-superclass class (some sup) span o n s =
@@ -426,7 +426,7 @@ module _ (l : Leaf) (limit limit′ : ℕ) (R : (A : Type 0) → (from to : l .l
     end-superclass (some sup) = end-scope _ no-span
 
     for-cond : {g : l .level} (cond : Option Expr) (span : Span) → If-some (Of-expr l) cond → l .span span →
-        R _ g g (2 * option-size expr-size cond + 4) (17 * option-size expr-size cond + 48) (c.for-cond limit cond span)
+        R _ g g (option-size expr-size cond + 4) (17 * option-size expr-size cond + 48) (c.for-cond limit cond span)
         (c.for-cond limit′ cond span)
     unfolding c.for-cond
     for-cond none span o s = enough (return none) (omega arith) (omega arith)
@@ -440,7 +440,7 @@ module _ (l : Leaf) (limit limit′ : ℕ) (R : (A : Type 0) → (from to : l .l
         (omega arith) (omega arith)
 
     for-incr : {g : l .level} (incr : Option Expr) (span : Span) → If-some (Of-expr l) incr → l .span span →
-        Has g g (2 * option-size expr-size incr + 1) (17 * option-size expr-size incr + 12) (λ limit. c.for-incr limit incr span)
+        Has g g (option-size expr-size incr + 1) (17 * option-size expr-size incr + 12) (λ limit. c.for-incr limit incr span)
     unfolding c.for-incr
     for-incr none span o s = enough done (omega arith) (omega arith)
     for-incr (some incr) span o s =
@@ -502,7 +502,7 @@ module _ (l : Leaf) (limit limit′ : ℕ) (R : (A : Type 0) → (from to : l .l
     mutual
       unfolding c.compile-stmt
 
-      pub compile-stmt : (t : Stmt) (g : l .level) → Of-stmt l t g → Has g g (2 * stmt-size t) (17 * stmt-size t) (λ limit. c.compile-stmt limit t)
+      pub compile-stmt : (t : Stmt) (g : l .level) → Of-stmt l t g → Has g g (stmt-size t) (17 * stmt-size t) (λ limit. c.compile-stmt limit t)
       compile-stmt (StmtBlock span stmts) g o =
           enough
           (do
@@ -586,7 +586,7 @@ module _ (l : Leaf) (limit limit′ : ℕ) (R : (A : Type 0) → (from to : l .l
           (omega arith) (omega arith)
 
       pub compile-stmts : (ts : Stmts) (g : l .level) → Of-stmts l ts g →
-          Has g g (2 * stmts-size ts) (17 * stmts-size ts) (λ limit. c.compile-stmts limit ts)
+          Has g g (stmts-size ts) (17 * stmts-size ts) (λ limit. c.compile-stmts limit ts)
       compile-stmts []ˢ g o = done
       compile-stmts (t ∷ˢ ts) g o =
           enough
@@ -596,12 +596,12 @@ module _ (l : Leaf) (limit limit′ : ℕ) (R : (A : Type 0) → (from to : l .l
           (omega arith) (omega arith)
 
       pub compile-function : (f : Fun) (h g : l .level) (type : FunctionType) (span : Span) → Of-fun l f h → l .opens g h → l .span span →
-          Has g g (2 * fun-size f) (17 * fun-size f + 10) (λ limit. c.compile-function limit f type span)
+          Has g g (fun-size f + 1) (17 * fun-size f + 10) (λ limit. c.compile-function limit f type span)
       compile-function (fun name params body) h g type span o up s =
           enough (compile-function-with type name params span up (compile-stmts body h (o .2)) (o .0) s) (omega arith) (omega arith)
 
       pub compile-methods : (ms : Methods) (g : l .level) → Of-methods l ms g →
-          Has g g (2 * methods-size ms) (17 * methods-size ms) (λ limit. c.compile-methods limit ms)
+          Has g g (methods-size ms) (17 * methods-size ms) (λ limit. c.compile-methods limit ms)
       compile-methods []ᵐ g o = done
       compile-methods (method span f ms) g o =
           enough
@@ -612,7 +612,7 @@ module _ (l : Leaf) (limit limit′ : ℕ) (R : (A : Type 0) → (from to : l .l
           (omega arith) (omega arith)
 
     pub compile-script : (ts : Stmts) (g : l .level) → Of-stmts l ts g →
-        Has g g (2 * stmts-size ts + 2) (17 * stmts-size ts + 24) (λ limit. c.compile-script limit ts)
+        Has g g (stmts-size ts + 2) (17 * stmts-size ts + 24) (λ limit. c.compile-script limit ts)
     unfolding c.compile-script
     compile-script ts g o =
         enough

@@ -325,11 +325,11 @@ module _ (limit top : ℕ) where
 pub record Widths (size : ℕ) (fs : List ObjectFunction) : Type 0 where
   pub each : All Wide-function fs
   pub some : 0 < length fs
-  pub count : length fs ≤ 2 * size + 3
+  pub count : length fs ≤ size + 3
 
 module _ (limit funs : ℕ) (stmts : Stmts) (o : Of-stmts (fitting funs) stmts funs) where
   top : ℕ
-  top = 2 * stmts-size stmts + 2
+  top = stmts-size stmts + 2
 
   compiled : Ends Fit Compilers top funs (0 + top) (c.compile-script limit stmts c.new)
   unfolding top
