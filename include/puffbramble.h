@@ -62,7 +62,7 @@ typedef struct {
  * After 0, out has the image and then zeros; after any other answer only zeros. The work areas end all zero, whatever the answer. */
 #define PB_TABLE_WORDS ((size_t)17412)
 #define PB_OUTPUT_BYTES(tree_len) (17 * (size_t)(tree_len))
-#define PB_CODE_BYTES(tree_len) (6 * (size_t)(tree_len) < 262144 ? 6 * (size_t)(tree_len) : (size_t)262144)
+#define PB_CODE_BYTES(tree_len) ((size_t)(tree_len) < 262144 ? (size_t)(tree_len) : (size_t)262144)
 #define PB_SPAN_WORDS(tree_len) (3 * PB_CODE_BYTES(tree_len))
 #define PB_FIRST_OUTPUT_BYTES(tree_len) (4 * (size_t)(tree_len) + 64)
 #define PB_FIRST_CODE_BYTES(tree_len) ((size_t)(tree_len) / 3 + 64 < 262144 ? (size_t)(tree_len) / 3 + 64 : (size_t)262144)

@@ -34,7 +34,7 @@ impl Sizes {
     /// A file that is too long is refused before it is looked at, and so needs none.
     pub const fn enough(tree_bytes: usize) -> Self {
         let n = if tree_bytes > MAX_TREE { 0 } else { tree_bytes };
-        let code_bytes = if 6 * n < MAX_CODE { 6 * n } else { MAX_CODE };
+        let code_bytes = if n < MAX_CODE { n } else { MAX_CODE };
         Self { table_words: TABLE_WORDS, code_bytes, span_words: 3 * code_bytes, output_bytes: 17 * n }
     }
 

@@ -1,5 +1,5 @@
 // The program: a tree file from standard input, its image to standard output; a refusal is its number and a line end. A tree of more than 65,536
-// bytes is answered 2. The areas are room enough for every tree that is not longer (crates/rules, Bounds `largest-1`, `largest-31`): 1 and 31 never
+// bytes is answered 2. The areas are room enough for every tree that is not longer (crates/rules, Bounds `room-that-suffices`): 1, 30 and 31 never
 // come. No contract can say what is read or written; `answer` says the rest.
 ghost use lib.ListN.{length};
 ghost use Rattle.io.specs.Counts.{Counts};
@@ -51,13 +51,13 @@ fn run(tree: &mut [u8], out: &mut [u8], table: &mut [u64], code: &mut [u8], span
     show(a, out);
 }
 
-// One byte more than the longest tree, and 17 bytes of output for each of that tree's.
+// One byte more than the longest tree; for each byte of that tree 17 of output, one of code and three words of spans.
 fn lend(
     tree: &mut [u8; 65537],
     out: &mut [u8; 1114112],
     table: &mut [u64; 17412],
-    code: &mut [u8; 262144],
-    spans: &mut [u32; 786432],
+    code: &mut [u8; 65536],
+    spans: &mut [u32; 196608],
 ) {
     run(tree, out, table, code, spans);
 }
@@ -66,7 +66,7 @@ fn main() {
     let mut tree = [0u8; 65537];
     let mut out = [0u8; 1114112];
     let mut table = [0u64; 17412];
-    let mut code = [0u8; 262144];
-    let mut spans = [0u32; 786432];
+    let mut code = [0u8; 65536];
+    let mut spans = [0u32; 196608];
     lend(&mut tree, &mut out, &mut table, &mut code, &mut spans);
 }

@@ -39,7 +39,7 @@ struct Areas {
 impl Areas {
     /// The sizes that include/puffbramble.h names for every tree of this length: PB_OUTPUT_BYTES, PB_TABLE_WORDS, PB_CODE_BYTES, PB_SPAN_WORDS.
     fn enough(tree: &[u8]) -> Self {
-        let code = (6 * tree.len()).min(262_144);
+        let code = tree.len().min(262_144);
         Self { out: vec![1; 17 * tree.len()], table: vec![1; 17_412], code: vec![1; code], spans: vec![1; 3 * code] }
     }
 
