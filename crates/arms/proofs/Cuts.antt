@@ -1,31 +1,26 @@
 -- The parts of a statement make the whole: each cut says that the rules' step comes to the parts one after the other, from every state.
-use mathlib.Core.Path.{_≡_, refl, sym, ap, _∙_}
-use mathlib.Core.Option.{Option, none, some}
+use mathlib.Core.Path.{_≡_, refl, sym, _∙_}
+use mathlib.Core.Option.{Option, some}
 use Prim.Native.Nat.{ℕ}
 use Rattle.rules.specs.declared.Span.{Span}
 use Rattle.rules.specs.Tree.{Expr, Stmt, Stmts, StmtBlock, StmtFor, StmtFun, StmtIf, StmtWhile, []ˢ, _∷ˢ_, Fun, Methods, []ᵐ, method}
 use Rattle.rules.specs.Op as op
 use Rattle.rules.specs.Chunk.{CS}
-use Rattle.rules.specs.Compiler.{Compiler, Outcome, ok, err, Compile, go-on, _>>=_, _>>_, return, done, Function, begin-scope, start-loop, end-scope, patch-jump, emit-op, emit-op-constant, emit-jump, emit-loop, for-cond, for-incr, for-end, define-name, fun-name, method-type, compile-expr, compile-stmt, compile-stmts, compile-function, compile-methods}
+use Rattle.rules.specs.Compiler.{Compiler, ok, Compile, _>>=_, _>>_, return, done, Function, begin-scope, start-loop, end-scope, patch-jump, emit-op, emit-op-constant, emit-jump, emit-loop, for-cond, for-incr, for-end, define-name, fun-name, method-type, compile-expr, compile-stmt, compile-stmts, compile-function, compile-methods}
 use Rattle.compiler.specs.Stmts.{open-jump, turn-jump}
-use Rattle.compiler.proofs.Monad.{regroup}
+use Rattle.compiler.proofs.Monad.{regroup, later}
 use Rattle.compiler.proofs.Jumps.{open-cut, turn-cut}
 use Rattle.parts.specs.Parts.{close-loop, compile-method}
 
 -- ## What follows a step may be another that comes to the same
 
-go-like : {A B : Type 0} (o : Outcome A) (f g : A → Compile B) → ((a : A) (s : Compiler) → f a s ≡ g a s) → go-on o f ≡ go-on o g
-unfolding go-on
-go-like (ok a s) f g h = h a s
-go-like (err x) f g h = refl
-
 pub bind-like : {A B : Type 0} (m : Compile A) (f g : A → Compile B) → ((a : A) (s : Compiler) → f a s ≡ g a s) → (s : Compiler) → (m >>= f) s ≡ (m >>= g) s
 unfolding _>>=_
-bind-like m f g h s = go-like (m s) f g h
+bind-like m f g h s = later (m s) h
 
 pub seq-like : {A B : Type 0} (m : Compile A) (f g : Compile B) → ((s : Compiler) → f s ≡ g s) → (s : Compiler) → (m >> f) s ≡ (m >> g) s
 unfolding _>>_
-seq-like m f g h s = go-like (m s) (λ _. f) (λ _. g) (λ a s. h s)
+seq-like m f g h s = later (m s) (λ a s. h s)
 
 pub grouped : {A B C : Type 0} (m : Compile A) (f : Compile B) (g : Compile C) (s : Compiler) → (m >> (f >> g)) s ≡ ((m >> f) >> g) s
 unfolding _>>_

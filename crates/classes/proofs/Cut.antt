@@ -14,23 +14,17 @@ use Rattle.rules.specs.Reader.{got, Reader}
 use Rattle.rules.specs.TreeFile.{read-methods}
 use Rattle.rules.specs.Op as op
 use Rattle.rules.specs.Chunk.{ObjectFunction, CS}
-use Rattle.rules.specs.Compiler.{Compiler, Outcome, ok, err, Compile, go-on, _>>_, return, done, is-some, some-methods, push-class-ctx, pop-class-ctx, emit-op, emit-op-constant, get-variable, define-name, compile-superclass, end-superclass, compile-stmt, compile-methods}
+use Rattle.rules.specs.Compiler.{Compiler, ok, Compile, go-on, _>>_, return, done, is-some, some-methods, push-class-ctx, pop-class-ctx, emit-op, emit-op-constant, get-variable, define-name, compile-superclass, end-superclass, compile-stmt, compile-methods}
 use Rattle.steps.specs.View.{Mem, mem, Rest, view, Turn, Gave}
 use Rattle.steps.proofs.Steps.{seq-ok}
 use Rattle.parsed.proofs.Statements.{no-methods, more-methods}
 use Rattle.parts.specs.Parts.{open-class, close-class}
 use Rattle.parts.specs.Output.{more, Grew}
 use Rattle.parts.proofs.Growing.{turned, Run, Free}
-use Rattle.compiler.proofs.Monad.{regroup}
+use Rattle.compiler.proofs.Monad.{regroup, later}
 use Rattle.classes.specs.Classes.{entering, opening, closing}
 
 -- ## The whole
-
--- steps that come to the same from every state come to the same later on
-later : {A B : Type 0} (r : Outcome A) {f g : A → Compile B} → ((a : A) (s : Compiler) → f a s ≡ g a s) → go-on r f ≡ go-on r g
-unfolding go-on
-later (ok a s) h = h a s
-later (err x) h = refl
 
 -- with no methods there is nothing between the parts
 cut-bare : (c e p : Compile Unit) (s : Compiler) → (c >> (done >> (e >> p))) s ≡ ((c >> done) >> (done >> ((done >> e) >> p))) s

@@ -56,7 +56,7 @@ module _ {class limit l : ℕ} where
 
 -- ## The parts make the whole: what comes after a jump goes on from its place
 
-module _ (k : ℕ → Compile Unit) where
+module _ {B : Type 0} (k : ℕ → Compile B) where
   pub open-cut : (limit : ℕ) (span : Span) (s : Compiler) → (emit-jump limit op.JUMP-IF-FALSE span >>= λ j. emit-op limit op.POP span >> k j) s ≡ (open-jump limit span >>= k) s
   unfolding open-jump _>>=_ _>>_
   open-cut limit span s = cut-and k (emit-jump limit op.JUMP-IF-FALSE span s) (emit-op limit op.POP span)

@@ -14,6 +14,12 @@ unfolding go-on
 regroup (ok a s) f g = refl
 regroup (err x) f g = refl
 
+-- steps that come to the same from every state come to the same later on
+pub later : {A B : Type 0} (r : Outcome A) {f g : A → Compile B} → ((a : A) (s : Compiler) → f a s ≡ g a s) → go-on r f ≡ go-on r g
+unfolding go-on
+later (ok a s) h = h a s
+later (err x) h = refl
+
 -- a step that comes to another from every state
 module _ {class limit l n : ℕ} {e : Turn} {m m′ : Compile Unit} {before now : Mem} (h : (s : Compiler) → m′ s ≡ m s) where
   like-as : (r : Step) → Did class limit l n e m before now r → DidAs class limit l n e m′ before now r
@@ -42,7 +48,7 @@ nothing fit = returned tt fit
 
 -- ## A place is handed on: steps that end in it, and what goes on from it
 
-module _ (k : ℕ → Compile Unit) where
+module _ {B : Type 0} (k : ℕ → Compile B) where
   cut-one : (q : Outcome Unit) (j : ℕ) → go-on q (λ _. k j) ≡ go-on (go-on q (λ _. return j)) k
   unfolding go-on return
   cut-one (ok u s) j = refl

@@ -1,5 +1,5 @@
 -- The areas that the program lends are room enough for every tree that it takes: 1, 30 and 31 are none of its answers.
-use mathlib.Core.Path.{_≡_, refl, subst}
+use mathlib.Core.Path.{_≡_, refl}
 use mathlib.Core.Bool.{Bool, true, false}
 use mathlib.Core.Logic.{_≢_}
 use mathlib.Core.List.{List}

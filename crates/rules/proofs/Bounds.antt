@@ -1,25 +1,21 @@
 -- What a server can rely on, by the tree file's length `n`: an image is at most 17 n bytes, the open functions' code at no time more than n, and so
 -- which rooms suffice.
-use mathlib.Core.Path.{_≡_, sym, _∙_, subst}
+use mathlib.Core.Path.{_≡_}
 use mathlib.Core.Logic.{_≢_}
 use mathlib.Core.List.{List}
 use Prim.Native.Nat.{ℕ, _+_, _*_, _≤_}
 use native.Mathlib.Omega.{arith}
 use lib.ListN.{length}
 use Rattle.rules.specs.Limits.{Limits, first-limits, max-code}
-use Rattle.rules.specs.Tree.{Stmts}
 use Rattle.rules.specs.Chunk.{ObjectFunction}
 use Rattle.rules.specs.Compiler as c
-use Rattle.rules.specs.Compiler.{Compiler, Outcome, ok, err}
 use Rattle.rules.specs.Image.{image-bytes}
 use Rattle.rules.specs.Entry.{Lent, code-limit, functions-are, compile-lent, compile-within, compile}
 use Rattle.rules.proofs.Facts.{Bytes}
 use Rattle.rules.proofs.Checks.{from-ok, from-lent}
 use Rattle.rules.proofs.Accepted.{From, from-tree}
-use Rattle.rules.proofs.Agrees as agreeing
-use Rattle.rules.proofs.Agrees.{Under, agrees}
-use Rattle.rules.proofs.Trees.{Of-stmts, stmts-size}
-use Rattle.rules.proofs.TreeBytes.{Fitting, tree-fits, fitting}
+use Rattle.rules.proofs.Trees.{stmts-size}
+use Rattle.rules.proofs.TreeBytes.{Fitting, tree-fits}
 use Rattle.rules.proofs.ImageSizes.{image-at-most}
 use Rattle.rules.proofs.CodeNeed.{needed-most}
 use Rattle.rules.proofs.Exactly.{work-short-exactly, code-full-exactly, out-full-only, compiled-functions}

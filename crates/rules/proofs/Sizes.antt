@@ -22,7 +22,7 @@ use Rattle.rules.proofs.Refusals.{Rusts}
 use Rattle.rules.proofs.Steps as steps
 use Rattle.rules.proofs.Steps.{Laws}
 use Rattle.rules.proofs.Held as open-ones
-use Rattle.rules.proofs.Held.{sum-of, Grown, Grown-if, Holds, Spent, more}
+use Rattle.rules.proofs.Held.{sum-of, Grown-if, Holds, Spent, more}
 use Rattle.rules.proofs.Spends as spends
 use Rattle.rules.proofs.Spends.{Spends, Ends}
 use Rattle.rules.proofs.TreeBytes.{fitting}
