@@ -35,6 +35,10 @@ pub record Topmost (t : List ℕ) (base n nm r : ℕ) : Type 0 where
   pub none : (j : ℕ) → r ≤ j → j < n → getD t (base + j) 0 % 65536 ≡ nm → ⊥
   pub here : (j : ℕ) → suc j ≡ r → getD t (base + j) 0 % 65536 ≡ nm
 
+-- none of the n words from base on is w
+abbrev pub Without : List ℕ → (base n w : ℕ) → Type 0
+Without t base n w = (j : ℕ) → j < n → getD t (base + j) 0 ≡ w → ⊥
+
 -- the scan for a word: the place of the first, or n
 pub record First (t : List ℕ) (base n w r : ℕ) : Type 0 where
   pub within : r ≤ n

@@ -2,11 +2,12 @@
 // specs/Layout.antt says how it lies there, specs/Contracts.antt what each function does in the rules' terms.
 ghost use mathlib.Core.Path.{_≡_};
 ghost use Prim.Native.Nat.{ℕ, _+_, _*_, _-_, _/_, _%_, _≤_, _<_};
+ghost use mathlib.Core.Bool.{false};
 ghost use lib.Dec.{ltb, eqb};
 ghost use lib.ListN.{length, getD, replicate};
 ghost use Rattle.rules.specs.Compiler.{declared};
 ghost use Rattle.state.specs.Layout.{levels, deepest, localOf, stack, codeFrom, codeEnd, Wf, Coded};
-ghost use Rattle.state.specs.Contracts.{Topmost, First, Looked, Added, Captured, last-grows, Wrote, Constants, DeclaredAt, DefinedAt, Dropped, Moved, Closed, Began};
+ghost use Rattle.state.specs.Contracts.{Topmost, Without, First, Looked, Added, Captured, last-grows, Wrote, Constants, DeclaredAt, DefinedAt, Dropped, Moved, Closed, Began};
 use rules::Span;
 
 // The script, and the functions that may be open in one another.
@@ -89,12 +90,59 @@ pub fn resolve_local(t: &mut [u64], level: usize, name: u16, mark: bool) -> Slot
     slot
 }
 
+// Whether one of the eight words from `at` on is w.
+fn among(t: &[u64], at: usize, w: u64) -> bool
+    requires { ⌜ at + 8 ≤ length (now t) ⌝ }
+    ensures { λ r. ⌜ (r ≡ false → Without (now (t .entry)) at 8 w) ⌝ }
+{
+    if t[at] == w {
+        return true;
+    }
+    if t[at + 1] == w {
+        return true;
+    }
+    if t[at + 2] == w {
+        return true;
+    }
+    if t[at + 3] == w {
+        return true;
+    }
+    if t[at + 4] == w {
+        return true;
+    }
+    if t[at + 5] == w {
+        return true;
+    }
+    if t[at + 6] == w {
+        return true;
+    }
+    t[at + 7] == w
+}
+
+// A place before which no word is w, found eight words at a time: a table of 256 is looked through for each constant and each upvalue.
+fn skip(t: &[u64], base: usize, n: usize, w: u64) -> usize
+    requires { ⌜ base + n ≤ length (now t) ⌝ }
+    ensures { λ r. ⌜ (r ≤ n) × (Without (now (t .entry)) base r w) ⌝ }
+{
+    let mut i = 0;
+    let place = loop {
+        if n - i < 8 {
+            break i;
+        }
+        if among(t, base + i, w) {
+            break i;
+        }
+        i += 8;
+    };
+    place
+}
+
 // The place of the first word that is w, n where there is none.
 pub fn first(t: &[u64], base: usize, n: usize, w: u64) -> usize
     requires { ⌜ base + n ≤ length (now t) ⌝ }
     ensures { λ r. ⌜ First (now (t .entry)) base n w r ⌝ }
 {
-    let mut i = 0;
+    let mut i = skip(t, base, n, w);
     let place = loop {
         if i == n {
             break n;

@@ -44,6 +44,10 @@ next g = record { does = (g, refl) }
 pub next-at : {class limit l v n : ℕ} {e : Turn} {m : Compile Unit} {before now : Mem} → Gave class limit l e m tt before now → v ≡ n → Did class limit l n e m before now (Next v)
 next-at g q = record { does = (g, q) }
 
+-- the answer of a step that went on, made anew
+pub anew : {class limit l n v : ℕ} {e : Turn} {m : Compile Unit} {before now : Mem} {r : Step} → Did class limit l n e m before now r → r ≡ Next v → Did class limit l n e m before now (Next n)
+anew d q = next (went d q)
+
 pub stop : {class limit l n : ℕ} {e : Turn} {m : Compile Unit} {before : Mem} {x : Refusal} (now : Mem) → Refused class l m before x → Did class limit l n e m before now (Stop x)
 stop now h = record { does = h }
 

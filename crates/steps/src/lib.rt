@@ -1,5 +1,6 @@
 // The compiler's steps over the lent areas, each against the rules' step of its name. `level` is the innermost open function, `limit` the code limit.
-// A step's answer is where to read on, which is what its last parameter says, or the rules' refusal.
+// A step's answer is where to read on, which is what its last parameter says, or the rules' refusal. Where time counts an answer is taken apart and
+// made anew: one that is only handed on is copied through memory, and the copy waits for the stores.
 ghost use mathlib.Core.Path.{_≡_};
 ghost use Prim.Native.Nat.{ℕ, _+_, _*_, _-_, _/_, _%_, _≤_, _<_};
 ghost use mathlib.Core.Bool.{_&&_};
@@ -121,7 +122,11 @@ pub fn emit_op_constant(
     let Step::Next(_) = a else {
         return a;
     };
-    emit_constant(t, code, spans, level, limit, w, span, next)
+    let b = emit_constant(t, code, spans, level, limit, w, span, next);
+    let Step::Next(_) = b else {
+        return b;
+    };
+    Step::Next(next)
 }
 
 // A name's word as a constant, and a function's.
@@ -454,29 +459,37 @@ pub fn get_variable(
     }
     let place = resolve(t, level, name, span);
     match place {
-        Place::Local(i) => emit_op_u8(t, code, spans, level, limit, Op::GET_LOCAL, i, span, next),
-        Place::Upvalue(i) => emit_op_u8(
-            t,
-            code,
-            spans,
-            level,
-            limit,
-            Op::GET_UPVALUE,
-            i,
-            span,
-            next,
-        ),
-        Place::Global => emit_op_name(
-            t,
-            code,
-            spans,
-            level,
-            limit,
-            Op::GET_GLOBAL,
-            name,
-            span,
-            next,
-        ),
+        Place::Local(i) => {
+            let a = emit_op_u8(t, code, spans, level, limit, Op::GET_LOCAL, i, span, next);
+            let Step::Next(_) = a else {
+                return a;
+            };
+            Step::Next(next)
+        }
+        Place::Upvalue(i) => {
+            let a = emit_op_u8(t, code, spans, level, limit, Op::GET_UPVALUE, i, span, next);
+            let Step::Next(_) = a else {
+                return a;
+            };
+            Step::Next(next)
+        }
+        Place::Global => {
+            let a = emit_op_name(
+                t,
+                code,
+                spans,
+                level,
+                limit,
+                Op::GET_GLOBAL,
+                name,
+                span,
+                next,
+            );
+            let Step::Next(_) = a else {
+                return a;
+            };
+            Step::Next(next)
+        }
         Place::Nowhere(x) => Step::Stop(x),
     }
 }
@@ -496,29 +509,37 @@ pub fn set_variable(
 {
     let place = resolve(t, level, name, span);
     match place {
-        Place::Local(i) => emit_op_u8(t, code, spans, level, limit, Op::SET_LOCAL, i, span, next),
-        Place::Upvalue(i) => emit_op_u8(
-            t,
-            code,
-            spans,
-            level,
-            limit,
-            Op::SET_UPVALUE,
-            i,
-            span,
-            next,
-        ),
-        Place::Global => emit_op_name(
-            t,
-            code,
-            spans,
-            level,
-            limit,
-            Op::SET_GLOBAL,
-            name,
-            span,
-            next,
-        ),
+        Place::Local(i) => {
+            let a = emit_op_u8(t, code, spans, level, limit, Op::SET_LOCAL, i, span, next);
+            let Step::Next(_) = a else {
+                return a;
+            };
+            Step::Next(next)
+        }
+        Place::Upvalue(i) => {
+            let a = emit_op_u8(t, code, spans, level, limit, Op::SET_UPVALUE, i, span, next);
+            let Step::Next(_) = a else {
+                return a;
+            };
+            Step::Next(next)
+        }
+        Place::Global => {
+            let a = emit_op_name(
+                t,
+                code,
+                spans,
+                level,
+                limit,
+                Op::SET_GLOBAL,
+                name,
+                span,
+                next,
+            );
+            let Step::Next(_) = a else {
+                return a;
+            };
+            Step::Next(next)
+        }
         Place::Nowhere(x) => Step::Stop(x),
     }
 }

@@ -1,4 +1,4 @@
--- `first` meets its contract. A scan upwards: what it has passed are other words. Assumes nothing.
+-- `first` meets its contract. A scan upwards from where `skip` leaves off: what it has passed are other words. Assumes nothing.
 use Prim.Native.Nat.{ℕ, _+_, _-_, _≤_, _<_}
 use native.Mathlib.Omega.{arith}
 use mathlib.Core.Path.{_≡_}
@@ -14,8 +14,11 @@ Inv-loop t base n w i₀ i = (i ≤ n) × ((j : ℕ) → j < i → getD t (base 
 abbrev μ-loop : tie.MeasureT-loop
 μ-loop t base n w i₀ i = n - i
 
+skip-requires : tie.Need-skip-requires Inv-loop μ-loop
+skip-requires c κs = search needs
+
 loop-holds : tie.Need-loop-holds Inv-loop μ-loop
-loop-holds c = search needs
+loop-holds c = c .skip .ensures
 
 add-if2 : tie.Need-add-if2 Inv-loop μ-loop
 add-if2 c = search needs
@@ -47,6 +50,7 @@ first-spec =
     (tie.spec
     Inv-loop
     μ-loop
+    skip-requires
     loop-holds
     add-if2
     mul-if2

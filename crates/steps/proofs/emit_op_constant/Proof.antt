@@ -1,7 +1,7 @@
 -- `emit_op_constant` meets its contract. Assumes nothing.
 use borrow.Author.Needs.{needs}
 use Rattle.rules.specs.Compiler.{emit-op, emit-op-constant}
-use Rattle.steps.proofs.Steps.{went, halt, then-on}
+use Rattle.steps.proofs.Steps.{went, anew, halt, then-on}
 use Rattle.steps.proofs.emit_op_constant.Statement.{statement}
 use Rattle.steps.proofs.emit_op_constant.Tie as tie
 
@@ -30,6 +30,12 @@ returns c = λ class. halt _ (c .before .before .before .before .before .before 
 emit-constant-requires : tie.Need-emit-constant-requires
 emit-constant-requires c κs = went (c .before .before .before .before .before .before .before .before .before .before .before .emit-op .ensures 0) (c .before .before .before .enum-told .given .1) .ahead .fit
 
+enum-told-3 : tie.Need-enum-told-3
+enum-told-3 c = search needs
+
+enum-told-4 : tie.Need-enum-told-4
+enum-told-4 c = search needs
+
 same-length-4 : tie.Need-same-length-4
 same-length-4 c = search needs
 
@@ -41,7 +47,20 @@ same-length-6 c = search needs
 
 returns-2 : tie.Need-returns-2
 unfolding emit-op emit-op-constant
-returns-2 c = λ class. then-on _ (c .before .before .before .before .before .before .before .before .before .before .before .before .before .before .before .before .before .before .emit-op .ensures class) (c .before .before .before .before .before .before .before .before .before .before .enum-told .given .1) (c .before .before .before .before .before .before .emit-constant .ensures class)
+returns-2 c = λ class. then-on _ (c .before .before .before .before .before .before .before .before .before .before .before .before .before .before .before .before .before .before .before .before .emit-op .ensures class) (c .before .before .before .before .before .before .before .before .before .before .before .before .enum-told .given .1) (c .before .before .before .before .before .before .before .before .emit-constant .ensures class)
+
+same-length-7 : tie.Need-same-length-7
+same-length-7 c = search needs
+
+same-length-8 : tie.Need-same-length-8
+same-length-8 c = search needs
+
+same-length-9 : tie.Need-same-length-9
+same-length-9 c = search needs
+
+returns-3 : tie.Need-returns-3
+unfolding emit-op emit-op-constant
+returns-3 c = λ class. then-on _ (c .before .before .before .before .before .before .before .before .before .before .before .before .before .before .before .before .before .before .before .before .emit-op .ensures class) (c .before .before .before .before .before .before .before .before .before .before .before .before .enum-told .given .1) (anew (c .before .before .before .before .before .before .before .before .emit-constant .ensures class) (c .enum-told3 .given .1))
 
 pub emit-op-constant-spec : {M : Type 1} → statement M
 emit-op-constant-spec =
@@ -55,7 +74,13 @@ emit-op-constant-spec =
     same-length-3
     returns
     emit-constant-requires
+    enum-told-3
+    enum-told-4
     same-length-4
     same-length-5
     same-length-6
-    returns-2)
+    returns-2
+    same-length-7
+    same-length-8
+    same-length-9
+    returns-3)
