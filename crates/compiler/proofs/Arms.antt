@@ -1,10 +1,10 @@
--- The arms of `compile_expr`: from what is known of its steps, that the expression that was read is compiled. One law for each way out.
+-- The arms of `compile_any`: from what is known of its steps, that the expression that was read is compiled. One law for each way out.
 use mathlib.Core.Path.{_≡_, sym, ap, ap₂, subst, _∙_}
 use mathlib.Core.Bool.{true, false}
 use mathlib.Core.Option.{some}
 use mathlib.Core.Logic.{_⊎_, inl, inr, ⊎-elim}
 use mathlib.Core.List.{List}
-use Prim.Native.Nat.{ℕ, _+_, _-_, _^_, _≤_, _<_}
+use Prim.Native.Nat.{ℕ, _+_, _-_, _*_, _^_, _≤_, _<_}
 use native.Mathlib.Omega.{arith}
 use lib.ListN.{length}
 use borrow.Author.Tests.{lt-ltb}
@@ -13,7 +13,7 @@ use Rattle.rules.specs.Limits.{max-bits}
 use Rattle.rules.specs.declared.Span.{Span}
 use Rattle.rules.specs.declared.Refusal.{Refusal}
 use Rattle.rules.specs.Tree.{Expr, Exprs, ExprAssign, ExprCall, ExprGet, ExprInfix, Literal, ExprPrefix, ExprSet, ExprSuper, ExprVar, ExprLiteral, LitBool, LitNil, LitNumber, LitString, OpInfix}
-use Rattle.rules.specs.Reader.{got}
+use Rattle.rules.specs.Reader.{Read, got}
 use Rattle.rules.specs.TreeFile.{expr-marks, read-exprs, infix-ops, prefix-ops}
 use Rattle.rules.specs.Op as op
 use Rattle.rules.specs.Chunk.{Constant, CN, CS}
@@ -35,8 +35,12 @@ use Rattle.compiler.proofs.Calls.{call-cut, parts-read, Walk, walk-stop
 number-word : (n : ℕ) → n ≤ max-bits → constantOf n ≡ CN n
 number-word n h = let b : n < 2 ^ 63 = omega arith in rw (lt-ltb n (2 ^ 63) b)
 
-pub falls : (d t : ℕ) → 1 ≤ d → d ≡ t → d - 1 < t
+-- the measure falls, from a level to the next one in and within one
+pub falls : (d t : ℕ) → 1 ≤ d → 2 * d ≡ t → 2 * (d - 1) + 1 < t
 falls d t h e = omega arith
+
+pub same-level : (d t : ℕ) → 2 * d + 1 ≡ t → 2 * d < t
+same-level d t e = omega arith
 
 same-stop : {class limit l n : ℕ} {m : Compile Unit} {before now : Mem} {r : Step} {x : Refusal} → r ≡ Stop x → Refused class l m before x → Did class limit l n steady m before now r
 same-stop {class} {limit} {l} {n} {m} {before} {now} q h = subst (λ (s : Step). Did class limit l n steady m before now s) (sym q) (stop now h)
@@ -45,6 +49,9 @@ module _ {class limit l : ℕ} {before : Mem} where
   -- what was read is this
   by : {n : ℕ} {e e′ : Expr} {now : Mem} {r : Step} → e ≡ e′ → Did class limit l n steady (compile-expr limit e′) before now r → Did class limit l n steady (compile-expr limit e) before now r
   by {n} {now = now} {r = r} q x = subst (λ (z : Expr). Did class limit l n steady (compile-expr limit z) before now r) (sym q) x
+
+  pub same-answer : {x : Read Expr} {now : Mem} {r r′ : Step} → r ≡ r′ → Ran class limit l x before now r → Ran class limit l x before now r′
+  same-answer {x} {now} q a = subst (λ (s : Step). Ran class limit l x before now s) q a
 
   -- ## Literals
 

@@ -307,7 +307,30 @@ fn call_close(
 // ## Expressions
 
 // The expression whose record starts at `at`, where `left` more levels of records may open. The answer's value is where the record ends.
+// The answer is taken apart and made again: one that is only handed on is copied through memory, and the copy waits for the stores before it.
 pub fn compile_expr(
+    tree: &[u8],
+    at: usize,
+    left: usize,
+    t: &mut [u64],
+    code: &mut [u8],
+    spans: &mut [u32],
+    level: usize,
+    limit: usize,
+    class: u8,
+) -> Step
+    requires { ⌜ (There (expr-at (now tree) left at)) × (Fit (mem (now t) (now code) (now spans)) level limit) ⌝ }
+    ensures { λ r. ⌜ Ran class limit level (expr-at (now (tree .entry)) left at) (mem (now (t .entry)) (now (code .entry)) (now (spans .entry))) (mem (now (t .exit)) (now (code .exit)) (now (spans .exit))) r ⌝ }
+{
+    let a = compile_any(tree, at, left, t, code, spans, level, limit, class);
+    let Step::Next(n) = a else {
+        return a;
+    };
+    Step::Next(n)
+}
+
+// `compile_expr`, by the record's mark.
+fn compile_any(
     tree: &[u8],
     at: usize,
     left: usize,
@@ -332,7 +355,17 @@ pub fn compile_expr(
     }
     if mark == 0x4549 {
         let operator = u8_at(tree, at + 10);
-        let a = compile_expr(tree, at + 11, left - 1, t, code, spans, level, limit, class);
+        let a = compile_expr(
+            &tree[..],
+            at + 11,
+            left - 1,
+            t,
+            code,
+            spans,
+            level,
+            limit,
+            class,
+        );
         let Step::Next(n1) = a else {
             return a;
         };
@@ -340,7 +373,7 @@ pub fn compile_expr(
         let Step::Next(place) = b else {
             return b;
         };
-        let d = compile_expr(tree, n1, left - 1, t, code, spans, level, limit, class);
+        let d = compile_expr(&tree[..], n1, left - 1, t, code, spans, level, limit, class);
         let Step::Next(n2) = d else {
             return d;
         };
@@ -348,7 +381,17 @@ pub fn compile_expr(
     }
     if mark == 0x4550 {
         let sign = u8_at(tree, at + 10);
-        let e = compile_expr(tree, at + 11, left - 1, t, code, spans, level, limit, class);
+        let e = compile_expr(
+            &tree[..],
+            at + 11,
+            left - 1,
+            t,
+            code,
+            spans,
+            level,
+            limit,
+            class,
+        );
         let Step::Next(n3) = e else {
             return e;
         };
@@ -362,7 +405,17 @@ pub fn compile_expr(
         let mut next = first;
         let mut parts = call_parts(tree, at);
         while 0 < parts {
-            let g = compile_expr(tree, next, left - 1, t, code, spans, level, limit, class);
+            let g = compile_expr(
+                &tree[..],
+                next,
+                left - 1,
+                t,
+                code,
+                spans,
+                level,
+                limit,
+                class,
+            );
             let Step::Next(n4) = g else {
                 return g;
             };
@@ -375,7 +428,17 @@ pub fn compile_expr(
     if mark == 0x4555 {
         return compile_super(t, code, spans, level, limit, class, name, span, at + 12);
     }
-    let h = compile_expr(tree, at + 12, left - 1, t, code, spans, level, limit, class);
+    let h = compile_expr(
+        &tree[..],
+        at + 12,
+        left - 1,
+        t,
+        code,
+        spans,
+        level,
+        limit,
+        class,
+    );
     let Step::Next(n5) = h else {
         return h;
     };
@@ -395,7 +458,7 @@ pub fn compile_expr(
             n5,
         );
     }
-    let k = compile_expr(tree, n5, left - 1, t, code, spans, level, limit, class);
+    let k = compile_expr(&tree[..], n5, left - 1, t, code, spans, level, limit, class);
     let Step::Next(n6) = k else {
         return k;
     };
