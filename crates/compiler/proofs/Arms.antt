@@ -2,11 +2,10 @@
 use mathlib.Core.Path.{_≡_, sym, ap, ap₂, subst, _∙_}
 use mathlib.Core.Bool.{true, false}
 use mathlib.Core.Option.{some}
-use mathlib.Core.Logic.{_⊎_, inl, inr, ⊎-elim}
+use mathlib.Core.Logic.{⊎-elim}
 use mathlib.Core.List.{List}
 use Prim.Native.Nat.{ℕ, _+_, _-_, _*_, _^_, _≤_, _<_}
 use native.Mathlib.Omega.{arith}
-use lib.ListN.{length}
 use borrow.Author.Tests.{lt-ltb}
 use Rattle.rules.specs.Base.{lookup}
 use Rattle.rules.specs.Limits.{max-bits}
@@ -36,11 +35,14 @@ number-word : (n : ℕ) → n ≤ max-bits → constantOf n ≡ CN n
 number-word n h = let b : n < 2 ^ 63 = omega arith in rw (lt-ltb n (2 ^ 63) b)
 
 -- the measure falls, from a level to the next one in and within one
-pub falls : (d t : ℕ) → 1 ≤ d → 2 * d ≡ t → 2 * (d - 1) + 1 < t
+pub falls : (d t : ℕ) → 1 ≤ d → 3 * d ≡ t → 3 * (d - 1) + 2 < t
 falls d t h e = omega arith
 
-pub same-level : (d t : ℕ) → 2 * d + 1 ≡ t → 2 * d < t
-same-level d t e = omega arith
+pub to-any : (d t : ℕ) → 3 * d + 2 ≡ t → 3 * d + 1 < t
+to-any d t e = omega arith
+
+pub to-arm : (d t : ℕ) → 3 * d + 1 ≡ t → 3 * d < t
+to-arm d t e = omega arith
 
 same-stop : {class limit l n : ℕ} {m : Compile Unit} {before now : Mem} {r : Step} {x : Refusal} → r ≡ Stop x → Refused class l m before x → Did class limit l n steady m before now r
 same-stop {class} {limit} {l} {n} {m} {before} {now} q h = subst (λ (s : Step). Did class limit l n steady m before now s) (sym q) (stop now h)
@@ -146,7 +148,7 @@ module _ {class limit l : ℕ} {before : Mem} where
     }
 
   module _ (tree : List ℕ) (d at : ℕ) where
-    -- the first child stopped, in the three kinds that have a name
+    -- the first child stopped
     pub assign-stop : {now : Mem} {r : Step} {x : Refusal} → letters tree at ≡ 0x4541 → Ran class limit l (expr-at tree (d - 1) (at + 12)) before now r → r ≡ Stop x → Ran class limit l (expr-at tree d at) before now r
     unfolding compile-expr
     assign-stop m a q = record { did = λ e n z. let i = assign-at tree (word16 tree 2) d at m z in by (i .is) (halt _ (a .did (i .value) n (i .one)) q) }
@@ -292,55 +294,34 @@ module _ {class limit l : ℕ} {before : Mem} (tree : List ℕ) (d at : ℕ) (sp
           let g = walk-done w (parts-at callee args z y) h in
           then-on _ (o .did (d - 1) callee k z) q (did-seq (g .0) _ (on-to (sym (g .1)) (b .did (d - 1) callee k z))))
 
--- ## The kinds that start with a name and have an expression
+-- ## A set's children
+
+-- something that follows from both
+pub of-both : {A B C : Type 0} → (A → B → C) → A → B → C
+of-both f a b = f a b
+
+pub set-first : (tree : List ℕ) (d at : ℕ) → letters tree at ≡ 0x4553 → {e : Expr} {n : ℕ} → expr-at tree d at ≡ got e n → There (expr-at tree (d - 1) (at + 12))
+set-first tree d at m z = let i = set-at tree (word16 tree 2) d at m z in record { thing = i .value; next = i .mid; is = i .one }
+
+-- ## Which kind
 
 pub room : (tree : List ℕ) (d at : ℕ) {e : Expr} {n : ℕ} → expr-at tree d at ≡ got e n → 1 ≤ d
 room tree d at z = any-at tree (word16 tree 2) d at z .room
 
--- none of the other five
-pub record Named (tree : List ℕ) (at : ℕ) : Type 0 where
-  pub kind : (letters tree at ≡ 0x4541) ⊎ ((letters tree at ≡ 0x4547) ⊎ ((letters tree at ≡ 0x4553) ⊎ (letters tree at ≡ 0x4555)))
-
-pub named-of : (tree : List ℕ) (d at mark : ℕ) {e : Expr} {n : ℕ} → mark ≡ letters tree at → expr-at tree d at ≡ got e n
-    → (mark ≡ 0x454C → ⊥) → (mark ≡ 0x4556 → ⊥) → (mark ≡ 0x4549 → ⊥) → (mark ≡ 0x4550 → ⊥) → (mark ≡ 0x4543 → ⊥) → Named tree at
+-- none of the other eight
+pub last-kind : (tree : List ℕ) (d at mark : ℕ) {e : Expr} {n : ℕ} → mark ≡ letters tree at → expr-at tree d at ≡ got e n
+    → (mark ≡ 0x454C → ⊥) → (mark ≡ 0x4556 → ⊥) → (mark ≡ 0x4549 → ⊥) → (mark ≡ 0x4550 → ⊥) → (mark ≡ 0x4543 → ⊥) → (mark ≡ 0x4555 → ⊥) → (mark ≡ 0x4541 → ⊥) → (mark ≡ 0x4547 → ⊥)
+    → letters tree at ≡ 0x4553
 unfolding expr-marks
-named-of tree d at mark q z l v i p c = record {
-  kind =
-      ⊎-elim inl (λ h.
-      ⊎-elim (λ h. absurd (c (q ∙ h))) (λ h.
-      ⊎-elim (λ h. inr (inl h)) (λ h.
-      ⊎-elim (λ h. absurd (i (q ∙ h))) (λ h.
-      ⊎-elim (λ h. absurd (l (q ∙ h))) (λ h.
-      ⊎-elim (λ h. absurd (p (q ∙ h))) (λ h.
-      ⊎-elim (λ h. inr (inr (inl h))) (λ h.
-      ⊎-elim (λ h. inr (inr (inr h))) (λ h.
-      ⊎-elim (λ h. absurd (v (q ∙ h))) (λ h. absurd (no-row _ h))
-      (row _ _ _ _ h)) (row _ _ _ _ h)) (row _ _ _ _ h)) (row _ _ _ _ h)) (row _ _ _ _ h)) (row _ _ _ _ h)) (row _ _ _ _ h)) (row _ _ _ _ h))
-      (row _ _ _ _ (any-at tree (word16 tree 2) d at z .look));
-}
-
-module _ (tree : List ℕ) (d at : ℕ) (k : Named tree at) where
-  pub named-bound : {e : Expr} {n : ℕ} → expr-at tree d at ≡ got e n → at + 12 ≤ length tree
-  named-bound z =
-      ⊎-elim (λ m. assign-at tree (word16 tree 2) d at m z .bound) (λ h.
-      ⊎-elim (λ m. get-at tree (word16 tree 2) d at m z .bound) (λ h.
-      ⊎-elim (λ m. set-at tree (word16 tree 2) d at m z .bound) (λ m. super-at tree (word16 tree 2) d at m z .bound) h) h) (k .kind)
-
-  module _ (mark : ℕ) (q : mark ≡ letters tree at) (u : mark ≡ 0x4555 → ⊥) where
-    pub child-of : {e : Expr} {n : ℕ} → expr-at tree d at ≡ got e n → There (expr-at tree (d - 1) (at + 12))
-    child-of z =
-        ⊎-elim (λ m. record { thing = _; next = _; is = assign-at tree (word16 tree 2) d at m z .one }) (λ h.
-        ⊎-elim (λ m. record { thing = _; next = _; is = get-at tree (word16 tree 2) d at m z .one }) (λ h.
-        ⊎-elim (λ m. record { thing = _; next = _; is = set-at tree (word16 tree 2) d at m z .one }) (λ m. absurd (u (q ∙ m))) h) h) (k .kind)
-
-    pub named-stop : {class limit l : ℕ} {before now : Mem} {r : Step} {x : Refusal} → Ran class limit l (expr-at tree (d - 1) (at + 12)) before now r → r ≡ Stop x → Ran class limit l (expr-at tree d at) before now r
-    named-stop a p =
-        ⊎-elim (λ m. assign-stop tree d at m a p) (λ h.
-        ⊎-elim (λ m. get-stop tree d at m a p) (λ h.
-        ⊎-elim (λ m. set-stop tree d at m a p) (λ m. absurd (u (q ∙ m))) h) h) (k .kind)
-
-pub set-mark : (tree : List ℕ) (at : ℕ) → Named tree at → (mark : ℕ) → mark ≡ letters tree at → (mark ≡ 0x4555 → ⊥) → (mark ≡ 0x4541 → ⊥) → (mark ≡ 0x4547 → ⊥) → letters tree at ≡ 0x4553
-set-mark tree at k mark q u a g =
-    ⊎-elim (λ m. absurd (a (q ∙ m))) (λ h.
-    ⊎-elim (λ m. absurd (g (q ∙ m))) (λ h.
-    ⊎-elim (λ m. m) (λ m. absurd (u (q ∙ m))) h) h) (k .kind)
+last-kind tree d at mark q z l v i p c u a g =
+    ⊎-elim (λ h. absurd (a (q ∙ h))) (λ h.
+    ⊎-elim (λ h. absurd (c (q ∙ h))) (λ h.
+    ⊎-elim (λ h. absurd (g (q ∙ h))) (λ h.
+    ⊎-elim (λ h. absurd (i (q ∙ h))) (λ h.
+    ⊎-elim (λ h. absurd (l (q ∙ h))) (λ h.
+    ⊎-elim (λ h. absurd (p (q ∙ h))) (λ h.
+    ⊎-elim (λ h. h) (λ h.
+    ⊎-elim (λ h. absurd (u (q ∙ h))) (λ h.
+    ⊎-elim (λ h. absurd (v (q ∙ h))) (λ h. absurd (no-row _ h))
+    (row _ _ _ _ h)) (row _ _ _ _ h)) (row _ _ _ _ h)) (row _ _ _ _ h)) (row _ _ _ _ h)) (row _ _ _ _ h)) (row _ _ _ _ h)) (row _ _ _ _ h))
+    (row _ _ _ _ (any-at tree (word16 tree 2) d at z .look))

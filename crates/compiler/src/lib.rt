@@ -323,10 +323,10 @@ pub fn compile_expr(
     ensures { λ r. ⌜ Ran class limit level (expr-at (now (tree .entry)) left at) (mem (now (t .entry)) (now (code .entry)) (now (spans .entry))) (mem (now (t .exit)) (now (code .exit)) (now (spans .exit))) r ⌝ }
 {
     let a = compile_any(tree, at, left, t, code, spans, level, limit, class);
-    let Step::Next(n) = a else {
+    let Step::Next(next) = a else {
         return a;
     };
-    Step::Next(n)
+    Step::Next(next)
 }
 
 // `compile_expr`, by the record's mark.
@@ -354,36 +354,118 @@ fn compile_any(
         return get_variable(t, code, spans, level, limit, class, variable, span, at + 12);
     }
     if mark == 0x4549 {
-        let operator = u8_at(tree, at + 10);
-        let a = compile_expr(
-            &tree[..],
-            at + 11,
-            left - 1,
-            t,
-            code,
-            spans,
-            level,
-            limit,
-            class,
-        );
-        let Step::Next(n1) = a else {
-            return a;
-        };
-        let b = before_right(t, code, spans, level, limit, operator, span);
-        let Step::Next(place) = b else {
-            return b;
-        };
-        let d = compile_expr(&tree[..], n1, left - 1, t, code, spans, level, limit, class);
-        let Step::Next(n2) = d else {
-            return d;
-        };
-        return after_right(t, code, spans, level, limit, operator, place, span, n2);
+        return compile_infix(tree, at, left, t, code, spans, level, limit, class, span);
     }
     if mark == 0x4550 {
-        let sign = u8_at(tree, at + 10);
-        let e = compile_expr(
+        return compile_prefix(tree, at, left, t, code, spans, level, limit, class, span);
+    }
+    if mark == 0x4543 {
+        return compile_call(tree, at, left, t, code, spans, level, limit, class, span);
+    }
+    if mark == 0x4555 {
+        let name = u16_at(tree, at + 10);
+        return compile_super(t, code, spans, level, limit, class, name, span, at + 12);
+    }
+    if mark == 0x4541 {
+        return compile_assign(tree, at, left, t, code, spans, level, limit, class, span);
+    }
+    if mark == 0x4547 {
+        return compile_get(tree, at, left, t, code, spans, level, limit, class, span);
+    }
+    compile_set(tree, at, left, t, code, spans, level, limit, class, span)
+}
+
+// The arms of `compile_any` with expressions inside. Each asks for the mark by which it is chosen.
+fn compile_infix(
+    tree: &[u8],
+    at: usize,
+    left: usize,
+    t: &mut [u64],
+    code: &mut [u8],
+    spans: &mut [u32],
+    level: usize,
+    limit: usize,
+    class: u8,
+    span: Span,
+) -> Step
+    requires { ⌜ (There (expr-at (now tree) left at)) × (letters (now tree) at ≡ 0x4549) × (span ≡ span-of (now tree) (at + 2)) × (Fit (mem (now t) (now code) (now spans)) level limit) ⌝ }
+    ensures { λ r. ⌜ Ran class limit level (expr-at (now (tree .entry)) left at) (mem (now (t .entry)) (now (code .entry)) (now (spans .entry))) (mem (now (t .exit)) (now (code .exit)) (now (spans .exit))) r ⌝ }
+{
+    let operator = u8_at(tree, at + 10);
+    let lt = at + 11;
+    let a = compile_expr(&tree[..], lt, left - 1, t, code, spans, level, limit, class);
+    let Step::Next(rt) = a else {
+        return a;
+    };
+    let b = before_right(t, code, spans, level, limit, operator, span);
+    let Step::Next(place) = b else {
+        return b;
+    };
+    let d = compile_expr(&tree[..], rt, left - 1, t, code, spans, level, limit, class);
+    let Step::Next(next) = d else {
+        return d;
+    };
+    after_right(t, code, spans, level, limit, operator, place, span, next)
+}
+
+fn compile_prefix(
+    tree: &[u8],
+    at: usize,
+    left: usize,
+    t: &mut [u64],
+    code: &mut [u8],
+    spans: &mut [u32],
+    level: usize,
+    limit: usize,
+    class: u8,
+    span: Span,
+) -> Step
+    requires { ⌜ (There (expr-at (now tree) left at)) × (letters (now tree) at ≡ 0x4550) × (span ≡ span-of (now tree) (at + 2)) × (Fit (mem (now t) (now code) (now spans)) level limit) ⌝ }
+    ensures { λ r. ⌜ Ran class limit level (expr-at (now (tree .entry)) left at) (mem (now (t .entry)) (now (code .entry)) (now (spans .entry))) (mem (now (t .exit)) (now (code .exit)) (now (spans .exit))) r ⌝ }
+{
+    let operator = u8_at(tree, at + 10);
+    let rt = at + 11;
+    let a = compile_expr(&tree[..], rt, left - 1, t, code, spans, level, limit, class);
+    let Step::Next(next) = a else {
+        return a;
+    };
+    emit_op(
+        t,
+        code,
+        spans,
+        level,
+        limit,
+        prefix_op(operator),
+        span,
+        next,
+    )
+}
+
+fn compile_call(
+    tree: &[u8],
+    at: usize,
+    left: usize,
+    t: &mut [u64],
+    code: &mut [u8],
+    spans: &mut [u32],
+    level: usize,
+    limit: usize,
+    class: u8,
+    span: Span,
+) -> Step
+    requires { ⌜ (There (expr-at (now tree) left at)) × (letters (now tree) at ≡ 0x4543) × (span ≡ span-of (now tree) (at + 2)) × (Fit (mem (now t) (now code) (now spans)) level limit) ⌝ }
+    ensures { λ r. ⌜ Ran class limit level (expr-at (now (tree .entry)) left at) (mem (now (t .entry)) (now (code .entry)) (now (spans .entry))) (mem (now (t .exit)) (now (code .exit)) (now (spans .exit))) r ⌝ }
+{
+    let a = call_open(tree, at, t, code, spans, level, limit, class, span);
+    let Step::Next(first) = a else {
+        return a;
+    };
+    let mut next = first;
+    let mut parts = call_parts(tree, at);
+    while 0 < parts {
+        let b = compile_expr(
             &tree[..],
-            at + 11,
+            next,
             left - 1,
             t,
             code,
@@ -392,43 +474,32 @@ fn compile_any(
             limit,
             class,
         );
-        let Step::Next(n3) = e else {
-            return e;
+        let Step::Next(n) = b else {
+            return b;
         };
-        return emit_op(t, code, spans, level, limit, prefix_op(sign), span, n3);
+        next = n;
+        parts -= 1;
     }
-    if mark == 0x4543 {
-        let f = call_open(tree, at, t, code, spans, level, limit, class, span);
-        let Step::Next(first) = f else {
-            return f;
-        };
-        let mut next = first;
-        let mut parts = call_parts(tree, at);
-        while 0 < parts {
-            let g = compile_expr(
-                &tree[..],
-                next,
-                left - 1,
-                t,
-                code,
-                spans,
-                level,
-                limit,
-                class,
-            );
-            let Step::Next(n4) = g else {
-                return g;
-            };
-            next = n4;
-            parts -= 1;
-        }
-        return call_close(tree, at, t, code, spans, level, limit, class, span, next);
-    }
+    call_close(tree, at, t, code, spans, level, limit, class, span, next)
+}
+
+fn compile_assign(
+    tree: &[u8],
+    at: usize,
+    left: usize,
+    t: &mut [u64],
+    code: &mut [u8],
+    spans: &mut [u32],
+    level: usize,
+    limit: usize,
+    class: u8,
+    span: Span,
+) -> Step
+    requires { ⌜ (There (expr-at (now tree) left at)) × (letters (now tree) at ≡ 0x4541) × (span ≡ span-of (now tree) (at + 2)) × (Fit (mem (now t) (now code) (now spans)) level limit) ⌝ }
+    ensures { λ r. ⌜ Ran class limit level (expr-at (now (tree .entry)) left at) (mem (now (t .entry)) (now (code .entry)) (now (spans .entry))) (mem (now (t .exit)) (now (code .exit)) (now (spans .exit))) r ⌝ }
+{
     let name = u16_at(tree, at + 10);
-    if mark == 0x4555 {
-        return compile_super(t, code, spans, level, limit, class, name, span, at + 12);
-    }
-    let h = compile_expr(
+    let a = compile_expr(
         &tree[..],
         at + 12,
         left - 1,
@@ -439,28 +510,90 @@ fn compile_any(
         limit,
         class,
     );
-    let Step::Next(n5) = h else {
-        return h;
+    let Step::Next(next) = a else {
+        return a;
     };
-    if mark == 0x4541 {
-        return set_variable(t, code, spans, level, limit, name, span, n5);
-    }
-    if mark == 0x4547 {
-        return emit_op_name(
-            t,
-            code,
-            spans,
-            level,
-            limit,
-            Op::GET_PROPERTY,
-            name,
-            span,
-            n5,
-        );
-    }
-    let k = compile_expr(&tree[..], n5, left - 1, t, code, spans, level, limit, class);
-    let Step::Next(n6) = k else {
-        return k;
+    set_variable(t, code, spans, level, limit, name, span, next)
+}
+
+fn compile_get(
+    tree: &[u8],
+    at: usize,
+    left: usize,
+    t: &mut [u64],
+    code: &mut [u8],
+    spans: &mut [u32],
+    level: usize,
+    limit: usize,
+    class: u8,
+    span: Span,
+) -> Step
+    requires { ⌜ (There (expr-at (now tree) left at)) × (letters (now tree) at ≡ 0x4547) × (span ≡ span-of (now tree) (at + 2)) × (Fit (mem (now t) (now code) (now spans)) level limit) ⌝ }
+    ensures { λ r. ⌜ Ran class limit level (expr-at (now (tree .entry)) left at) (mem (now (t .entry)) (now (code .entry)) (now (spans .entry))) (mem (now (t .exit)) (now (code .exit)) (now (spans .exit))) r ⌝ }
+{
+    let name = u16_at(tree, at + 10);
+    let a = compile_expr(
+        &tree[..],
+        at + 12,
+        left - 1,
+        t,
+        code,
+        spans,
+        level,
+        limit,
+        class,
+    );
+    let Step::Next(next) = a else {
+        return a;
+    };
+    emit_op_name(
+        t,
+        code,
+        spans,
+        level,
+        limit,
+        Op::GET_PROPERTY,
+        name,
+        span,
+        next,
+    )
+}
+
+// The value stands before the object, whose place is known once the value is compiled.
+fn compile_set(
+    tree: &[u8],
+    at: usize,
+    left: usize,
+    t: &mut [u64],
+    code: &mut [u8],
+    spans: &mut [u32],
+    level: usize,
+    limit: usize,
+    class: u8,
+    span: Span,
+) -> Step
+    requires { ⌜ (There (expr-at (now tree) left at)) × (letters (now tree) at ≡ 0x4553) × (span ≡ span-of (now tree) (at + 2)) × (Fit (mem (now t) (now code) (now spans)) level limit) ⌝ }
+    ensures { λ r. ⌜ Ran class limit level (expr-at (now (tree .entry)) left at) (mem (now (t .entry)) (now (code .entry)) (now (spans .entry))) (mem (now (t .exit)) (now (code .exit)) (now (spans .exit))) r ⌝ }
+{
+    let name = u16_at(tree, at + 10);
+    let value = at + 12;
+    let a = compile_expr(
+        &tree[..],
+        value,
+        left - 1,
+        t,
+        code,
+        spans,
+        level,
+        limit,
+        class,
+    );
+    let Step::Next(n1) = a else {
+        return a;
+    };
+    let b = compile_expr(&tree[..], n1, left - 1, t, code, spans, level, limit, class);
+    let Step::Next(next) = b else {
+        return b;
     };
     emit_op_name(
         t,
@@ -471,7 +604,7 @@ fn compile_any(
         Op::SET_PROPERTY,
         name,
         span,
-        n6,
+        next,
     )
 }
 
