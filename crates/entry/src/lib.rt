@@ -8,7 +8,7 @@ ghost use Rattle.rules.specs.Entry as rules;
 ghost use Rattle.tree.specs.Checked.{checked-file};
 ghost use Rattle.tree.specs.declared.Checked as checks;
 ghost use Rattle.state.specs.Layout.{table-words};
-ghost use Rattle.steps.specs.View.{mem, Fit, steady, Did, Started};
+ghost use Rattle.steps.specs.View.{mem, Fit, steady, Did};
 ghost use Rattle.entry.specs.Whole.{lent-of, limit-of, rows-at, Rows, Clean, script-end, Scripted, Headed, Written};
 use closures::finish;
 use op::Op;
@@ -47,15 +47,6 @@ fn least(a: usize, b: usize) -> usize
 }
 
 // ## The script
-
-// The table as it is before the script: all zero but for the script's name.
-fn start_table(t: &mut [u64])
-    requires { ⌜ length (now t) ≡ table-words ⌝ }
-    ensures { λ _. ⌜ Started (now (t .exit)) ⌝ }
-{
-    areas::clear64(t);
-    steps::begin_script(t);
-}
 
 // The script returns nil.
 fn end_script(t: &mut [u64], code: &mut [u8], spans: &mut [u32], limit: usize) -> Step
@@ -122,7 +113,7 @@ fn compile_sound(
 {
     let limit = least(least(code.len(), spans.len() / 3), MAX_CODE);
     areas::clear8(out);
-    start_table(t);
+    steps::begin_script(t);
     let r = compile_script(
         tree,
         script.at,

@@ -2,11 +2,13 @@
 use Prim.Native.Nat.{ℕ, _+_, _*_, _-_, _/_, _%_, _≤_, _<_}
 use native.Mathlib.Omega.{arith}
 use mathlib.Core.Path.{_≡_, refl, sym, ap, ap₂, _∙_, subst}
+use mathlib.Core.Logic.{⊎-elim}
 use mathlib.Core.List.{List, [], _∷_, _++_}
 use mathlib.Core.Bool.{Bool, true, false, _&&_}
 use mathlib.Core.Option.{Option, some}
 use mathlib.Core.Option.{none as nothing}
 use lib.ListN.{length, getD, set}
+use lib.Seq.{getD-set-same}
 use lib.Dec.{eqb, ltb}
 use lib.Arith.{digits-div, digits-mod}
 use borrow.Author.Tests.{eq-eqb, eqb-true, eqb-false, lt-ltb, le-ltb}
@@ -16,7 +18,7 @@ use Rattle.rules.specs.Compiler.{Upvalue, CompilerCtx, captured, with-upvalues,
 use Rattle.state.specs.Layout.{levels, upvalueOf, upvaluesOf, ctxAt, Wf}
 use Rattle.state.specs.Contracts.{Kept, First, Added}
 use Rattle.state.specs.declared.Up.the-variants as up
-use Rattle.state.proofs.Laws.{length-row, position-at, position-none, push-vec, kept-set, kept-same, kept-off, kept-then, if-true, if-false, locals-same, chunk-same, ctx-paths, wf-count, wf-entry}
+use Rattle.state.proofs.Laws.{length-row, position-at, position-none, push-vec, kept-set, kept-same, kept-off, kept-then, if-true, if-false, locals-same, chunk-same, ctx-paths, lt-or-le, few-set, wf-upvalues, wf-entry}
 
 abbrev alike : Bool → Bool → Bool
 alike x y = if x then y else if y then false else true
@@ -64,7 +66,7 @@ module _ (t : List ℕ) (l a b : ℕ) (bit : a < 2) (small : b < 256) (low : l <
 
   -- an upvalue that stands there is one of two kinds
   half : (j : ℕ) → j < getD t (l * 1024 + 513) 0 → getD t (l * 1024 + 257 + j) 0 < 512
-  half j h = let q : l * 1024 + (257 + j) ≡ l * 1024 + 257 + j = omega arith in subst (λ (k : ℕ). getD t k 0 < 512) q (wf .pairs l (257 + j) low (omega arith) (omega (arith, wf .fewUpvalues l low)))
+  half j h = let q : l * 1024 + (257 + j) ≡ l * 1024 + 257 + j = omega arith in subst (λ (k : ℕ). getD t k 0 < 512) q (wf .pairs l (257 + j) low (omega arith) (omega arith))
 
   module _ (r : ℕ) (found : First t (l * 1024 + 257) (getD t (l * 1024 + 513) 0) (a * 256 + b) r) where
     by-place : (o : Option ℕ) → position (same-upvalue u) (upvaluesOf t l) ≡ o → (span : Span) (code spans : List ℕ) (ce re : ℕ) (above : List CompilerCtx) → add-upvalue u span (ctxAt t code spans l ce re) above ≡ added o u span (ctxAt t code spans l ce re) above
@@ -110,6 +112,10 @@ module _ (t : List ℕ) (l a b : ℕ) (bit : a < 2) (small : b < 256) (low : l <
           let at : (o : ℕ) → (257 ≤ o → o < 514 → ⊥) → getD t′ (l * 1024 + o) 0 ≡ getD t (l * 1024 + o) 0 = λ o off. kept-off _ _ t t′ _ kp (λ x y. off (omega arith) (omega arith)) in
           let w : upvalueOf (a * 256 + b) ≡ u = λ i. record { idx = digits-mod a small i; is-local = eqb (digits-div a small i) 1 } in
           let us : upvaluesOf t′ l ≡ upvaluesOf t l ++ (u ∷ []) = push-vec upvalueOf t _ c (a * 256 + b) (omega arith) room ∙ ap (λ (x : Upvalue). upvaluesOf t l ++ (x ∷ [])) w in
+          let half′ : (o : ℕ) → 257 ≤ o → o < 257 + (k + 1) → getD t₁ (l * 1024 + o) 0 < 512 = λ o x y.
+          ⊎-elim (λ (g : o < 257 + k). omega (arith, few-set 511 t (l * 1024 + 257 + k) (a * 256 + b) (l * 1024 + o) (omega arith) (omega (arith, wf .pairs l o low x g))))
+          (λ (g : 257 + k ≤ o). let e : l * 1024 + 257 + k ≡ l * 1024 + o = omega arith in subst (λ (j : ℕ). getD t₁ j 0 < 512) e (omega (arith, getD-set-same t (l * 1024 + 257 + k) (a * 256 + b) 0 (omega arith))))
+          (lt-or-le o (257 + k)) in
           let len : length (upvaluesOf t l) ≡ k = length-row _ _ in
           let ctx : (code spans : List ℕ) (ce re : ℕ) → ctxAt t′ code spans l ce re ≡ with-upvalues (ctxAt t code spans l ce re) (upvaluesOf t l ++ (u ∷ [])) = λ code spans ce re.
           ctx-paths t code spans t′ code spans l ce re ce re (λ o x y. at o (λ p q. omega arith))
@@ -120,5 +126,5 @@ module _ (t : List ℕ) (l a b : ℕ) (bit : a < 2) (small : b < 256) (low : l <
             does = λ span nm code spans ce re above. ap₂ (λ (n : ℕ) (x : CompilerCtx). captured n x above) (sym len) (ctx code spans ce re) ∙ sym (by-place nothing none span code spans ce re above ∙ if-true _ _ _ (counted true (lt-ltb _ _ m)));
             some = λ e. let z : _≡_ {A = ℕ} 0 1 = cc in omega arith;
             kept = kp;
-            wf = wf-count t₁ c (k + 1) (omega arith) (subst (λ (j : ℕ). Wf (set t j (a * 256 + b))) (omega arith) (wf-entry t l (257 + k) _ (omega arith) (λ p q. omega arith) (λ e. omega arith) (λ e. omega arith) (λ e. omega arith) (λ e. omega arith) wf));
+            wf = wf-upvalues t₁ l (k + 1) low (omega arith) half′ (subst (λ (j : ℕ). Wf (set t j (a * 256 + b))) (omega arith) (wf-entry t l (257 + k) _ (omega arith) (λ p q. omega arith) (λ e. omega arith) (λ e. omega arith) (λ e. omega arith) (λ e. omega arith) wf));
           }

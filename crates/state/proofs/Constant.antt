@@ -97,5 +97,5 @@ module _ (t : List ℕ) (l w : ℕ) (low : l < levels) (wf : Wf t) (r : ℕ) (fo
               ap₂ at-place (sym len) (chunk-paths t code spans t′ code spans l ce re ce re _ cs (kp .above _ (omega arith)) (kp .above _ (omega arith)) _ refl _ refl)
               ∙ sym (by-place nothing none code spans ce re ∙ if-true _ _ _ (counted true (lt-ltb _ _ m)));
           kept = kp;
-          wf = wf-count t₁ (l * 1024 + 770) (n + 1) (omega arith) (subst (λ (j : ℕ). Wf (set t j w)) e (wf-plain t l (514 + n) _ (omega arith) (λ a b. omega arith) (λ z. omega arith) (λ z. omega arith) wf));
+          wf = wf-count t₁ l 770 (n + 1) (omega arith) (λ z. omega arith) (omega arith) (subst (λ (j : ℕ). Wf (set t j w)) e (wf-plain t l (514 + n) _ (omega arith) (λ a b. omega arith) (λ z. omega arith) (λ z. omega arith) wf));
         }

@@ -66,7 +66,7 @@ module _ (t : List ℕ) (l nm : ℕ) (short : nm < 65536) (low : l < levels) (wf
         record {
           does = (c, omega (arith, length-stack (λ i. localOf (getD t (l * 1024 + i) 0)) (getD t (l * 1024 + 256) 0)), ls);
           kept = kept-then _ _ t t₁ _ _ (kept-set _ _ t _ _ (omega arith) (omega arith)) (omega arith) (omega arith);
-          wf = wf-count t₁ (l * 1024 + 256) (n + 1) (omega arith) (wf-plain t l n _ (omega arith) (λ a b. omega arith) (λ e. omega arith) (λ e. omega arith) wf);
+          wf = wf-count t₁ l 256 (n + 1) (omega arith) (λ e. omega arith) (omega arith) (wf-plain t l n _ (omega arith) (λ a b. omega arith) (λ e. omega arith) (λ e. omega arith) wf);
         }
 
 -- an initialized local's word
@@ -132,5 +132,5 @@ module _ (t : List ℕ) (l : ℕ) (low : l < levels) (wf : Wf t) where
               (stack-cong _ _ n (λ i (h : i < n). ap localOf (sym (getD-set-other t (l * 1024 + 256) (l * 1024 + i) n 0 (omega arith)))) ∙ ap (stack (λ i. localOf (getD t′ (l * 1024 + i) 0))) (sym c));
           kept = kept-set _ _ t _ _ (omega arith) (omega arith);
           fewer = omega arith;
-          wf = wf-count t (l * 1024 + 256) n (omega arith) wf;
+          wf = wf-count t l 256 n (omega arith) (λ e. omega arith) (omega arith) wf;
         }

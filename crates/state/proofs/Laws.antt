@@ -166,16 +166,51 @@ few-set top t c v i hv hi =
     (λ (m : length t ≤ c). rw (set-out t c v m) hi)
     (lt-or-le c (length t))
 
--- the store of a count, anywhere
-pub wf-count : (t : List ℕ) (c v : ℕ) → v ≤ 256 → Wf t → Wf (set t c v)
-wf-count t c v h wf = record {
-  size = length-set t c v ∙ wf .size;
-  fewLocals = λ k l. few-set 256 t c v _ h (wf .fewLocals k l);
-  fewUpvalues = λ k l. few-set 256 t c v _ h (wf .fewUpvalues k l);
-  fewConstants = λ k l. few-set 256 t c v _ h (wf .fewConstants k l);
-  shallow = λ k l. few-set deepest t c v _ (omega arith) (wf .shallow k l);
-  pairs = λ k o l a b. omega (arith, few-set 511 t c v (k * 1024 + o) (omega arith) (omega (arith, wf .pairs k o l a b)));
+-- a store elsewhere keeps how many upvalues there are
+upvalue-count : (t : List ℕ) (l o v k : ℕ) → o < 1024 → (o ≡ 513 → ⊥) → getD (set t (l * 1024 + o) v) (k * 1024 + 513) 0 ≡ getD t (k * 1024 + 513) 0
+upvalue-count t l o v k h ne = getD-set-other t (l * 1024 + o) (k * 1024 + 513) v 0 (λ e. ne (omega arith))
+
+-- the store of a count, but for that of the upvalues
+pub wf-count : (t : List ℕ) (l o v : ℕ) → o < 1024 → (o ≡ 513 → ⊥) → v ≤ 256 → Wf t → Wf (set t (l * 1024 + o) v)
+wf-count t l o v near ne h wf = record {
+  size = length-set t _ v ∙ wf .size;
+  fewLocals = λ k m. few-set 256 t _ v _ h (wf .fewLocals k m);
+  fewUpvalues = λ k m. few-set 256 t _ v _ h (wf .fewUpvalues k m);
+  fewConstants = λ k m. few-set 256 t _ v _ h (wf .fewConstants k m);
+  shallow = λ k m. few-set deepest t _ v _ (omega arith) (wf .shallow k m);
+  pairs = λ k i m a b.
+      let below : i < 257 + getD t (k * 1024 + 513) 0 = omega (arith, b, upvalue-count t l o v k near ne) in
+      omega (arith, few-set 511 t (l * 1024 + o) v (k * 1024 + i) (omega arith) (omega (arith, wf .pairs k i m a below)));
 }
+
+-- the store of a level's count of upvalues: what it counts are upvalues
+module _ (t : List ℕ) (l v : ℕ) (low : l < levels) (h : v ≤ 256) (all : (o : ℕ) → 257 ≤ o → o < 257 + v → getD t (l * 1024 + o) 0 < 512) (wf : Wf t) where
+  beside : (k o : ℕ) → o < 513 → getD (set t (l * 1024 + 513) v) (k * 1024 + o) 0 ≡ getD t (k * 1024 + o) 0
+  beside k o near = getD-set-other t (l * 1024 + 513) (k * 1024 + o) v 0 (λ e. omega arith)
+
+  counted-here : (o : ℕ) → 257 ≤ o → o < 257 + getD (set t (l * 1024 + 513) v) (l * 1024 + 513) 0 → getD (set t (l * 1024 + 513) v) (l * 1024 + o) 0 < 512
+  counted-here o a b =
+      let below : o < 257 + v = omega (arith, b, getD-set-same t (l * 1024 + 513) v 0 (omega (arith, wf .size))) in
+      omega (arith, beside l o (omega arith), all o a below)
+
+  counted-off : (k o : ℕ) → k < levels → (k ≡ l → ⊥) → 257 ≤ o → o < 257 + getD (set t (l * 1024 + 513) v) (k * 1024 + 513) 0 → getD (set t (l * 1024 + 513) v) (k * 1024 + o) 0 < 512
+  counted-off k o m ne a b =
+      let below : o < 257 + getD t (k * 1024 + 513) 0 = omega (arith, b, getD-set-other t (l * 1024 + 513) (k * 1024 + 513) v 0 (λ e. ne (omega arith))) in
+      omega (arith, beside k o (omega (arith, wf .fewUpvalues k m)), wf .pairs k o m a below)
+
+  pub wf-upvalues : Wf (set t (l * 1024 + 513) v)
+  wf-upvalues = record {
+    size = length-set t _ v ∙ wf .size;
+    fewLocals = λ k m. few-set 256 t _ v _ h (wf .fewLocals k m);
+    fewUpvalues = λ k m. few-set 256 t _ v _ h (wf .fewUpvalues k m);
+    fewConstants = λ k m. few-set 256 t _ v _ h (wf .fewConstants k m);
+    shallow = λ k m. few-set deepest t _ v _ (omega arith) (wf .shallow k m);
+    pairs = λ k o m a.
+        ⊎-elim (λ (x : k < l). counted-off k o m (λ e. omega arith) a)
+        (λ (x : l ≤ k). ⊎-elim (λ (e : l ≡ k). subst (λ (k : ℕ). o < 257 + getD (set t (l * 1024 + 513) v) (k * 1024 + 513) 0 → getD (set t (l * 1024 + 513) v) (k * 1024 + o) 0 < 512) e (counted-here o a))
+        (λ (y : l < k). counted-off k o m (λ e. omega arith) a) (eq-or-lt-of-le x))
+        (lt-or-le k l);
+  }
 
 -- the store of any word where no count stands
 module _ (t : List ℕ) (l o v : ℕ) (h : o < 1024) (fits : 257 ≤ o → o < 513 → v < 512) where
@@ -193,7 +228,9 @@ module _ (t : List ℕ) (l o v : ℕ) (h : o < 1024) (fits : 257 ≤ o → o < 5
     fewUpvalues = λ k m. subst (λ (n : ℕ). n ≤ 256) (sym (getD-set-other t _ _ v 0 (λ e. b (omega arith)))) (wf .fewUpvalues k m);
     fewConstants = λ k m. subst (λ (n : ℕ). n ≤ 256) (sym (getD-set-other t _ _ v 0 (λ e. c (omega arith)))) (wf .fewConstants k m);
     shallow = λ k m. subst (λ (n : ℕ). n ≤ deepest) (sym (getD-set-other t _ _ v 0 (λ e. d (omega arith)))) (wf .shallow k m);
-    pairs = λ k i m p q. pair-kept k i p q (wf .pairs k i m p q);
+    pairs = λ k i m p q.
+        let below : i < 257 + getD t (k * 1024 + 513) 0 = omega (arith, q, upvalue-count t l o v k h b) in
+        pair-kept k i p (omega (arith, wf .fewUpvalues k m)) (wf .pairs k i m p below);
   }
 
 -- the store of a word that is neither a count, a depth nor an upvalue, by where it is in its level
@@ -208,7 +245,9 @@ wf-depth t l v h wf = record {
   fewUpvalues = λ k m. subst (λ (n : ℕ). n ≤ 256) (sym (getD-set-other t _ _ v 0 (λ e. omega arith))) (wf .fewUpvalues k m);
   fewConstants = λ k m. subst (λ (n : ℕ). n ≤ 256) (sym (getD-set-other t _ _ v 0 (λ e. omega arith))) (wf .fewConstants k m);
   shallow = λ k m. few-set deepest t _ v _ h (wf .shallow k m);
-  pairs = λ k i m p q. pair-kept t l 771 v (omega arith) (λ a b. omega arith) k i p q (wf .pairs k i m p q);
+  pairs = λ k i m p q.
+      let below : i < 257 + getD t (k * 1024 + 513) 0 = omega (arith, q, upvalue-count t l 771 v k (omega arith) (λ e. omega arith)) in
+      pair-kept t l 771 v (omega arith) (λ a b. omega arith) k i p (omega (arith, wf .fewUpvalues k m)) (wf .pairs k i m p below);
 }
 
 -- ## A context, by its parts

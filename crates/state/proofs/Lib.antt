@@ -8,3 +8,4 @@ pub mod Constant
 pub mod Declare
 pub mod Emit
 pub mod Opening
+pub mod Clearing

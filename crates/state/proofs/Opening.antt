@@ -10,7 +10,7 @@ use lib.Seq.{getD-set-same, getD-set-other}
 use Rattle.rules.specs.Compiler.{new-ctx}
 use Rattle.state.specs.Layout.{levels, deepest, table-words, code-end-at, runs-end-at, row, stack, localOf, upvalueOf, constantOf, type-of, codeFrom, runsFrom, codeEnd, runsEnd, runAt, chunkAt, ctxAt, parentsOf, Wf}
 use Rattle.state.specs.Contracts.{Kept, Moved, Closed, Began}
-use Rattle.state.proofs.Laws.{kept-set, kept-then, ctx-same, parents-named, wf-count, wf-depth, wf-plain}
+use Rattle.state.proofs.Laws.{kept-set, kept-then, ctx-same, parents-named, wf-count, wf-upvalues, wf-depth, wf-plain}
 
 pub moved : (t : List ℕ) (l depth : ℕ) → l < levels → Wf t → depth ≤ deepest → Moved t (set t (l * 1024 + 771) depth) l depth
 moved t l depth low wf h = record {
@@ -121,7 +121,7 @@ module _ (t : List ℕ) (l name arity kind : ℕ) (low : l + 1 < levels) (wf : W
       (wf-plain t₆ (l + 1) 774 _ (omega arith) (λ x y. omega arith) (λ z. omega arith) (λ z. omega arith)
       (wf-plain t₅ (l + 1) 773 _ (omega arith) (λ x y. omega arith) (λ z. omega arith) (λ z. omega arith)
       (wf-plain t₄ (l + 1) 772 _ (omega arith) (λ x y. omega arith) (λ z. omega arith) (λ z. omega arith)
-      (wf-depth t₃ (l + 1) _ (omega arith) (wf-count t₂ _ 0 (omega arith) (wf-count t₁ _ 0 (omega arith) (wf-count t _ 0 (omega arith) wf))))))))
+      (wf-depth t₃ (l + 1) _ (omega arith) (wf-count t₂ (l + 1) 770 0 (omega arith) (λ e. omega arith) (omega arith) (wf-upvalues t₁ (l + 1) 0 low (omega arith) (λ o x y. absurd (omega arith)) (wf-count t (l + 1) 256 0 (omega arith) (λ e. omega arith) (omega arith) wf))))))))
 
   -- the last three stores, and the last six, keep off what is below them
   o₉ : (o : ℕ) → o < 774 → getD t₉ (b + o) 0 ≡ getD t₆ (b + o) 0

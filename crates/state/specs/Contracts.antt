@@ -10,7 +10,7 @@ use Rattle.rules.specs.declared.Span.{Span}
 use Rattle.rules.specs.declared.Refusal.the-variants.{AccessInsideInitializer, TooManyUpvalues}
 use Rattle.rules.specs.Chunk.{Chunk, Run, same-span, write-u8, write-constant, Written, at-place, no-room}
 use Rattle.rules.specs.Compiler.{Local, Upvalue, CompilerCtx, new-ctx, Found, at-slot, uninitialized, missing, find-local, capture, Resolved, captured, nowhere, failed, add-upvalue, resolve-upvalue, declared, initialize}
-use Rattle.state.specs.Layout.{code-end-at, image-at, codeFrom, localsOf, constantOf, runsFrom, codeEnd, runsEnd, runAt, chunkAt, ctxAt, parentsOf, type-of, Wf, Coded}
+use Rattle.state.specs.Layout.{levels, code-end-at, image-at, codeFrom, localsOf, constantOf, runsFrom, codeEnd, runsEnd, runAt, chunkAt, ctxAt, parentsOf, type-of, Wf, Coded}
 use Rattle.state.specs.declared.Slot.{Slot}
 use Rattle.state.specs.declared.Slot.the-variants as slot
 use Rattle.state.specs.declared.Up.{Up}
@@ -174,3 +174,21 @@ pub record Began (t t′ : List ℕ) (l name arity type : ℕ) : Type 0 where
   pub coded : (code spans : List ℕ) (limit : ℕ) → Coded t code spans l limit → Coded t′ code spans (suc l) limit
   pub kept : Kept (suc l * 1024) (suc l * 1024 + 1024) t t′
   pub wf : Wf t′
+
+-- ## The start, whatever the table holds
+
+-- a level with no locals, no upvalues and no constants, in no scope
+pub record Empty (t : List ℕ) (l : ℕ) : Type 0 where
+  pub locals : getD t (l * 1024 + 256) 0 ≡ 0
+  pub upvalues : getD t (l * 1024 + 513) 0 ≡ 0
+  pub constants : getD t (l * 1024 + 770) 0 ≡ 0
+  pub depth : getD t (l * 1024 + 771) 0 ≡ 0
+
+pub record Emptied (t t′ : List ℕ) (l : ℕ) : Type 0 where
+  pub empty : Empty t′ l
+  pub kept : Kept (l * 1024) (l * 1024 + 1024) t t′
+
+-- no level has anything in it
+pub record Blank (t : List ℕ) : Type 0 where
+  pub empty : (k : ℕ) → k < levels → Empty t k
+  pub wf : Wf t

@@ -152,7 +152,7 @@ pub record Wf (t : List ℕ) : Type 0 where
   pub fewConstants : (k : ℕ) → k < levels → getD t (k * 1024 + 770) 0 ≤ 256
   pub shallow : (k : ℕ) → k < levels → getD t (k * 1024 + 771) 0 ≤ deepest
   -- an upvalue's word is an index, and 256 more of it where it is a local of the function around
-  pub pairs : (k o : ℕ) → k < levels → 257 ≤ o → o < 513 → getD t (k * 1024 + o) 0 < 512
+  pub pairs : (k o : ℕ) → k < levels → 257 ≤ o → o < 257 + getD t (k * 1024 + 513) 0 → getD t (k * 1024 + o) 0 < 512
 
 -- the code and the runs of the open functions lie one after the other, within the limit
 pub record Coded (t code spans : List ℕ) (l limit : ℕ) : Type 0 where

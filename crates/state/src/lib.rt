@@ -6,8 +6,8 @@ ghost use mathlib.Core.Bool.{false};
 ghost use lib.Dec.{ltb, eqb};
 ghost use lib.ListN.{length, getD, replicate};
 ghost use Rattle.rules.specs.Compiler.{declared};
-ghost use Rattle.state.specs.Layout.{levels, deepest, localOf, stack, codeFrom, codeEnd, Wf, Coded};
-ghost use Rattle.state.specs.Contracts.{Topmost, Without, First, Looked, Added, Captured, last-grows, Wrote, Constants, DeclaredAt, DefinedAt, Dropped, Moved, Closed, Began};
+ghost use Rattle.state.specs.Layout.{levels, deepest, table-words, localOf, stack, codeFrom, codeEnd, Wf, Coded};
+ghost use Rattle.state.specs.Contracts.{Topmost, Without, First, Looked, Added, Captured, last-grows, Wrote, Constants, DeclaredAt, DefinedAt, Dropped, Moved, Closed, Began, Emptied, Blank};
 use rules::Span;
 
 // The script, and the functions that may be open in one another.
@@ -119,7 +119,7 @@ fn among(t: &[u64], at: usize, w: u64) -> bool
     t[at + 7] == w
 }
 
-// A place before which no word is w, found eight words at a time: a table of 256 is looked through for each constant and each upvalue.
+// A place before which no word is w, found eight words at a time, since up to 256 are looked at for each constant and each upvalue.
 fn skip(t: &[u64], base: usize, n: usize, w: u64) -> usize
     requires { ⌜ base + n ≤ length (now t) ⌝ }
     ensures { λ r. ⌜ (r ≤ n) × (Without (now (t .entry)) base r w) ⌝ }
@@ -339,6 +339,31 @@ pub fn move_scope(t: &mut [u64], level: usize, depth: u64)
     ensures { λ r. ⌜ Moved (now (t .entry)) (now (t .exit)) level depth ⌝ }
 {
     t[level * 1024 + 771] = depth;
+}
+
+// A level has nothing in it.
+fn clear_level(t: &mut [u64], level: usize)
+    requires { ⌜ (level < levels) × (length (now t) ≡ table-words) ⌝ }
+    ensures { λ r. ⌜ Emptied (now (t .entry)) (now (t .exit)) level ⌝ }
+{
+    let base = level * 1024;
+    t[base + 256] = 0;
+    t[base + 513] = 0;
+    t[base + 770] = 0;
+    t[base + 771] = 0;
+}
+
+// No level has anything in it, whatever the table held: its counts and depths are set, and all else is stored before it is read. So the table has to
+// be cleared once a call, and not twice.
+pub fn clear_levels(t: &mut [u64])
+    requires { ⌜ length (now t) ≡ table-words ⌝ }
+    ensures { λ r. ⌜ Blank (now (t .exit)) ⌝ }
+{
+    let mut level = 0;
+    while level < LEVELS {
+        clear_level(t, level);
+        level += 1;
+    }
 }
 
 // Opens the context above a level: no locals, no upvalues, no constants, no code, one scope deeper.

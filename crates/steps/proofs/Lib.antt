@@ -6,4 +6,5 @@ pub mod Jumps
 pub mod Scopes
 pub mod Names
 pub mod Returns
+pub mod Start
 pub mod Closures

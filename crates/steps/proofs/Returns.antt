@@ -1,23 +1,21 @@
--- Classes that must be around, returns with no value, and the script's start.
+-- Classes that must be around, and returns with no value.
 use Prim.Native.Nat.{ℕ, zero, suc, _+_, _*_, _-_, _≤_, _<_}
 use native.Mathlib.Omega.{arith}
 use mathlib.Core.Path.{_≡_, refl, sym, ap, _∙_}
 use mathlib.Core.Bool.{Bool, true, false}
 use mathlib.Core.List.{List, [], _∷_, _++_}
 use mathlib.Core.Option.{none}
-use lib.ListN.{length, getD, set, length-set, replicate, length-replicate}
+use lib.ListN.{getD}
 use lib.Dec.{eqb}
-use lib.Seq.{getD-set-same, getD-set-other}
 use Rattle.rules.specs.Base.{if_then_else_}
 use Rattle.rules.specs.Answer.{NO-SPAN}
 use Rattle.rules.specs.Op as op
-use Rattle.rules.specs.Tree.{script}
 use Rattle.rules.specs.declared.Span.{Span}
 use Rattle.rules.specs.declared.Refusal.the-variants.{SuperOutsideClass, SuperWithoutSuperclass, ReturnOutsideFunction}
 use Rattle.rules.specs.Compiler.{Compiler, ok, err, go-on, _>>=_, _>>_, done, return, refuse, need, the, innermost-has-super, need-super, ends-in-return, emit-op, emit-op-u8, compile-value, return-value, compile-return, implicit-return}
-use Rattle.state.specs.Layout.{table-words, code-end-at, runs-end-at, row, stack, localOf, upvalueOf, constantOf, runAt, type-of, codeFrom, runsFrom, codeEnd, runsEnd, chunkAt, ctxAt, parentsOf, Wf}
+use Rattle.state.specs.Layout.{row, type-of, codeFrom, codeEnd, chunkAt, ctxAt}
 use Rattle.state.proofs.Laws.{row-snoc}
-use Rattle.steps.specs.View.{Mem, mem, Rest, view, top-class, Fit, steady, Refused, DidAs, Did, Told, Judged, Ending, Started}
+use Rattle.steps.specs.View.{Mem, mem, Rest, view, top-class, Fit, steady, Refused, DidAs, Did, Told, Judged, Ending}
 use Rattle.steps.specs.declared.Step.{Step}
 use Rattle.steps.specs.declared.Step.the-variants.{Next, Stop}
 use Rattle.steps.proofs.Steps.{next, stop}
@@ -132,76 +130,3 @@ module _ (limit l n : ℕ) (t code spans : List ℕ) (b : Bool) (w : Ending t co
 
   pub returns-now : {class : ℕ} {now : Mem} {r : Step} → b ≡ false → Did class limit l n steady (compile-return limit none NO-SPAN) (mem t code spans) now r → Did class limit l n steady (implicit-return limit) (mem t code spans) now r
   returns-now {r = r} e d = record { does = returns-as r e d }
-
--- ## The start
-
-zero-at : (n i : ℕ) → getD {A = ℕ} (replicate n 0) i 0 ≡ 0
-zero-at zero i = refl
-zero-at (suc n) zero = refl
-zero-at (suc n) (suc i) = zero-at n i
-
-module _ (t : List ℕ) (e : t ≡ replicate table-words 0) where
-  abbrev t′ : List ℕ
-  t′ = set t 774 3
-
-  blank : (i : ℕ) → (i ≡ 774 → ⊥) → getD t′ i 0 ≡ 0
-  blank i ne = getD-set-other t 774 i 3 0 ne ∙ ap (λ (x : List ℕ). getD x i 0) e ∙ zero-at table-words i
-
-  pub long : length t ≡ table-words
-  long = ap length e ∙ length-replicate {A = ℕ} table-words 0
-
-  wf′ : Wf t′
-  wf′ = record {
-    size = length-set t 774 3 ∙ long;
-    fewLocals = λ k h. omega (arith, blank (k * 1024 + 256) (λ z. omega arith));
-    fewUpvalues = λ k h. omega (arith, blank (k * 1024 + 513) (λ z. omega arith));
-    fewConstants = λ k h. omega (arith, blank (k * 1024 + 770) (λ z. omega arith));
-    shallow = λ k h. omega (arith, blank (k * 1024 + 771) (λ z. omega arith));
-    pairs = λ k o h a b. omega (arith, blank (k * 1024 + o) (λ z. omega arith));
-  }
-
-  empty-row : {A : Type 0} (f : ℕ → A) (n : ℕ) → n ≡ 0 → row f n ≡ []
-  unfolding row
-  empty-row f n q = ap (row f) q
-
-  empty-stack : {A : Type 0} (f : ℕ → A) (n : ℕ) → n ≡ 0 → stack f n ≡ []
-  unfolding stack
-  empty-stack f n q = ap (stack f) q
-
-  pub started : Started t′
-  unfolding view ctxAt chunkAt parentsOf type-of
-  started = record {
-    fit = λ code spans limit h g. record {
-      low = omega arith;
-      wf = wf′;
-      coded = record {
-        roomCode = h;
-        roomRuns = g;
-        within = omega (arith, blank code-end-at (λ z. omega arith));
-        fewer = omega (arith, blank code-end-at (λ z. omega arith), blank runs-end-at (λ z. omega arith));
-        fewerAt = λ k z. omega (arith, blank (k * 1024 + 773) (λ z. omega arith));
-        fromZero = blank 772 (λ z. omega arith);
-        top = omega (arith, blank 772 (λ z. omega arith));
-        topRuns = omega (arith, blank 773 (λ z. omega arith));
-        order = λ k z. absurd (omega arith);
-        orderRuns = λ k z. absurd (omega arith);
-      };
-    };
-    is = λ code spans.
-        let nm : getD t′ 774 0 ≡ 3 = getD-set-same t 774 3 0 (omega (arith, long)) in
-        let ar = blank 775 (λ z. omega arith) in
-        let ty = blank 776 (λ z. omega arith) in
-        let de = blank 771 (λ z. omega arith) in
-        let ls = empty-stack (λ i. localOf (getD t′ (0 * 1024 + i) 0)) (getD t′ 256 0) (blank 256 (λ z. omega arith)) in
-        let us = empty-row (λ i. upvalueOf (getD t′ (0 * 1024 + 257 + i) 0)) (getD t′ 513 0) (blank 513 (λ z. omega arith)) in
-        let ks = empty-row (λ i. constantOf (getD t′ (0 * 1024 + 514 + i) 0)) (getD t′ 770 0) (blank 770 (λ z. omega arith)) in
-        let os = empty-row (λ i. getD code (codeFrom t′ 0 + i) 0) (codeEnd t′ - codeFrom t′ 0) (omega (arith, blank code-end-at (λ z. omega arith))) in
-        let rs = empty-row (λ i. runAt spans (runsFrom t′ 0 + i)) (runsEnd t′ - runsFrom t′ 0) (omega (arith, blank runs-end-at (λ z. omega arith))) in
-        λ i. record {
-          ctx = record { name = nm i; arity = ar i; type = type-of (ty i); chunk = record { ops = os i; constants = ks i; spans = rs i }; locals = ls i; upvalues = us i; scope-depth = de i };
-          parents = [];
-          class-ctx = [];
-          functions = [];
-        };
-    image = λ i h. blank i (λ z. omega arith);
-  }

@@ -5,7 +5,7 @@ ghost use mathlib.Core.Path.{_≡_};
 ghost use Prim.Native.Nat.{ℕ, _+_, _*_, _-_, _/_, _%_, _≤_, _<_};
 ghost use mathlib.Core.Bool.{_&&_};
 ghost use mathlib.Core.Option.{none};
-ghost use lib.ListN.{length, getD, replicate};
+ghost use lib.ListN.{length, getD};
 ghost use lib.Dec.{eqb};
 ghost use Rattle.rules.specs.Chunk.{CS, CF};
 ghost use Rattle.rules.specs.Compiler.{emit-op, emit-op-u8, emit-constant, emit-op-constant, emit-invoke, emit-jump, patch-jump, emit-loop, declare-local, define-local, is-global, begin-scope, end-scope, get-variable, set-variable, need-super, define-name, return-value, compile-return, implicit-return, emit-upvalues};
@@ -18,6 +18,11 @@ ghost use Rattle.steps.specs.View.{mem, Fit, code-len, depth-at, steady,
 use op::Op;
 use rules::Refusal;
 use rules::Span;
+
+// The image writer's words, the last of the table.
+const COUNT: usize = state::LEVELS * 1024 + 2;
+
+const BYTES: usize = state::LEVELS * 1024 + 3;
 
 pub enum Step {
     Next(usize),
@@ -740,10 +745,19 @@ pub fn emit_upvalues(
     Step::Next(next)
 }
 
-// The script's context in a table of zeros.
+// The script's context, whatever the table held.
 pub fn begin_script(t: &mut [u64])
-    requires { ⌜ now t ≡ replicate table-words 0 ⌝ }
+    requires { ⌜ length (now t) ≡ table-words ⌝ }
     ensures { λ r. ⌜ Started (now (t .exit)) ⌝ }
 {
+    state::clear_levels(t);
     t[774] = 3;
+    t[772] = 0;
+    t[773] = 0;
+    t[775] = 0;
+    t[776] = 0;
+    t[state::CODE_END] = 0;
+    t[state::RUNS_END] = 0;
+    t[COUNT] = 0;
+    t[BYTES] = 0;
 }

@@ -19,14 +19,14 @@ least-requires-2 c κs = search needs
 clear8-requires : tie.Need-clear8-requires
 clear8-requires c κs = search needs
 
-start-table-requires : tie.Need-start-table-requires
-start-table-requires c κs = search needs
+begin-script-requires : tie.Need-begin-script-requires
+begin-script-requires c κs = search needs
 
 cast-compile-script : tie.Need-cast-compile-script
 cast-compile-script c = search needs
 
 compile-script-requires : tie.Need-compile-script-requires
-compile-script-requires c κs = (rows-of _ (c .before .before .before .before .before .before .before .before .before .before .before .before .before .before .before .before .before .before .before .before .pre .0), clean _ (length (c .before .before .before .before .before .before .before .before .before .before .before .before .before .before .before .before .before .before .before .before .args .out .now)) (c .before .before .before .before .before .before .before .start-table .ensures) (c .before .before .before .before .before .before .before .before .before .before .before .before .before .least2 .ensures ∙ ap (λ (k : ℕ). min k 262144) (c .before .before .before .before .before .before .before .before .before .before .before .before .before .before .least .ensures)) (c .before .before .before .before .before .before .before .before .before .before .before .clear8 .ensures))
+compile-script-requires c κs = (rows-of _ (c .before .before .before .before .before .before .before .before .before .before .before .before .before .before .before .before .before .before .before .before .pre .0), clean _ (length (c .before .before .before .before .before .before .before .before .before .before .before .before .before .before .before .before .before .before .before .before .args .out .now)) (c .before .before .before .before .before .before .before .begin-script .ensures) (c .before .before .before .before .before .before .before .before .before .before .before .before .before .least2 .ensures ∙ ap (λ (k : ℕ). min k 262144) (c .before .before .before .before .before .before .before .before .before .before .before .before .before .before .least .ensures)) (c .before .before .before .before .before .before .before .before .before .before .before .clear8 .ensures))
 
 enum-known-r : tie.Need-enum-known-r
 enum-known-r c = search needs
@@ -92,7 +92,7 @@ compile-sound-spec =
     least-requires
     least-requires-2
     clear8-requires
-    start-table-requires
+    begin-script-requires
     cast-compile-script
     compile-script-requires
     enum-known-r

@@ -1,7 +1,6 @@
 -- `skip` meets its contract. The loop's invariant: what it has passed are other words. The measure is how many are left. Assumes nothing.
-use Prim.Native.Nat.{ℕ, _+_, _-_, _≤_, _<_}
+use Prim.Native.Nat.{_-_, _≤_}
 use native.Mathlib.Omega.{arith}
-use lib.ListN.{getD}
 use borrow.Author.Needs.{needs}
 use Rattle.state.specs.Contracts.{Without}
 use Rattle.state.proofs.Scan.{without-more}

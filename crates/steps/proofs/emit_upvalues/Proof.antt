@@ -53,7 +53,10 @@ slice-read-w : tie.Need-slice-read-w Inv-loop μ-loop
 slice-read-w c = omega (arith, c .before .before .before .before .before .before .before .pre .0 .wf .size, c .before .before .before .before .before .before .before .pre .0 .wf .fewUpvalues (c .before .before .before .before .before .before .before .args .level + 1) (c .before .before .before .before .before .before .before .pre .1), c .before .before .loop .inv .1, c .before .before .loop .inv .2, c .before .before .loop .inv .3)
 
 emit-pair-requires : tie.Need-emit-pair-requires Inv-loop μ-loop
-emit-pair-requires c κs = let a = c .before .before .before .before .before .before .before .before .before .before .args in (c .before .before .before .before .before .loop .inv .0 .ahead .fit, c .before .before .before .before .before .loop .inv .0 .ahead .fit .wf .pairs (a .level + 1) (257 + c .before .before .before .before .before .loop .i) (c .before .before .before .before .before .before .before .before .before .before .pre .1) (omega arith) (omega (arith, c .before .before .before .before .before .before .before .before .before .before .pre .0 .wf .fewUpvalues (a .level + 1) (c .before .before .before .before .before .before .before .before .before .before .pre .1), c .before .before .before .before .before .loop .inv .1)))
+emit-pair-requires c κs =
+    let a = c .before .before .before .before .before .before .before .before .before .before .args in
+    let g = c .before .before .before .before .before .loop .inv .0 in
+    (g .ahead .fit, g .ahead .fit .wf .pairs (a .level + 1) (257 + c .before .before .before .before .before .loop .i) (c .before .before .before .before .before .before .before .before .before .before .pre .1) (omega arith) (omega (arith, ways.word-kept (a .limit) (a .level) (a .span) _ _ _ (c .before .before .before .before .before .loop .i) _ _ g 513 (c .before .before .before .before .before .before .before .before .before .before .pre .1) (omega arith), c .before .before .before .before .before .loop .inv .1)))
 
 enum-told : tie.Need-enum-told Inv-loop μ-loop
 enum-told c = search needs
