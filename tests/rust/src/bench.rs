@@ -97,12 +97,21 @@ fn checked(image: &[u8]) -> Answer {
     unsafe { puffbramble_check(black_box(image).as_ptr(), image.len()) }
 }
 
-/// The least time of so many rounds; the answer must be the Rust's checker's.
-fn check_time(image: &[u8], rounds: usize) -> f64 {
-    let (answer, told) = (checked(image), check(image));
-    assert_eq!((answer.number, answer.length), (told.number.into(), told.length.into()));
-    let calls = (ROUND_BYTES / image.len()).clamp(1, 100);
-    (0..rounds).map(|_| timed(calls, || checked(image))).fold(f64::MAX, f64::min)
+/// The least time of so many rounds for each image, the images in turn, so that what else the machine does falls on all of them. The answers must
+/// be the Rust's checker's.
+fn check_times(images: &[Vec<u8>], rounds: usize) -> Vec<f64> {
+    for image in images {
+        let (answer, told) = (checked(image), check(image));
+        assert_eq!((answer.number, answer.length), (told.number.into(), told.length.into()));
+    }
+    let mut least = vec![f64::MAX; images.len()];
+    for _ in 0..rounds {
+        for (image, least) in images.iter().zip(&mut least) {
+            let calls = (ROUND_BYTES / image.len()).clamp(1, 100);
+            *least = least.min(timed(calls, || checked(image)));
+        }
+    }
+    least
 }
 
 /// The image checker over images of the compiler, by size, and over the images that take it longest.
@@ -110,25 +119,25 @@ pub fn images() {
     println!("{:18} {:>9} {:>11} {:>8} {:>8}", "image of", "bytes", "us", "ns/byte", "MB/s");
     for (name, make) in SCRIPTS {
         let growth = image_of(&make(100_000)).len() as f64 / 100_000.0;
-        let mut each = vec![];
-        for size in [10_000.0, 40_000.0, 200_000.0, 1_000_000.0, 4_000_000.0] {
-            let image = image_of(&make(((size / growth) as usize).min(1_030_000)));
-            let seconds = check_time(&image, ROUNDS);
-            each.push(seconds / image.len() as f64);
-            let rate = image.len() as f64 / seconds / 1e6;
+        let images = [10_000.0, 40_000.0, 200_000.0, 1_000_000.0, 4_000_000.0]
+            .map(|size| image_of(&make(((size / growth) as usize).min(1_030_000))));
+        let (mut least, mut most) = (f64::MAX, 0f64);
+        for (image, seconds) in images.iter().zip(check_times(&images, ROUNDS)) {
+            let byte = seconds / image.len() as f64;
+            (least, most) = (least.min(byte), most.max(byte));
             println!(
-                "{name:18} {:>9} {:>11.1} {:>8.2} {rate:>8.0}",
+                "{name:18} {:>9} {:>11.1} {:>8.2} {:>8.0}",
                 image.len(),
                 seconds * 1e6,
-                1e9 * each[each.len() - 1]
+                1e9 * byte,
+                1e-6 / byte
             );
         }
-        let (least, most) = each.iter().fold((f64::MAX, 0f64), |(a, b), &x| (a.min(x), b.max(x)));
         println!("{name:18} time a byte, greatest to least: {:.2}", most / least);
     }
     println!("{:54} {:>9} {:>6} {:>11}", "image of a mebibyte", "bytes", "number", "ms");
     for (name, image) in images::worst() {
-        let seconds = check_time(&image, 3);
+        let seconds = check_times(std::slice::from_ref(&image), 3)[0];
         println!("{name:54} {:>9} {:>6} {:>11.2}", image.len(), checked(&image).number, seconds * 1e3);
     }
 }
