@@ -125,13 +125,7 @@ pub fn images() {
         for (image, seconds) in images.iter().zip(check_times(&images, ROUNDS)) {
             let byte = seconds / image.len() as f64;
             (least, most) = (least.min(byte), most.max(byte));
-            println!(
-                "{name:18} {:>9} {:>11.1} {:>8.2} {:>8.0}",
-                image.len(),
-                seconds * 1e6,
-                1e9 * byte,
-                1e-6 / byte
-            );
+            println!("{name:18} {:>9} {:>11.1} {:>8.2} {:>8.0}", image.len(), seconds * 1e6, 1e9 * byte, 1e-6 / byte);
         }
         println!("{name:18} time a byte, greatest to least: {:.2}", most / least);
     }
