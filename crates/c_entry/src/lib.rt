@@ -6,6 +6,8 @@ ghost use Rattle.rules.specs.Entry as rules;
 ghost use Rattle.rules.specs.Checker.{check, code-answer, span-of};
 ghost use Rattle.spans.specs.Words.{runs-of};
 ghost use Rattle.c_entry.specs.Read.{read-answer};
+use answers::accepted;
+use answers::refused;
 use rules::Answer;
 use tree::Checked;
 
@@ -29,8 +31,8 @@ pub extern "C" fn puffbramble_read(tree: &[u8]) -> Answer
     ensures { λ r. ⌜ r ≡ read-answer (now (tree .entry)) ⌝ }
 {
     match tree::read(tree) {
-        Checked::Sound(_) => Answer::accepted(0),
-        Checked::Bad(r) => Answer::refused(r),
+        Checked::Sound(_) => accepted(0),
+        Checked::Bad(r) => refused(r),
     }
 }
 

@@ -10,6 +10,8 @@ ghost use Rattle.tree.specs.declared.Checked as checks;
 ghost use Rattle.state.specs.Layout.{table-words};
 ghost use Rattle.steps.specs.View.{mem, Fit, steady, Did};
 ghost use Rattle.entry.specs.Whole.{lent-of, limit-of, rows-at, Rows, Clean, script-end, Scripted, Headed, Written};
+use answers::accepted;
+use answers::refused;
 use closures::finish;
 use op::Op;
 use rules::Answer;
@@ -170,10 +172,10 @@ pub fn compile(
     areas::clear8(code);
     areas::clear32(spans);
     match made {
-        Step::Next(n) => Answer::accepted(n),
+        Step::Next(n) => accepted(n),
         Step::Stop(x) => {
             areas::clear8(out);
-            Answer::refused(x)
+            refused(x)
         }
     }
 }

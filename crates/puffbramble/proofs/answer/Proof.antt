@@ -16,7 +16,7 @@ use Rattle.puffbramble.proofs.answer.Tie as tie
 use Rattle.puffbramble.proofs.answer.Reads as reads
 use Rattle.puffbramble.proofs.answer.Lts as lts
 use Rattle.entry.proofs.compile.Reads as compile-reads
-use Rattle.rules.proofs.Answer.refused.Reads as refused-reads
+use Rattle.answers.proofs.refused.Reads as refused-reads
 
 module _ (tree : List ℕ) (lent : Lent) where
   long : most < length tree → program-answer tree lent ≡ refusal TreeTooLong
