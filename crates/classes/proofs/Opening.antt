@@ -27,6 +27,7 @@ use Rattle.compiler.proofs.Monad.{stays, nothing, on-to}
 use Rattle.parts.specs.Parts.{open-class}
 use Rattle.classes.specs.Classes.{inner, entering, scoping, opening, ClassHead, superclass-of, InnerClass, SuperOpened, ClassOpened}
 use Rattle.classes.proofs.Heads.{with-super, without-super, no-count, a-count}
+use Rattle.state.specs.Layout.{depth-place, level-words}
 
 -- ## The class is the innermost one: no code says so
 
@@ -164,6 +165,6 @@ opened-fit tree at h c q = went (c .did (h .depth) (h .has) (h .super) (h .mid) 
 
 -- what holds of the depth holds after a step that begins and ends no scope
 pub depth-on : (P : ℕ → Type 0) {class limit l n v : ℕ} {m : Compile Unit} {t code spans t′ code′ spans′ : List ℕ} {r : Step} → Did class limit l n steady m (mem t code spans) (mem t′ code′ spans′) r → r ≡ Next v
-    → P (getD t (l * 1024 + 771) 0) → P (getD t′ (l * 1024 + 771) 0)
+    → P (getD t (l * level-words + depth-place) 0) → P (getD t′ (l * level-words + depth-place) 0)
 unfolding depth-at
 depth-on P d q h = subst P (sym (went d q .ahead .deep)) h

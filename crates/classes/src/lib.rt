@@ -8,7 +8,7 @@ ghost use Rattle.rules.specs.Base.{if_then_else_};
 ghost use Rattle.rules.specs.Op as ops;
 ghost use Rattle.rules.specs.Compiler.{done, method-type, emit-op, compile-superclass};
 ghost use Rattle.fields.specs.Words.{word8, word16};
-ghost use Rattle.state.specs.Layout.{deepest, type-of};
+ghost use Rattle.state.specs.Layout.{deepest, type-of, depth-place, level-words};
 ghost use Rattle.steps.specs.View.{mem, Fit, steady, deeper, Did};
 ghost use Rattle.classes.specs.Classes.{ClassHead, superclass-of, InnerClass, SuperOpened, ClassOpened, ClassClosed};
 use fields::span_at;
@@ -62,7 +62,7 @@ fn inherit(
     name: u16,
     span: Span,
 ) -> Step
-    requires { ⌜ (at + 27 ≤ length (now tree)) × (Fit (mem (now t) (now code) (now spans)) level limit) × (getD (now t) (level * 1024 + 771) 0 < deepest) ⌝ }
+    requires { ⌜ (at + 27 ≤ length (now tree)) × (Fit (mem (now t) (now code) (now spans)) level limit) × (getD (now t) (level * level-words + depth-place) 0 < deepest) ⌝ }
     ensures { λ r. ⌜ Did 2 limit level (at + 27) deeper (compile-superclass limit name (some (superclass-of (now (tree .entry)) at)) span) (mem (now (t .entry)) (now (code .entry)) (now (spans .entry))) (mem (now (t .exit)) (now (code .exit)) (now (spans .exit))) r ⌝ }
 {
     let parent = u16_at(tree, at + 25);
@@ -99,7 +99,7 @@ fn superclass(
     name: u16,
     span: Span,
 ) -> Step
-    requires { ⌜ (ClassHead (now tree) at) × (Fit (mem (now t) (now code) (now spans)) level limit) × (getD (now t) (level * 1024 + 771) 0 < deepest) ⌝ }
+    requires { ⌜ (ClassHead (now tree) at) × (Fit (mem (now t) (now code) (now spans)) level limit) × (getD (now t) (level * level-words + depth-place) 0 < deepest) ⌝ }
     ensures { λ r. ⌜ SuperOpened limit level name (now (tree .entry)) at span (mem (now (t .entry)) (now (code .entry)) (now (spans .entry))) (mem (now (t .exit)) (now (code .exit)) (now (spans .exit))) r ⌝ }
 {
     if u8_at(tree, at + 12) == 1 {
@@ -121,7 +121,7 @@ pub fn open_class(
     limit: usize,
     span: Span,
 ) -> Step
-    requires { ⌜ (ClassHead (now tree) at) × (Fit (mem (now t) (now code) (now spans)) level limit) × (getD (now t) (level * 1024 + 771) 0 < deepest) ⌝ }
+    requires { ⌜ (ClassHead (now tree) at) × (Fit (mem (now t) (now code) (now spans)) level limit) × (getD (now t) (level * level-words + depth-place) 0 < deepest) ⌝ }
     ensures { λ r. ⌜ ((class : ℕ) → ClassOpened class limit level (now (tree .entry)) at span (mem (now (t .entry)) (now (code .entry)) (now (spans .entry))) (mem (now (t .exit)) (now (code .exit)) (now (spans .exit))) r) ⌝ }
 {
     let name = u16_at(tree, at + 10);
@@ -177,7 +177,7 @@ pub fn close_class(
     span: Span,
     next: usize,
 ) -> Step
-    requires { ⌜ (ClassHead (now tree) at) × (Fit (mem (now t) (now code) (now spans)) level limit) × (word8 (now tree) (at + 12) ≡ 1 → 0 < getD (now t) (level * 1024 + 771) 0) ⌝ }
+    requires { ⌜ (ClassHead (now tree) at) × (Fit (mem (now t) (now code) (now spans)) level limit) × (word8 (now tree) (at + 12) ≡ 1 → 0 < getD (now t) (level * level-words + depth-place) 0) ⌝ }
     ensures { λ r. ⌜ ((class : ℕ) → ClassClosed class limit level (now (tree .entry)) at next span (mem (now (t .entry)) (now (code .entry)) (now (spans .entry))) (mem (now (t .exit)) (now (code .exit)) (now (spans .exit))) r) ⌝ }
 {
     let a = drop_class(tree, at, t, code, spans, level, limit, span, next);

@@ -12,7 +12,7 @@ use Rattle.rules.specs.declared.Refusal.{Refusal}
 use Rattle.rules.specs.Op as op
 use Rattle.rules.specs.Chunk.{Constant, CF, ObjectFunction}
 use Rattle.rules.specs.Compiler.{Upvalue, Compiler, ok, err, finish, emit-op, emit-constant, emit-upvalues, emit-closure, implicit-return, end-ctx, end-function}
-use Rattle.state.specs.Layout.{levels, image-at, codeFrom, codeEnd, upvaluesOf, constantOf}
+use Rattle.state.specs.Layout.{levels, image-at, codeFrom, codeEnd, upvaluesOf, constantOf, depth-place, code-from-place, type-place, level-words}
 use Rattle.state.specs.Contracts.{Closed as LevelLeft}
 use Rattle.state.proofs.Laws.{upvalues-same}
 use Rattle.steps.specs.View.{Mem, mem, t-of, Rest, view, Agrees, Fit, code-len, depth-at, steady, Ahead, Gave, DidAs, Did, Left, finished}
@@ -95,7 +95,7 @@ module _ (class limit l : ℕ) (span : Span) (before : Mem) where
     fit-after = subst (λ (k : ℕ). Fit (mem t₃ code₁ spans₁) k limit) one-less (outside .fit code₁ spans₁ (fit-same t₁ t₂ (f .kept) (f .wf) fit₁))
 
     -- the words of the levels, from where the function was finished to where its level is left
-    word-after : (k o : ℕ) → k < levels → o < 1024 → getD t₃ (k * 1024 + o) 0 ≡ getD t₁ (k * 1024 + o) 0
+    word-after : (k o : ℕ) → k < levels → o < level-words → getD t₃ (k * level-words + o) 0 ≡ getD t₁ (k * level-words + o) 0
     word-after k o a b = c .kept .below _ (omega arith) ∙ f .kept _ (omega arith)
 
     image-after : (i : ℕ) → image-at ≤ i → getD t₃ i 0 ≡ getD t₂ i 0
@@ -135,20 +135,20 @@ module _ (class limit l : ℕ) (span : Span) (before : Mem) where
         up-to : codeFrom (t-of before) (suc l) ≤ codeEnd t₄
         unfolding code-len
         up-to =
-            let h = no-shorter (codeEnd t₃) (codeEnd t₄) (codeFrom t₃ l) (codeFrom t₄ l) (fit-after .coded .top) (e .ahead .fit .coded .top) (e .ahead .head 772 (omega arith) (omega arith)) (e .ahead .up) in
-            omega (arith, c .code, f .kept (suc l * 1024 + 772) (omega arith), g .ahead .head 772 (omega arith) (omega arith))
+            let h = no-shorter (codeEnd t₃) (codeEnd t₄) (codeFrom t₃ l) (codeFrom t₄ l) (fit-after .coded .top) (e .ahead .fit .coded .top) (e .ahead .head code-from-place (omega arith) (omega arith)) (e .ahead .up) in
+            omega (arith, c .code, f .kept (suc l * level-words + code-from-place) (omega arith), g .ahead .head code-from-place (omega arith) (omega arith))
 
         -- of the level itself
-        under-own : (o : ℕ) → 771 ≤ o → o ≤ 776 → getD t₄ (l * 1024 + o) 0 ≡ getD t₃ (l * 1024 + o) 0
+        under-own : (o : ℕ) → depth-place ≤ o → o ≤ type-place → getD t₄ (l * level-words + o) 0 ≡ getD t₃ (l * level-words + o) 0
         unfolding depth-at
         under-own o a b =
-            ⊎-elim (λ (q : 771 ≡ o). subst (λ (j : ℕ). getD t₄ (l * 1024 + j) 0 ≡ getD t₃ (l * 1024 + j) 0) q (e .ahead .deep)) (λ (q : 771 < o). e .ahead .head o (omega arith) b) (eq-or-lt-of-le a)
+            ⊎-elim (λ (q : depth-place ≡ o). subst (λ (j : ℕ). getD t₄ (l * level-words + j) 0 ≡ getD t₃ (l * level-words + j) 0) q (e .ahead .deep)) (λ (q : depth-place < o). e .ahead .head o (omega arith) b) (eq-or-lt-of-le a)
 
-        under-last : (k o : ℕ) → k ≤ l → 771 ≤ o → o ≤ 776 → getD t₄ (k * 1024 + o) 0 ≡ getD t₃ (k * 1024 + o) 0
+        under-last : (k o : ℕ) → k ≤ l → depth-place ≤ o → o ≤ type-place → getD t₄ (k * level-words + o) 0 ≡ getD t₃ (k * level-words + o) 0
         under-last k o h a b =
-            ⊎-elim (λ (q : k ≡ l). subst (λ (j : ℕ). getD t₄ (j * 1024 + o) 0 ≡ getD t₃ (j * 1024 + o) 0) (sym q) (under-own o a b)) (λ (q : k < l). e .ahead .under k o q a b) (eq-or-lt-of-le h)
+            ⊎-elim (λ (q : k ≡ l). subst (λ (j : ℕ). getD t₄ (j * level-words + o) 0 ≡ getD t₃ (j * level-words + o) 0) (sym q) (under-own o a b)) (λ (q : k < l). e .ahead .under k o q a b) (eq-or-lt-of-le h)
 
-        under-all : (k o : ℕ) → k ≤ l → 771 ≤ o → o ≤ 776 → getD t₄ (k * 1024 + o) 0 ≡ getD (t-of before) (k * 1024 + o) 0
+        under-all : (k o : ℕ) → k ≤ l → depth-place ≤ o → o ≤ type-place → getD t₄ (k * level-words + o) 0 ≡ getD (t-of before) (k * level-words + o) 0
         under-all k o h a b = under-last k o h a b ∙ word-after k o (omega arith) (omega arith) ∙ g .ahead .under k o (omega arith) a b
 
         beyond-all : (i : ℕ) → image-at ≤ i → getD t₄ i 0 ≡ getD t₂ i 0

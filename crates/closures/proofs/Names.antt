@@ -10,7 +10,7 @@ use Rattle.rules.specs.declared.Refusal.the-variants.{AlreadyDefined, TooManyLo
 use Rattle.rules.specs.Reader.{got}
 use Rattle.rules.specs.Compiler.{Compiler, ok, err, Compile, _>>_, done, return, update-ctx, slot-zero, declare-local, define-local, declare-params}
 use Rattle.fields.specs.Words.{word16}
-use Rattle.state.specs.Layout.{levels, ctxAt, type-of, Wf}
+use Rattle.state.specs.Layout.{levels, ctxAt, type-of, Wf, upvalues-place, level-words, local-count-place}
 use Rattle.state.specs.Contracts.{Kept, DeclaredAs, DeclaredAt, DefinedAt}
 use Rattle.state.specs.declared.Declared.{Declared}
 use Rattle.state.specs.declared.Declared.the-variants as decl
@@ -52,7 +52,7 @@ kept-on a b x y = record {
 
 define-is : (t t′ code spans : List ℕ) (l : ℕ) (rest : Rest) → l < levels → Wf t → DefinedAt t t′ l → define-local (view (mem t code spans) l rest) ≡ ok tt (view (mem t′ code spans) l rest)
 unfolding define-local update-ctx view ctxAt
-define-is t t′ code spans l rest low wf w = ap (ok tt) (sym (view-locals t code spans t′ l 256 _ wf low (w .kept) (omega arith) (w .does) rest))
+define-is t t′ code spans l rest low wf w = ap (ok tt) (sym (view-locals t code spans t′ l local-count-place _ wf low (w .kept) (omega arith) (w .does) rest))
 
 module _ (l n name : ℕ) (span : Span) (t t₁ : List ℕ) (r : Declared) (w : DeclaredAt t t₁ l name r) where
   does-as : (s : Declared) → r ≡ s → DeclaredAs t t₁ l name s
@@ -76,7 +76,7 @@ module _ (l n name : ℕ) (span : Span) (t t₁ : List ℕ) (r : Declared) (w : 
   unfolding view ctxAt
   declare-is low wf q code spans rest =
       declare-new name span (view (mem t code spans) l rest) (does-as decl.Done q .0) (does-as decl.Done q .1)
-      ∙ ap (ok tt) (sym (view-locals t code spans t₁ l 257 _ wf low (w .kept) (omega arith) (does-as decl.Done q .2) rest))
+      ∙ ap (ok tt) (sym (view-locals t code spans t₁ l upvalues-place _ wf low (w .kept) (omega arith) (does-as decl.Done q .2) rest))
 
   pub named-new : l < levels → Wf t → r ≡ decl.Done → (t₂ : List ℕ) → DefinedAt t₁ t₂ l → Named l n (declare-named name span) t t₂ (Next n)
   named-new low wf q t₂ d = record {
@@ -124,7 +124,7 @@ module _ (tree : List ℕ) (l : ℕ) (span : Span) where
   -- of `count` names from `from` on, `left` are still to be declared, from `next` on
   pub record Walk (count from : ℕ) (t t′ : List ℕ) (next left : ℕ) : Type 0 where
     pub wf : Wf t′
-    pub kept : Kept (l * 1024) (l * 1024 + 257) t t′
+    pub kept : Kept (l * level-words) (l * level-words + upvalues-place) t t′
     pub to : (x : Refusal) (ps : List ℕ) (n : ℕ) → names-at tree x count from ≡ got ps n → ParamsLeft x (declare-params ps span) n t t′ next left
 
   pub walk-start : (count from : ℕ) (t : List ℕ) → Wf t → Walk count from t t from count

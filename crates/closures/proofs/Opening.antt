@@ -13,7 +13,7 @@ use Rattle.rules.specs.declared.Refusal.the-variants.{TreeForm, TooManyParams}
 use Rattle.rules.specs.Reader.{got}
 use Rattle.rules.specs.Compiler.{FunctionType, Compiler, CompilerCtx, new-ctx, ok, err, Compile, _>>=_, _>>_, go-on, need, the, slot-zero, begin-ctx, declare-local, define-local, declare-params}
 use Rattle.fields.specs.Words.{word16}
-use Rattle.state.specs.Layout.{levels, code-end-at, runs-end-at, codeFrom, runsFrom, codeEnd, runsEnd, chunkAt, ctxAt, type-of, Wf}
+use Rattle.state.specs.Layout.{levels, code-end-at, runs-end-at, codeFrom, runsFrom, codeEnd, runsEnd, chunkAt, ctxAt, type-of, Wf, upvalues-place, depth-place, code-from-place, runs-from-place, level-words}
 use Rattle.state.specs.Contracts.{Kept, Began}
 use Rattle.state.proofs.Laws.{length-row}
 use Rattle.parsed.proofs.Statements.{names-length}
@@ -88,15 +88,15 @@ module _ (l kind name : ℕ) (params : List ℕ) (span : Span) (t t₁ : List �
     inside : {t₃ : List ℕ} → Locally (suc l) (declare-params params span) t₂ t₃ → Inside l whole t t₃
     unfolding depth-at
     inside {t₃} g =
-        let kp : Kept (suc l * 1024) (suc l * 1024 + 257) t₁ t₃ = kept-on (omega arith) (omega arith) (f .kept) (g .kept) in
-        let kp′ : Kept (suc l * 1024 + 0) (suc l * 1024 + 257) t₁ t₃ = record { below = λ i h. kp .below i (omega arith); above = kp .above } in
+        let kp : Kept (suc l * level-words) (suc l * level-words + upvalues-place) t₁ t₃ = kept-on (omega arith) (omega arith) (f .kept) (g .kept) in
+        let kp′ : Kept (suc l * level-words + 0) (suc l * level-words + upvalues-place) t₁ t₃ = record { below = λ i h. kp .below i (omega arith); above = kp .above } in
         record {
-          fit = λ {limit} code spans h. ahead-kept t₁ code spans t₃ (suc l) limit 0 257 (begun .fit code spans h) (g .wf) kp′ (omega arith) .fit;
+          fit = λ {limit} code spans h. ahead-kept t₁ code spans t₃ (suc l) limit 0 upvalues-place (begun .fit code spans h) (g .wf) kp′ (omega arith) .fit;
           comes = λ code spans rest. then-is code spans rest ∙ g .comes code spans rest;
-          deep = λ code spans. kp .above (suc l * 1024 + 771) (omega arith) ∙ begun .deep code spans;
+          deep = λ code spans. kp .above (suc l * level-words + depth-place) (omega arith) ∙ begun .deep code spans;
           kept = kept-on (omega arith) (omega arith) (b .kept) kp;
-          from = omega (arith, no-code l name (length params) kind t t₁ low b, b .kept .above code-end-at (omega arith), kp .above (suc l * 1024 + 772) (omega arith));
-          runs-from = omega (arith, no-runs l name (length params) kind t t₁ low b, b .kept .above runs-end-at (omega arith), kp .above (suc l * 1024 + 773) (omega arith));
+          from = omega (arith, no-code l name (length params) kind t t₁ low b, b .kept .above code-end-at (omega arith), kp .above (suc l * level-words + code-from-place) (omega arith));
+          runs-from = omega (arith, no-runs l name (length params) kind t t₁ low b, b .kept .above runs-end-at (omega arith), kp .above (suc l * level-words + runs-from-place) (omega arith));
         }
 
     last-as : (n : ℕ) (t₃ : List ℕ) (r : Step) → NamedAs (suc l) n (declare-params params span) t₂ t₃ r → FunctionOpenedAs l n whole t t₃ r

@@ -11,7 +11,7 @@ use Rattle.rules.specs.Limits.{max-code}
 use Rattle.rules.specs.Chunk.{Run, ObjectFunction}
 use Rattle.rules.specs.Image.{join, constant-bytes, run-bytes, function-bytes}
 use Rattle.rules.specs.Compiler.{finish}
-use Rattle.state.specs.Layout.{levels, image-at, code-end-at, runs-end-at, constantOf, runAt, codeFrom, runsFrom, codeEnd, runsEnd, chunkAt, ctxAt, Wf, Coded}
+use Rattle.state.specs.Layout.{levels, image-at, code-end-at, runs-end-at, constantOf, runAt, codeFrom, runsFrom, codeEnd, runsEnd, chunkAt, ctxAt, Wf, Coded, constants-place, constant-count-place, code-from-place, runs-from-place, level-words}
 use Rattle.state.proofs.Laws.{length-row, ctx-same, parents-named, wf-plain}
 use Rattle.steps.specs.View.{mem, Rest, view, Fit}
 use Rattle.writer.specs.Put.{padded, Put, Closed}
@@ -57,7 +57,7 @@ pub function-short : (t code spans : List ℕ) (l : ℕ) → Closed t code spans
 unfolding function-at finish ctxAt chunkAt
 function-short t code spans l c =
     record-short (function-at t code spans l)
-    (omega (arith, length-row (λ i. constantOf (getD t (l * 1024 + 514 + i) 0)) (getD t (l * 1024 + 770) 0), c .wf .fewConstants l (c .low)))
+    (omega (arith, length-row (λ i. constantOf (getD t (l * level-words + constants-place + i) 0)) (getD t (l * level-words + constant-count-place) 0), c .wf .fewConstants l (c .low)))
     (omega (arith, length-row (λ i. runAt spans (runsFrom t l + i)) (runsEnd t - runsFrom t l), c .runs-few, c .code-small))
     (omega (arith, length-row (λ i. getD code (codeFrom t l + i) 0) (codeEnd t - codeFrom t l), c .code-small))
 
@@ -114,7 +114,7 @@ module _ (l : ℕ) (t code spans out out′ : List ℕ) (r : ℕ) (c : Closed t 
 -- ## What does not enter the state
 
 module _ (t t′ : List ℕ) (same : (i : ℕ) → i < image-at → getD t′ i 0 ≡ getD t i 0) where
-  word : (k o : ℕ) → k < levels → o < 1024 → getD t′ (k * 1024 + o) 0 ≡ getD t (k * 1024 + o) 0
+  word : (k o : ℕ) → k < levels → o < level-words → getD t′ (k * level-words + o) 0 ≡ getD t (k * level-words + o) 0
   word k o a b = same _ (omega arith)
 
   coded-same : {code spans : List ℕ} {l limit : ℕ} → l < levels → Coded t code spans l limit → Coded t′ code spans l limit
@@ -126,12 +126,12 @@ module _ (t t′ : List ℕ) (same : (i : ℕ) → i < image-at → getD t′ i 
         roomRuns = ok .roomRuns;
         within = omega (arith, ok .within);
         fewer = omega (arith, ok .fewer);
-        fewerAt = λ k z. omega (arith, word k 772 (omega arith) (omega arith), word k 773 (omega arith) (omega arith), ok .fewerAt k z);
-        fromZero = word 0 772 (omega arith) (omega arith) ∙ ok .fromZero;
-        top = omega (arith, ok .top, word _ 772 low (omega arith));
-        topRuns = omega (arith, ok .topRuns, word _ 773 low (omega arith));
-        order = λ k z. omega (arith, word k 772 (omega arith) (omega arith), word (suc k) 772 (omega arith) (omega arith), ok .order k z);
-        orderRuns = λ k z. omega (arith, word k 773 (omega arith) (omega arith), word (suc k) 773 (omega arith) (omega arith), ok .orderRuns k z);
+        fewerAt = λ k z. omega (arith, word k code-from-place (omega arith) (omega arith), word k runs-from-place (omega arith) (omega arith), ok .fewerAt k z);
+        fromZero = word 0 code-from-place (omega arith) (omega arith) ∙ ok .fromZero;
+        top = omega (arith, ok .top, word _ code-from-place low (omega arith));
+        topRuns = omega (arith, ok .topRuns, word _ runs-from-place low (omega arith));
+        order = λ k z. omega (arith, word k code-from-place (omega arith) (omega arith), word (suc k) code-from-place (omega arith) (omega arith), ok .order k z);
+        orderRuns = λ k z. omega (arith, word k runs-from-place (omega arith) (omega arith), word (suc k) runs-from-place (omega arith) (omega arith), ok .orderRuns k z);
       }
 
   pub fit-same : {code spans : List ℕ} {l limit : ℕ} → Wf t′ → Fit (mem t code spans) l limit → Fit (mem t′ code spans) l limit
@@ -142,7 +142,7 @@ module _ (t t′ : List ℕ) (same : (i : ℕ) → i < image-at → getD t′ i 
   view-same code spans l rest wf low =
       let c = ap₂ (ctxAt t′ code spans l) (same code-end-at (omega arith)) (same runs-end-at (omega arith))
       ∙ ctx-same t code spans t′ code spans l (codeEnd t) (runsEnd t) wf low (λ o h. word l o low (omega arith)) (λ i h. refl) (λ i h. refl) in
-      let ps = parents-named t t′ l wf low (λ k o a b. word k o (omega arith) (omega arith)) (word l 772 low (omega arith)) (word l 773 low (omega arith)) code spans in
+      let ps = parents-named t t′ l wf low (λ k o a b. word k o (omega arith) (omega arith)) (word l code-from-place low (omega arith)) (word l runs-from-place low (omega arith)) code spans in
       λ i. record { ctx = c i; parents = ps i; class-ctx = rest .classes; functions = rest .functions }
 
 -- ## A level's function can be put

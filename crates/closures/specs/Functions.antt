@@ -12,7 +12,7 @@ use Rattle.rules.specs.TreeFile.{name}
 use Rattle.rules.specs.Chunk.{ObjectFunction}
 use Rattle.rules.specs.Compiler.{Compile, ok, err, _>>_, finish, declare-local, define-local, declare-params}
 use Rattle.fields.specs.Words.{word16}
-use Rattle.state.specs.Layout.{image-at, codeFrom, runsFrom, codeEnd, runsEnd, ctxAt, type-of, Wf}
+use Rattle.state.specs.Layout.{image-at, codeFrom, runsFrom, codeEnd, runsEnd, ctxAt, type-of, Wf, upvalues-place, depth-place, type-place, level-words}
 use Rattle.state.specs.Contracts.{Kept}
 use Rattle.steps.specs.View.{Mem, mem, t-of, Rest, view, Agrees, Fit, depth-at}
 use Rattle.steps.specs.declared.Step.{Step}
@@ -48,7 +48,7 @@ declare-named name span = declare-local name span >> define-local
 -- m is done by a change of a level's locals
 pub record Locally (l : ℕ) (m : Compile Unit) (t t′ : List ℕ) : Type 0 where
   pub comes : (code spans : List ℕ) (rest : Rest) → m (view (mem t code spans) l rest) ≡ ok tt (view (mem t′ code spans) l rest)
-  pub kept : Kept (l * 1024) (l * 1024 + 257) t t′
+  pub kept : Kept (l * level-words) (l * level-words + upvalues-place) t t′
   pub wf : Wf t′
 
 abbrev pub NamedAs : (l n : ℕ) → Compile Unit → (t t′ : List ℕ) → Step → Type 0
@@ -68,7 +68,7 @@ pub record Inside (l : ℕ) (m : Compile Unit) (t t′ : List ℕ) : Type 0 wher
   pub fit : {limit : ℕ} (code spans : List ℕ) → Fit (mem t code spans) l limit → Fit (mem t′ code spans) (suc l) limit
   pub comes : (code spans : List ℕ) (rest : Rest) → m (view (mem t code spans) l rest) ≡ ok tt (view (mem t′ code spans) (suc l) rest)
   pub deep : (code spans : List ℕ) → depth-at (mem t′ code spans) (suc l) ≡ depth-at (mem t code spans) l + 1
-  pub kept : Kept (suc l * 1024) (suc l * 1024 + 1024) t t′
+  pub kept : Kept (suc l * level-words) (suc l * level-words + level-words) t t′
   -- its code and its runs start no earlier than those of the function around end
   pub from : codeEnd t ≤ codeFrom t′ (suc l)
   pub runs-from : runsEnd t ≤ runsFrom t′ (suc l)
@@ -101,7 +101,7 @@ pub record Finished (class limit l : ℕ) (span : Span) (before : Mem) (out : Li
   pub agrees : (rest : Rest) → Agrees class before rest → Agrees class now (more (function ∷ []) rest)
   pub fit : Fit now l limit
   pub up : codeFrom (t-of before) (suc l) ≤ codeEnd (t-of now)
-  pub under : (k o : ℕ) → k ≤ l → 771 ≤ o → o ≤ 776 → getD (t-of now) (k * 1024 + o) 0 ≡ getD (t-of before) (k * 1024 + o) 0
+  pub under : (k o : ℕ) → k ≤ l → depth-place ≤ o → o ≤ type-place → getD (t-of now) (k * level-words + o) 0 ≡ getD (t-of before) (k * level-words + o) 0
   pub put : (functions : List ObjectFunction) → Holds (t-of before) out functions → Holds (t-of now) out′ (functions ++ (function ∷ []))
   pub count : getD (t-of now) image-at 0 ≡ getD (t-of before) image-at 0 + 1
   pub bytes : getD (t-of now) (image-at + 1) 0 ≤ getD (t-of before) (image-at + 1) 0 + largest

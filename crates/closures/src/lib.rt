@@ -5,7 +5,7 @@ ghost use Prim.Native.Nat.{ℕ, _+_, _*_, _≤_, _<_};
 ghost use lib.ListN.{getD};
 ghost use Rattle.rules.specs.Limits.{max-code, max-tree};
 ghost use Rattle.rules.specs.Compiler.{slot-zero, emit-closure};
-ghost use Rattle.state.specs.Layout.{levels, deepest, image-at, type-of, upvaluesOf, Wf};
+ghost use Rattle.state.specs.Layout.{levels, deepest, image-at, type-of, upvaluesOf, Wf, depth-place, level-words};
 ghost use Rattle.steps.specs.View.{mem, Fit, steady, Did};
 ghost use Rattle.writer.specs.Put.{Closed};
 ghost use Rattle.parts.specs.Output.{largest};
@@ -14,7 +14,7 @@ use fields::u16_at;
 use op::Op;
 use rules::Refusal;
 use rules::Span;
-use state::LEVELS;
+use state::Table;
 use steps::Step;
 use steps::emit_constant;
 use steps::emit_op;
@@ -24,10 +24,6 @@ use steps::implicit_return;
 use writer::put_function;
 
 // The image writer's words: how many functions are finished, and how long their records are.
-const COUNT: usize = LEVELS * 1024 + 2;
-
-const BYTES: usize = LEVELS * 1024 + 3;
-
 // ## A function is begun
 
 // The name of slot zero: `this` in a method, a function's own name in it.
@@ -90,7 +86,7 @@ pub fn open_function(
     kind: u8,
     span: Span,
 ) -> Step
-    requires { ⌜ (FunHead (now tree) at) × (level + 1 < levels) × (Wf (now t)) × (getD (now t) (level * 1024 + 771) 0 < deepest) ⌝ }
+    requires { ⌜ (FunHead (now tree) at) × (level + 1 < levels) × (Wf (now t)) × (getD (now t) (level * level-words + depth-place) 0 < deepest) ⌝ }
     ensures { λ r. ⌜ FunctionOpened level kind (now (tree .entry)) at span (now (t .entry)) (now (t .exit)) r ⌝ }
 {
     let name = u16_at(tree, at + 10);
@@ -113,10 +109,10 @@ pub fn finish(t: &mut [u64], code: &[u8], spans: &[u32], out: &mut [u8], level: 
     requires { ⌜ (Closed (now t) (now code) (now spans) level) × (getD (now t) image-at 0 ≤ max-tree) × (getD (now t) (image-at + 1) 0 ≤ max-tree * largest) ⌝ }
     ensures { λ r. ⌜ Filed level (now (t .entry)) (now (code .entry)) (now (spans .entry)) (now (out .entry)) (now (t .exit)) (now (out .exit)) ⌝ }
 {
-    let long = t[BYTES] as usize;
+    let long = t[Table::IMAGE_BYTES] as usize;
     let next = put_function(out, 6 + long, &t[..], code, spans, level);
-    t[BYTES] = (next - 6) as u64;
-    t[COUNT] = t[COUNT] + 1;
+    t[Table::IMAGE_BYTES] = (next - 6) as u64;
+    t[Table::FUNCTIONS] = t[Table::FUNCTIONS] + 1;
 }
 
 // The closure of the function that was just finished, which stood at the level above and has this number.
@@ -171,7 +167,7 @@ pub fn close_function(
     let Step::Next(_) = a else {
         return a;
     };
-    let number = t[COUNT] as u32;
+    let number = t[Table::FUNCTIONS] as u32;
     finish(t, &code[..], &spans[..], out, level + 1);
     state::end_ctx(t, level + 1);
     emit_closure(t, code, spans, level, limit, number, span, next)

@@ -6,7 +6,7 @@ use mathlib.Core.Logic.{⊎-elim}
 use mathlib.Core.List.{List}
 use lib.ListN.{length, getD, set, length-set}
 use lib.Seq.{getD-set-same}
-use Rattle.state.specs.Layout.{levels, table-words}
+use Rattle.state.specs.Layout.{levels, table-words, upvalue-count-place, constant-count-place, depth-place, level-words, local-count-place}
 use Rattle.state.specs.Contracts.{Kept, Empty, Emptied, Blank}
 use Rattle.state.proofs.Laws.{lt-or-le, few-set, kept-set, kept-then}
 
@@ -16,16 +16,16 @@ zero-still t j i e = omega (arith, few-set 0 t j 0 i (omega arith) (omega arith)
 
 module _ (t : List ℕ) (l : ℕ) (low : l < levels) (size : length t ≡ table-words) where
   abbrev t₁ : List ℕ
-  t₁ = set t (l * 1024 + 256) 0
+  t₁ = set t (l * level-words + local-count-place) 0
 
   abbrev t₂ : List ℕ
-  t₂ = set t₁ (l * 1024 + 513) 0
+  t₂ = set t₁ (l * level-words + upvalue-count-place) 0
 
   abbrev t₃ : List ℕ
-  t₃ = set t₂ (l * 1024 + 770) 0
+  t₃ = set t₂ (l * level-words + constant-count-place) 0
 
   abbrev t₄ : List ℕ
-  t₄ = set t₃ (l * 1024 + 771) 0
+  t₄ = set t₃ (l * level-words + depth-place) 0
 
   n₁ : length t₁ ≡ table-words
   n₁ = length-set t _ _ ∙ size
@@ -47,7 +47,7 @@ module _ (t : List ℕ) (l : ℕ) (low : l < levels) (size : length t ≡ table-
     kept = kept-then _ _ t t₃ _ _ (kept-then _ _ t t₂ _ _ (kept-then _ _ t t₁ _ _ (kept-set _ _ t _ _ (omega arith) (omega arith)) (omega arith) (omega arith)) (omega arith) (omega arith)) (omega arith) (omega arith);
   }
 
-still-empty : (t t′ : List ℕ) (l k : ℕ) → Kept (l * 1024) (l * 1024 + 1024) t t′ → k < l → Empty t k → Empty t′ k
+still-empty : (t t′ : List ℕ) (l k : ℕ) → Kept (l * level-words) (l * level-words + level-words) t t′ → k < l → Empty t k → Empty t′ k
 still-empty t t′ l k kept h e = record {
   locals = kept .below _ (omega arith) ∙ e .locals;
   upvalues = kept .below _ (omega arith) ∙ e .upvalues;

@@ -12,7 +12,7 @@ use lib.Dec.{ltb}
 use borrow.Author.Tests.{eq-eqb, ne-eqb, lt-ltb, le-ltb}
 use Rattle.rules.specs.Base.{position}
 use Rattle.rules.specs.Chunk.{Constant, CN, CS, CF, same-constant, written, write-constant, at-place}
-use Rattle.state.specs.Layout.{levels, constantOf, constantsOf, chunkAt, Wf}
+use Rattle.state.specs.Layout.{levels, constantOf, constantsOf, chunkAt, Wf, constants-place, constant-count-place, depth-place, level-words}
 use Rattle.state.specs.Contracts.{Kept, First, Constants}
 use Rattle.state.specs.declared.Constanted.the-variants as constanted
 use Rattle.state.proofs.Laws.{length-row, position-at, position-none, push-vec, kept-set, kept-same, kept-then, if-true, if-false, lt-or-le, chunk-paths, wf-count, wf-plain}
@@ -56,25 +56,25 @@ apart v w ne =
     (λ hv gv. by-kind (λ (d : Constant). same-constant (CS (v - 2 ^ 63)) d ≡ false) w (λ hw. refl) (λ h g. ne-eqb (v - 2 ^ 63) (w - 2 ^ 63) (λ (e : v - 2 ^ 63 ≡ w - 2 ^ 63). ne (omega arith))) (λ g. refl))
     (λ gv. by-kind (λ (d : Constant). same-constant (CF (v - (2 ^ 63 + 2 ^ 32))) d ≡ false) w (λ hw. refl) (λ h g. refl) (λ g. ne-eqb (v - (2 ^ 63 + 2 ^ 32)) (w - (2 ^ 63 + 2 ^ 32)) (λ (e : v - (2 ^ 63 + 2 ^ 32) ≡ w - (2 ^ 63 + 2 ^ 32)). ne (omega arith))))
 
-module _ (t : List ℕ) (l w : ℕ) (low : l < levels) (wf : Wf t) (r : ℕ) (found : First t (l * 1024 + 514) (getD t (l * 1024 + 770) 0) w r) where
+module _ (t : List ℕ) (l w : ℕ) (low : l < levels) (wf : Wf t) (r : ℕ) (found : First t (l * level-words + constants-place) (getD t (l * level-words + constant-count-place) 0) w r) where
   by-place : (o : Option ℕ) → position (same-constant (constantOf w)) (constantsOf t l) ≡ o → (code spans : List ℕ) (ce re : ℕ) → write-constant (chunkAt t code spans l ce re) (constantOf w) ≡ written o (chunkAt t code spans l ce re) (constantOf w)
   unfolding write-constant chunkAt
   by-place o e code spans ce re = ap (λ (x : Option ℕ). written x (chunkAt t code spans l ce re) (constantOf w)) e
 
-  pub there : r < getD t (l * 1024 + 770) 0 → Constants t t l w (constanted.At r)
+  pub there : r < getD t (l * level-words + constant-count-place) 0 → Constants t t l w (constanted.At r)
   unfolding written
   there h =
       let e : position (same-constant (constantOf w)) (constantsOf t l) ≡ some r = position-at _ _ r _ h (λ j g. apart w _ (found .none j g)) (ap (λ (x : ℕ). same-constant (constantOf w) (constantOf x)) (found .here h) ∙ same-self (constantOf w)) in
       record { does = λ code spans ce re. sym (by-place (some r) e code spans ce re); kept = kept-same _ _ t; wf = wf }
 
-  module _ (h : getD t (l * 1024 + 770) 0 ≤ r) where
+  module _ (h : getD t (l * level-words + constant-count-place) 0 ≤ r) where
     none : position (same-constant (constantOf w)) (constantsOf t l) ≡ nothing
     none = position-none _ _ _ (λ j g. apart w _ (found .none j (omega arith)))
 
-    counted : (b : Bool) → ltb (getD t (l * 1024 + 770) 0) 256 ≡ b → ltb (length (constantsOf t l)) 256 ≡ b
+    counted : (b : Bool) → ltb (getD t (l * level-words + constant-count-place) 0) 256 ≡ b → ltb (length (constantsOf t l)) 256 ≡ b
     counted b e = ap (λ (k : ℕ). ltb k 256) (length-row _ _) ∙ e
 
-    pub full : 256 ≤ getD t (l * 1024 + 770) 0 → Constants t t l w constanted.Full
+    pub full : 256 ≤ getD t (l * level-words + constant-count-place) 0 → Constants t t l w constanted.Full
     unfolding written chunkAt
     full m = record {
       does = λ code spans ce re. sym (by-place nothing none code spans ce re ∙ if-false _ _ _ (counted false (le-ltb _ _ m)));
@@ -82,20 +82,20 @@ module _ (t : List ℕ) (l w : ℕ) (low : l < levels) (wf : Wf t) (r : ℕ) (fo
       wf = wf;
     }
 
-    pub pushed : getD t (l * 1024 + 770) 0 < 256 → Constants t (set (set t (l * 1024 + 514 + getD t (l * 1024 + 770) 0) w) (l * 1024 + 770) (getD t (l * 1024 + 770) 0 + 1)) l w (constanted.At (getD t (l * 1024 + 770) 0))
+    pub pushed : getD t (l * level-words + constant-count-place) 0 < 256 → Constants t (set (set t (l * level-words + constants-place + getD t (l * level-words + constant-count-place) 0) w) (l * level-words + constant-count-place) (getD t (l * level-words + constant-count-place) 0 + 1)) l w (constanted.At (getD t (l * level-words + constant-count-place) 0))
     unfolding written chunkAt
     pushed m =
-        let n : ℕ = getD t (l * 1024 + 770) 0 in
-        let t₁ : List ℕ = set t (l * 1024 + 514 + n) w in
-        let t′ : List ℕ = set t₁ (l * 1024 + 770) (n + 1) in
-        let cs : constantsOf t′ l ≡ constantsOf t l ++ (constantOf w ∷ []) = push-vec constantOf t (l * 1024 + 514) (l * 1024 + 770) w (omega arith) (omega (arith, wf .size)) in
-        let e : l * 1024 + (514 + n) ≡ l * 1024 + 514 + n = omega arith in
-        let kp : Kept (l * 1024 + 514) (l * 1024 + 771) t t′ = kept-then _ _ t t₁ _ _ (kept-set _ _ t _ _ (omega arith) (omega arith)) (omega arith) (omega arith) in
+        let n : ℕ = getD t (l * level-words + constant-count-place) 0 in
+        let t₁ : List ℕ = set t (l * level-words + constants-place + n) w in
+        let t′ : List ℕ = set t₁ (l * level-words + constant-count-place) (n + 1) in
+        let cs : constantsOf t′ l ≡ constantsOf t l ++ (constantOf w ∷ []) = push-vec constantOf t (l * level-words + constants-place) (l * level-words + constant-count-place) w (omega arith) (omega (arith, wf .size)) in
+        let e : l * level-words + (constants-place + n) ≡ l * level-words + constants-place + n = omega arith in
+        let kp : Kept (l * level-words + constants-place) (l * level-words + depth-place) t t′ = kept-then _ _ t t₁ _ _ (kept-set _ _ t _ _ (omega arith) (omega arith)) (omega arith) (omega arith) in
         let len : length (constantsOf t l) ≡ n = length-row _ _ in
         record {
           does = λ code spans ce re.
               ap₂ at-place (sym len) (chunk-paths t code spans t′ code spans l ce re ce re _ cs (kp .above _ (omega arith)) (kp .above _ (omega arith)) _ refl _ refl)
               ∙ sym (by-place nothing none code spans ce re ∙ if-true _ _ _ (counted true (lt-ltb _ _ m)));
           kept = kp;
-          wf = wf-count t₁ l 770 (n + 1) (omega arith) (λ z. omega arith) (omega arith) (subst (λ (j : ℕ). Wf (set t j w)) e (wf-plain t l (514 + n) _ (omega arith) (λ a b. omega arith) (λ z. omega arith) (λ z. omega arith) wf));
+          wf = wf-count t₁ l constant-count-place (n + 1) (omega arith) (λ z. omega arith) (omega arith) (subst (λ (j : ℕ). Wf (set t j w)) e (wf-plain t l (constants-place + n) _ (omega arith) (λ a b. omega arith) (λ z. omega arith) (λ z. omega arith) wf));
         }

@@ -11,7 +11,7 @@ use lib.Arith.{digits-div, digits-mod}
 use lib.Seq.{getD-set-same, getD-set-other}
 use borrow.Author.Tests.{eq-eqb, ne-eqb, lt-ltb, le-ltb}
 use Rattle.rules.specs.Compiler.{Local, declared, initialize}
-use Rattle.state.specs.Layout.{levels, stack, localOf, localsOf, Wf}
+use Rattle.state.specs.Layout.{levels, stack, localOf, localsOf, Wf, depth-place, level-words, local-count-place}
 use Rattle.state.specs.Contracts.{Kept, DeclaredAt, DefinedAt, Dropped}
 use Rattle.state.specs.declared.Declared.the-variants as decl
 use Rattle.state.proofs.Laws.{length-stack, stack-cong, push-pile, kept-set, kept-same, kept-then, if-true, if-false, wf-count, wf-plain}
@@ -50,23 +50,23 @@ new-local nm d h =
     λ i. record { name = a i; depth = p i; is-initialized = eqb (r i) 1; is-captured = eqb (c i) 1 }
 
 module _ (t : List ℕ) (l nm : ℕ) (short : nm < 65536) (low : l < levels) (wf : Wf t) where
-  pub already : declared (getD t (l * 1024 + 771) 0) nm (localsOf t l) ≡ true → DeclaredAt t t l nm decl.Already
+  pub already : declared (getD t (l * level-words + depth-place) 0) nm (localsOf t l) ≡ true → DeclaredAt t t l nm decl.Already
   already c = record { does = c; kept = kept-same _ _ t; wf = wf }
 
-  module _ (c : declared (getD t (l * 1024 + 771) 0) nm (localsOf t l) ≡ false) where
-    pub full : 256 ≤ getD t (l * 1024 + 256) 0 → DeclaredAt t t l nm decl.Full
-    full m = record { does = (c, omega (arith, length-stack (λ i. localOf (getD t (l * 1024 + i) 0)) (getD t (l * 1024 + 256) 0))); kept = kept-same _ _ t; wf = wf }
+  module _ (c : declared (getD t (l * level-words + depth-place) 0) nm (localsOf t l) ≡ false) where
+    pub full : 256 ≤ getD t (l * level-words + local-count-place) 0 → DeclaredAt t t l nm decl.Full
+    full m = record { does = (c, omega (arith, length-stack (λ i. localOf (getD t (l * level-words + i) 0)) (getD t (l * level-words + local-count-place) 0))); kept = kept-same _ _ t; wf = wf }
 
-    pub pushed : getD t (l * 1024 + 256) 0 < 256 → DeclaredAt t (set (set t (l * 1024 + getD t (l * 1024 + 256) 0) (getD t (l * 1024 + 771) 0 * 262144 + nm)) (l * 1024 + 256) (getD t (l * 1024 + 256) 0 + 1)) l nm decl.Done
+    pub pushed : getD t (l * level-words + local-count-place) 0 < 256 → DeclaredAt t (set (set t (l * level-words + getD t (l * level-words + local-count-place) 0) (getD t (l * level-words + depth-place) 0 * 262144 + nm)) (l * level-words + local-count-place) (getD t (l * level-words + local-count-place) 0 + 1)) l nm decl.Done
     pushed m =
-        let n : ℕ = getD t (l * 1024 + 256) 0 in
-        let d : ℕ = getD t (l * 1024 + 771) 0 in
-        let t₁ : List ℕ = set t (l * 1024 + n) (d * 262144 + nm) in
-        let ls = push-pile localOf t (l * 1024) (l * 1024 + 256) (d * 262144 + nm) (omega arith) (omega (arith, wf .size)) ∙ ap (λ (x : Local). x ∷ localsOf t l) (new-local nm d short) in
+        let n : ℕ = getD t (l * level-words + local-count-place) 0 in
+        let d : ℕ = getD t (l * level-words + depth-place) 0 in
+        let t₁ : List ℕ = set t (l * level-words + n) (d * 262144 + nm) in
+        let ls = push-pile localOf t (l * level-words) (l * level-words + local-count-place) (d * 262144 + nm) (omega arith) (omega (arith, wf .size)) ∙ ap (λ (x : Local). x ∷ localsOf t l) (new-local nm d short) in
         record {
-          does = (c, omega (arith, length-stack (λ i. localOf (getD t (l * 1024 + i) 0)) (getD t (l * 1024 + 256) 0)), ls);
+          does = (c, omega (arith, length-stack (λ i. localOf (getD t (l * level-words + i) 0)) (getD t (l * level-words + local-count-place) 0)), ls);
           kept = kept-then _ _ t t₁ _ _ (kept-set _ _ t _ _ (omega arith) (omega arith)) (omega arith) (omega arith);
-          wf = wf-count t₁ l 256 (n + 1) (omega arith) (λ e. omega arith) (omega arith) (wf-plain t l n _ (omega arith) (λ a b. omega arith) (λ e. omega arith) (λ e. omega arith) wf);
+          wf = wf-count t₁ l local-count-place (n + 1) (omega arith) (λ e. omega arith) (omega arith) (wf-plain t l n _ (omega arith) (λ a b. omega arith) (λ e. omega arith) (λ e. omega arith) wf);
         }
 
 -- an initialized local's word
@@ -84,53 +84,53 @@ readied-local w z =
     λ i. record { name = w % 65536; depth = w / 65536 / 2 / 2; is-initialized = eq-eqb _ _ q i; is-captured = eqb (w / 65536 / 2 % 2) 1 }
 
 module _ (t : List ℕ) (l : ℕ) (low : l < levels) (wf : Wf t) where
-  pub define-none : getD t (l * 1024 + 256) 0 ≡ 0 → DefinedAt t t l
+  pub define-none : getD t (l * level-words + local-count-place) 0 ≡ 0 → DefinedAt t t l
   unfolding initialize stack
   define-none z =
-      let f : ℕ → Local = λ i. localOf (getD t (l * 1024 + i) 0) in
+      let f : ℕ → Local = λ i. localOf (getD t (l * level-words + i) 0) in
       record {
         does = ap (stack f) z ∙ sym (ap (λ (k : ℕ). initialize (stack f k)) z);
         kept = kept-same _ _ t;
         wf = wf;
       }
 
-  module _ (n : ℕ) (e : getD t (l * 1024 + 256) 0 ≡ suc n) where
+  module _ (n : ℕ) (e : getD t (l * level-words + local-count-place) 0 ≡ suc n) where
     -- the newest local's word may change to one that reads as initialized
-    locals-ready : (t′ : List ℕ) → getD t′ (l * 1024 + 256) 0 ≡ getD t (l * 1024 + 256) 0 → ((i : ℕ) → i < n → getD t′ (l * 1024 + i) 0 ≡ getD t (l * 1024 + i) 0)
-        → localOf (getD t′ (l * 1024 + n) 0) ≡ record { name = localOf (getD t (l * 1024 + n) 0) .name; depth = localOf (getD t (l * 1024 + n) 0) .depth; is-initialized = true; is-captured = localOf (getD t (l * 1024 + n) 0) .is-captured }
+    locals-ready : (t′ : List ℕ) → getD t′ (l * level-words + local-count-place) 0 ≡ getD t (l * level-words + local-count-place) 0 → ((i : ℕ) → i < n → getD t′ (l * level-words + i) 0 ≡ getD t (l * level-words + i) 0)
+        → localOf (getD t′ (l * level-words + n) 0) ≡ record { name = localOf (getD t (l * level-words + n) 0) .name; depth = localOf (getD t (l * level-words + n) 0) .depth; is-initialized = true; is-captured = localOf (getD t (l * level-words + n) 0) .is-captured }
         → localsOf t′ l ≡ initialize (localsOf t l)
     unfolding initialize stack
-    locals-ready t′ c old new = ap (stack _) (c ∙ e) ∙ ap₂ _∷_ new (stack-cong _ _ _ (λ i h. ap localOf (old i h))) ∙ sym (ap (λ (k : ℕ). initialize (stack (λ i. localOf (getD t (l * 1024 + i) 0)) k)) e)
+    locals-ready t′ c old new = ap (stack _) (c ∙ e) ∙ ap₂ _∷_ new (stack-cong _ _ _ (λ i h. ap localOf (old i h))) ∙ sym (ap (λ (k : ℕ). initialize (stack (λ i. localOf (getD t (l * level-words + i) 0)) k)) e)
 
-    pub define-again : (getD t (l * 1024 + n) 0 / 65536 % 2 ≡ 0 → ⊥) → DefinedAt t t l
+    pub define-again : (getD t (l * level-words + n) 0 / 65536 % 2 ≡ 0 → ⊥) → DefinedAt t t l
     define-again z = record { does = locals-ready t refl (λ i h. refl) (readied-local _ z); kept = kept-same _ _ t; wf = wf }
 
-    pub define-now : getD t (l * 1024 + n) 0 / 65536 % 2 ≡ 0 → DefinedAt t (set t (l * 1024 + n) (getD t (l * 1024 + n) 0 + 65536)) l
+    pub define-now : getD t (l * level-words + n) 0 / 65536 % 2 ≡ 0 → DefinedAt t (set t (l * level-words + n) (getD t (l * level-words + n) 0 + 65536)) l
     define-now z =
         let few = wf .fewLocals l low in
         let inside : n < 256 = omega arith in
-        let w : ℕ = getD t (l * 1024 + n) 0 in
-        let t′ : List ℕ = set t (l * 1024 + n) (w + 65536) in
-        let kp : Kept (l * 1024) (l * 1024 + 256) t t′ = kept-set _ _ t _ _ (omega arith) (omega arith) in
-        let new = ap localOf (getD-set-same t (l * 1024 + n) (w + 65536) 0 (omega (arith, wf .size))) ∙ ready-local w z in
+        let w : ℕ = getD t (l * level-words + n) 0 in
+        let t′ : List ℕ = set t (l * level-words + n) (w + 65536) in
+        let kp : Kept (l * level-words) (l * level-words + local-count-place) t t′ = kept-set _ _ t _ _ (omega arith) (omega arith) in
+        let new = ap localOf (getD-set-same t (l * level-words + n) (w + 65536) 0 (omega (arith, wf .size))) ∙ ready-local w z in
         record {
-          does = locals-ready t′ (kp .above _ (omega arith)) (λ i h. getD-set-other t (l * 1024 + n) (l * 1024 + i) (w + 65536) 0 (omega arith)) new;
+          does = locals-ready t′ (kp .above _ (omega arith)) (λ i h. getD-set-other t (l * level-words + n) (l * level-words + i) (w + 65536) 0 (omega arith)) new;
           kept = kp;
           wf = wf-plain t l n _ (omega arith) (λ a b. omega arith) (λ e. omega arith) (λ e. omega arith) wf;
         }
 
     -- the count goes down by one
-    pub dropped : Dropped t (set t (l * 1024 + 256) n) l (localOf (getD t (l * 1024 + n) 0))
+    pub dropped : Dropped t (set t (l * level-words + local-count-place) n) l (localOf (getD t (l * level-words + n) 0))
     unfolding stack
     dropped =
         let few = wf .fewLocals l low in
-        let t′ : List ℕ = set t (l * 1024 + 256) n in
-        let c : getD t′ (l * 1024 + 256) 0 ≡ n = getD-set-same t (l * 1024 + 256) n 0 (omega (arith, wf .size)) in
+        let t′ : List ℕ = set t (l * level-words + local-count-place) n in
+        let c : getD t′ (l * level-words + local-count-place) 0 ≡ n = getD-set-same t (l * level-words + local-count-place) n 0 (omega (arith, wf .size)) in
         record {
-          does = ap (stack (λ i. localOf (getD t (l * 1024 + i) 0))) e
-              ∙ ap (λ (xs : List Local). localOf (getD t (l * 1024 + n) 0) ∷ xs)
-              (stack-cong _ _ n (λ i (h : i < n). ap localOf (sym (getD-set-other t (l * 1024 + 256) (l * 1024 + i) n 0 (omega arith)))) ∙ ap (stack (λ i. localOf (getD t′ (l * 1024 + i) 0))) (sym c));
+          does = ap (stack (λ i. localOf (getD t (l * level-words + i) 0))) e
+              ∙ ap (λ (xs : List Local). localOf (getD t (l * level-words + n) 0) ∷ xs)
+              (stack-cong _ _ n (λ i (h : i < n). ap localOf (sym (getD-set-other t (l * level-words + local-count-place) (l * level-words + i) n 0 (omega arith)))) ∙ ap (stack (λ i. localOf (getD t′ (l * level-words + i) 0))) (sym c));
           kept = kept-set _ _ t _ _ (omega arith) (omega arith);
           fewer = omega arith;
-          wf = wf-count t l 256 n (omega arith) (λ e. omega arith) (omega arith) wf;
+          wf = wf-count t l local-count-place n (omega arith) (λ e. omega arith) (omega arith) wf;
         }

@@ -10,7 +10,7 @@ use lib.Seq.{getD-set-same, getD-set-other}
 use borrow.Author.Tests.{lt-ltb, le-ltb, ltb-true, eq-eqb, ne-eqb}
 use Rattle.rules.specs.declared.Span.{Span}
 use Rattle.rules.specs.Chunk.{Run, same-span, push-span, write-u8}
-use Rattle.state.specs.Layout.{levels, code-end-at, runs-end-at, image-at, row, codeFrom, runsFrom, codeEnd, runsEnd, runAt, chunkAt, Wf, Coded}
+use Rattle.state.specs.Layout.{levels, code-end-at, runs-end-at, image-at, row, codeFrom, runsFrom, codeEnd, runsEnd, runAt, chunkAt, Wf, Coded, code-from-place, runs-from-place, level-words}
 use Rattle.state.specs.Contracts.{Kept, grows, last-grows, top-chunk, Wrote}
 use Rattle.state.specs.declared.Emitted.the-variants as emitted
 use Rattle.state.proofs.Laws.{row-cong, row-snoc, run-same, kept-set, kept-same, kept-off, kept-then, if-true, if-false, constants-same, chunk-paths, wf-plain}
@@ -161,28 +161,28 @@ module _ (t code spans : List ℕ) (l limit byte : ℕ) (span : Span) (low : l <
     changed : (t′ spans′ : List ℕ) (re′ : ℕ) → Kept code-end-at image-at t t′ → row (λ i. runAt spans′ (runsFrom t l + i)) (re′ - runsFrom t l) ≡ push-span (row (λ i. runAt spans (runsFrom t l + i)) (runsEnd t - runsFrom t l)) span → codeEnd t′ ≡ codeEnd t + 1 → runsEnd t′ ≡ re′ → top-chunk t′ (set code (codeEnd t) byte) spans′ l ≡ write-u8 (top-chunk t code spans l) byte span
     unfolding chunkAt write-u8
     changed t′ spans′ re′ kp runs ce re =
-        let at : (o : ℕ) → o < 1024 → getD t′ (l * 1024 + o) 0 ≡ getD t (l * 1024 + o) 0 = λ o b. kept-off _ _ t t′ _ kp (λ x y. omega arith) in
+        let at : (o : ℕ) → o < level-words → getD t′ (l * level-words + o) 0 ≡ getD t (l * level-words + o) 0 = λ o b. kept-off _ _ t t′ _ kp (λ x y. omega arith) in
         ap₂ (chunkAt t′ (set code (codeEnd t) byte) spans′ l) ce re
-        ∙ chunk-paths t code spans t′ (set code (codeEnd t) byte) spans′ l (codeEnd t) (runsEnd t) (codeEnd t + 1) re′ _ (constants-same t t′ l (wf .fewConstants l low) (λ o a b. at o (omega arith))) (at 772 (omega arith)) (at 773 (omega arith))
+        ∙ chunk-paths t code spans t′ (set code (codeEnd t) byte) spans′ l (codeEnd t) (runsEnd t) (codeEnd t + 1) re′ _ (constants-same t t′ l (wf .fewConstants l low) (λ o a b. at o (omega arith))) (at code-from-place (omega arith)) (at runs-from-place (omega arith))
         _ (code-more code (codeFrom t l) (codeEnd t) byte (ok .top) (omega (arith, ok .roomCode))) _ runs
 
     -- the invariant, after
     kept-coded : (t′ spans′ : List ℕ) (re′ : ℕ) → Kept code-end-at image-at t t′ → length spans′ ≡ length spans → codeEnd t′ ≡ codeEnd t + 1 → runsEnd t′ ≡ re′ → runsEnd t ≤ re′ → re′ ≤ codeEnd t + 1 → Coded t′ (set code (codeEnd t) byte) spans′ l limit
     kept-coded t′ spans′ re′ kp ns ce re ge le =
-        let at : (k o : ℕ) → k < levels → o < 1024 → getD t′ (k * 1024 + o) 0 ≡ getD t (k * 1024 + o) 0 = λ k o a b. kept-off _ _ t t′ _ kp (λ x y. omega arith) in
-        let f = at l 772 low (omega arith) in
-        let g = at l 773 low (omega arith) in
+        let at : (k o : ℕ) → k < levels → o < level-words → getD t′ (k * level-words + o) 0 ≡ getD t (k * level-words + o) 0 = λ k o a b. kept-off _ _ t t′ _ kp (λ x y. omega arith) in
+        let f = at l code-from-place low (omega arith) in
+        let g = at l runs-from-place low (omega arith) in
         record {
           roomCode = omega (arith, length-set code (codeEnd t) byte, ok .roomCode);
           roomRuns = omega (arith, ok .roomRuns);
           within = omega arith;
           fewer = omega arith;
-          fewerAt = λ k z. omega (arith, at k 772 (omega arith) (omega arith), at k 773 (omega arith) (omega arith), ok .fewerAt k z);
-          fromZero = at 0 772 (omega arith) (omega arith) ∙ ok .fromZero;
+          fewerAt = λ k z. omega (arith, at k code-from-place (omega arith) (omega arith), at k runs-from-place (omega arith) (omega arith), ok .fewerAt k z);
+          fromZero = at 0 code-from-place (omega arith) (omega arith) ∙ ok .fromZero;
           top = omega (arith, ok .top);
           topRuns = omega (arith, ok .topRuns);
-          order = λ k z. omega (arith, at k 772 (omega arith) (omega arith), at (suc k) 772 (omega arith) (omega arith), ok .order k z);
-          orderRuns = λ k z. omega (arith, at k 773 (omega arith) (omega arith), at (suc k) 773 (omega arith) (omega arith), ok .orderRuns k z);
+          order = λ k z. omega (arith, at k code-from-place (omega arith) (omega arith), at (suc k) code-from-place (omega arith) (omega arith), ok .order k z);
+          orderRuns = λ k z. omega (arith, at k runs-from-place (omega arith) (omega arith), at (suc k) runs-from-place (omega arith) (omega arith), ok .orderRuns k z);
         }
 
     pub grown : last-grows spans (runsFrom t l) (runsEnd t) span ≡ true → Wrote t code spans (set t code-end-at (codeEnd t + 1)) (set code (codeEnd t) byte) (set spans ((runsEnd t - 1) * 3 + 2) (getD spans ((runsEnd t - 1) * 3 + 2) 0 + 1)) l limit byte span emitted.Done

@@ -8,11 +8,11 @@ use mathlib.Core.List.{List, [], _∷_}
 use lib.ListN.{length, getD, set, length-set}
 use lib.Seq.{getD-set-same, getD-set-other}
 use Rattle.rules.specs.Compiler.{new-ctx}
-use Rattle.state.specs.Layout.{levels, deepest, table-words, code-end-at, runs-end-at, row, stack, localOf, upvalueOf, constantOf, type-of, codeFrom, runsFrom, codeEnd, runsEnd, runAt, chunkAt, ctxAt, parentsOf, Wf}
+use Rattle.state.specs.Layout.{levels, deepest, table-words, code-end-at, runs-end-at, row, stack, localOf, upvalueOf, constantOf, type-of, codeFrom, runsFrom, codeEnd, runsEnd, runAt, chunkAt, ctxAt, parentsOf, Wf, upvalues-place, upvalue-count-place, constants-place, constant-count-place, depth-place, code-from-place, runs-from-place, name-place, arity-place, type-place, level-words, local-count-place}
 use Rattle.state.specs.Contracts.{Kept, Moved, Closed, Began}
 use Rattle.state.proofs.Laws.{kept-set, kept-then, ctx-same, parents-named, wf-count, wf-upvalues, wf-depth, wf-plain}
 
-pub moved : (t : List ℕ) (l depth : ℕ) → l < levels → Wf t → depth ≤ deepest → Moved t (set t (l * 1024 + 771) depth) l depth
+pub moved : (t : List ℕ) (l depth : ℕ) → l < levels → Wf t → depth ≤ deepest → Moved t (set t (l * level-words + depth-place) depth) l depth
 moved t l depth low wf h = record {
   does = getD-set-same t _ depth 0 (omega (arith, wf .size));
   kept = kept-set _ _ t _ _ (omega arith) (omega arith);
@@ -53,36 +53,36 @@ put-other b t o v i ne = getD-set-other t (b + o) (b + i) v 0 (λ z. ne (omega a
 put-length : (b : ℕ) (t : List ℕ) (o v : ℕ) → length (put b t o v) ≡ length t
 put-length b t o v = length-set t (b + o) v
 
-module _ (t : List ℕ) (l name arity kind : ℕ) (low : l + 1 < levels) (wf : Wf t) (shallow : getD t (l * 1024 + 771) 0 < deepest) where
+module _ (t : List ℕ) (l name arity kind : ℕ) (low : l + 1 < levels) (wf : Wf t) (shallow : getD t (l * level-words + depth-place) 0 < deepest) where
   abbrev b : ℕ
-  b = (l + 1) * 1024
+  b = (l + 1) * level-words
 
   abbrev t₁ : List ℕ
-  t₁ = put b t 256 0
+  t₁ = put b t local-count-place 0
 
   abbrev t₂ : List ℕ
-  t₂ = put b t₁ 513 0
+  t₂ = put b t₁ upvalue-count-place 0
 
   abbrev t₃ : List ℕ
-  t₃ = put b t₂ 770 0
+  t₃ = put b t₂ constant-count-place 0
 
   abbrev t₄ : List ℕ
-  t₄ = put b t₃ 771 (getD t (l * 1024 + 771) 0 + 1)
+  t₄ = put b t₃ depth-place (getD t (l * level-words + depth-place) 0 + 1)
 
   abbrev t₅ : List ℕ
-  t₅ = put b t₄ 772 (codeEnd t)
+  t₅ = put b t₄ code-from-place (codeEnd t)
 
   abbrev t₆ : List ℕ
-  t₆ = put b t₅ 773 (runsEnd t)
+  t₆ = put b t₅ runs-from-place (runsEnd t)
 
   abbrev t₇ : List ℕ
-  t₇ = put b t₆ 774 name
+  t₇ = put b t₆ name-place name
 
   abbrev t₈ : List ℕ
-  t₈ = put b t₇ 775 arity
+  t₈ = put b t₇ arity-place arity
 
   abbrev t₉ : List ℕ
-  t₉ = put b t₈ 776 kind
+  t₉ = put b t₈ type-place kind
 
   n₁ : length t₁ ≡ table-words
   n₁ = length-set t _ _ ∙ wf .size
@@ -108,7 +108,7 @@ module _ (t : List ℕ) (l name arity kind : ℕ) (low : l + 1 < levels) (wf : W
   n₈ : length t₈ ≡ table-words
   n₈ = length-set t₇ _ _ ∙ n₇
 
-  kp : Kept b (b + 1024) t t₉
+  kp : Kept b (b + level-words) t t₉
   kp =
       kept-then _ _ t t₈ _ _ (kept-then _ _ t t₇ _ _ (kept-then _ _ t t₆ _ _
       (kept-then _ _ t t₅ _ _ (kept-then _ _ t t₄ _ _ (kept-then _ _ t t₃ _ _ (kept-then _ _ t t₂ _ _ (kept-then _ _ t t₁ _ _ (kept-set _ _ t _ _ (omega arith) (omega arith)) (omega arith) (omega arith)) (omega arith) (omega arith)) (omega arith) (omega arith)) (omega arith) (omega arith)) (omega arith) (omega arith))
@@ -116,46 +116,46 @@ module _ (t : List ℕ) (l name arity kind : ℕ) (low : l + 1 < levels) (wf : W
 
   wf₉ : Wf t₉
   wf₉ =
-      wf-plain t₈ (l + 1) 776 _ (omega arith) (λ x y. omega arith) (λ z. omega arith) (λ z. omega arith)
-      (wf-plain t₇ (l + 1) 775 _ (omega arith) (λ x y. omega arith) (λ z. omega arith) (λ z. omega arith)
-      (wf-plain t₆ (l + 1) 774 _ (omega arith) (λ x y. omega arith) (λ z. omega arith) (λ z. omega arith)
-      (wf-plain t₅ (l + 1) 773 _ (omega arith) (λ x y. omega arith) (λ z. omega arith) (λ z. omega arith)
-      (wf-plain t₄ (l + 1) 772 _ (omega arith) (λ x y. omega arith) (λ z. omega arith) (λ z. omega arith)
-      (wf-depth t₃ (l + 1) _ (omega arith) (wf-count t₂ (l + 1) 770 0 (omega arith) (λ e. omega arith) (omega arith) (wf-upvalues t₁ (l + 1) 0 low (omega arith) (λ o x y. absurd (omega arith)) (wf-count t (l + 1) 256 0 (omega arith) (λ e. omega arith) (omega arith) wf))))))))
+      wf-plain t₈ (l + 1) type-place _ (omega arith) (λ x y. omega arith) (λ z. omega arith) (λ z. omega arith)
+      (wf-plain t₇ (l + 1) arity-place _ (omega arith) (λ x y. omega arith) (λ z. omega arith) (λ z. omega arith)
+      (wf-plain t₆ (l + 1) name-place _ (omega arith) (λ x y. omega arith) (λ z. omega arith) (λ z. omega arith)
+      (wf-plain t₅ (l + 1) runs-from-place _ (omega arith) (λ x y. omega arith) (λ z. omega arith) (λ z. omega arith)
+      (wf-plain t₄ (l + 1) code-from-place _ (omega arith) (λ x y. omega arith) (λ z. omega arith) (λ z. omega arith)
+      (wf-depth t₃ (l + 1) _ (omega arith) (wf-count t₂ (l + 1) constant-count-place 0 (omega arith) (λ e. omega arith) (omega arith) (wf-upvalues t₁ (l + 1) 0 low (omega arith) (λ o x y. absurd (omega arith)) (wf-count t (l + 1) local-count-place 0 (omega arith) (λ e. omega arith) (omega arith) wf))))))))
 
   -- the last three stores, and the last six, keep off what is below them
-  o₉ : (o : ℕ) → o < 774 → getD t₉ (b + o) 0 ≡ getD t₆ (b + o) 0
-  o₉ o h = put-other b t₈ 776 kind o (λ z. omega arith) ∙ put-other b t₇ 775 arity o (λ z. omega arith) ∙ put-other b t₆ 774 name o (λ z. omega arith)
+  o₉ : (o : ℕ) → o < name-place → getD t₉ (b + o) 0 ≡ getD t₆ (b + o) 0
+  o₉ o h = put-other b t₈ type-place kind o (λ z. omega arith) ∙ put-other b t₇ arity-place arity o (λ z. omega arith) ∙ put-other b t₆ name-place name o (λ z. omega arith)
 
-  o₆ : (o : ℕ) → o < 771 → getD t₆ (b + o) 0 ≡ getD t₃ (b + o) 0
-  o₆ o h = put-other b t₅ 773 (runsEnd t) o (λ z. omega arith) ∙ put-other b t₄ 772 (codeEnd t) o (λ z. omega arith) ∙ put-other b t₃ 771 (getD t (l * 1024 + 771) 0 + 1) o (λ z. omega arith)
+  o₆ : (o : ℕ) → o < depth-place → getD t₆ (b + o) 0 ≡ getD t₃ (b + o) 0
+  o₆ o h = put-other b t₅ runs-from-place (runsEnd t) o (λ z. omega arith) ∙ put-other b t₄ code-from-place (codeEnd t) o (λ z. omega arith) ∙ put-other b t₃ depth-place (getD t (l * level-words + depth-place) 0 + 1) o (λ z. omega arith)
 
-  v₁ : getD t₉ (b + 256) 0 ≡ 0
-  v₁ = o₉ 256 (omega arith) ∙ o₆ 256 (omega arith) ∙ put-other b t₂ 770 0 256 (λ z. omega arith) ∙ put-other b t₁ 513 0 256 (λ z. omega arith) ∙ put-same b t 256 0 (omega (arith, wf .size))
+  v₁ : getD t₉ (b + local-count-place) 0 ≡ 0
+  v₁ = o₉ local-count-place (omega arith) ∙ o₆ local-count-place (omega arith) ∙ put-other b t₂ constant-count-place 0 local-count-place (λ z. omega arith) ∙ put-other b t₁ upvalue-count-place 0 local-count-place (λ z. omega arith) ∙ put-same b t 256 0 (omega (arith, wf .size))
 
-  v₂ : getD t₉ (b + 513) 0 ≡ 0
-  v₂ = o₉ 513 (omega arith) ∙ o₆ 513 (omega arith) ∙ put-other b t₂ 770 0 513 (λ z. omega arith) ∙ put-same b t₁ 513 0 (omega (arith, n₁))
+  v₂ : getD t₉ (b + upvalue-count-place) 0 ≡ 0
+  v₂ = o₉ upvalue-count-place (omega arith) ∙ o₆ upvalue-count-place (omega arith) ∙ put-other b t₂ constant-count-place 0 upvalue-count-place (λ z. omega arith) ∙ put-same b t₁ upvalue-count-place 0 (omega (arith, n₁))
 
-  v₃ : getD t₉ (b + 770) 0 ≡ 0
-  v₃ = o₉ 770 (omega arith) ∙ o₆ 770 (omega arith) ∙ put-same b t₂ 770 0 (omega (arith, n₂))
+  v₃ : getD t₉ (b + constant-count-place) 0 ≡ 0
+  v₃ = o₉ constant-count-place (omega arith) ∙ o₆ constant-count-place (omega arith) ∙ put-same b t₂ constant-count-place 0 (omega (arith, n₂))
 
-  v₄ : getD t₉ (b + 771) 0 ≡ getD t (l * 1024 + 771) 0 + 1
-  v₄ = o₉ 771 (omega arith) ∙ put-other b t₅ 773 (runsEnd t) 771 (λ z. omega arith) ∙ put-other b t₄ 772 (codeEnd t) 771 (λ z. omega arith) ∙ put-same b t₃ 771 (getD t (l * 1024 + 771) 0 + 1) (omega (arith, n₃))
+  v₄ : getD t₉ (b + depth-place) 0 ≡ getD t (l * level-words + depth-place) 0 + 1
+  v₄ = o₉ depth-place (omega arith) ∙ put-other b t₅ runs-from-place (runsEnd t) depth-place (λ z. omega arith) ∙ put-other b t₄ code-from-place (codeEnd t) depth-place (λ z. omega arith) ∙ put-same b t₃ depth-place (getD t (l * level-words + depth-place) 0 + 1) (omega (arith, n₃))
 
-  v₅ : getD t₉ (b + 772) 0 ≡ codeEnd t
-  v₅ = o₉ 772 (omega arith) ∙ put-other b t₅ 773 (runsEnd t) 772 (λ z. omega arith) ∙ put-same b t₄ 772 (codeEnd t) (omega (arith, n₄))
+  v₅ : getD t₉ (b + code-from-place) 0 ≡ codeEnd t
+  v₅ = o₉ code-from-place (omega arith) ∙ put-other b t₅ runs-from-place (runsEnd t) code-from-place (λ z. omega arith) ∙ put-same b t₄ code-from-place (codeEnd t) (omega (arith, n₄))
 
-  v₆ : getD t₉ (b + 773) 0 ≡ runsEnd t
-  v₆ = o₉ 773 (omega arith) ∙ put-same b t₅ 773 (runsEnd t) (omega (arith, n₅))
+  v₆ : getD t₉ (b + runs-from-place) 0 ≡ runsEnd t
+  v₆ = o₉ runs-from-place (omega arith) ∙ put-same b t₅ runs-from-place (runsEnd t) (omega (arith, n₅))
 
-  v₇ : getD t₉ (b + 774) 0 ≡ name
-  v₇ = put-other b t₈ 776 kind 774 (λ z. omega arith) ∙ put-other b t₇ 775 arity 774 (λ z. omega arith) ∙ put-same b t₆ 774 name (omega (arith, n₆))
+  v₇ : getD t₉ (b + name-place) 0 ≡ name
+  v₇ = put-other b t₈ type-place kind name-place (λ z. omega arith) ∙ put-other b t₇ arity-place arity name-place (λ z. omega arith) ∙ put-same b t₆ name-place name (omega (arith, n₆))
 
-  v₈ : getD t₉ (b + 775) 0 ≡ arity
-  v₈ = put-other b t₈ 776 kind 775 (λ z. omega arith) ∙ put-same b t₇ 775 arity (omega (arith, n₇))
+  v₈ : getD t₉ (b + arity-place) 0 ≡ arity
+  v₈ = put-other b t₈ type-place kind arity-place (λ z. omega arith) ∙ put-same b t₇ arity-place arity (omega (arith, n₇))
 
-  v₉ : getD t₉ (b + 776) 0 ≡ kind
-  v₉ = put-same b t₈ 776 kind (omega (arith, n₈))
+  v₉ : getD t₉ (b + type-place) 0 ≡ kind
+  v₉ = put-same b t₈ type-place kind (omega (arith, n₈))
 
   up-one : l + 1 ≡ suc l
   up-one = omega arith
@@ -166,12 +166,12 @@ module _ (t : List ℕ) (l name arity kind : ℕ) (low : l + 1 < levels) (wf : W
   re : runsEnd t₉ ≡ runsEnd t
   re = kp .above runs-end-at (omega arith)
 
-  fresh′ : (code spans : List ℕ) → ctxAt t₉ code spans (l + 1) (codeEnd t₉) (runsEnd t₉) ≡ new-ctx name arity (type-of kind) (getD t (l * 1024 + 771) 0 + 1)
+  fresh′ : (code spans : List ℕ) → ctxAt t₉ code spans (l + 1) (codeEnd t₉) (runsEnd t₉) ≡ new-ctx name arity (type-of kind) (getD t (l * level-words + depth-place) 0 + 1)
   unfolding ctxAt chunkAt
   fresh′ code spans =
       let ls = none-stack (λ i. localOf (getD t₉ (b + i) 0)) _ v₁ in
-      let us = none-row (λ i. upvalueOf (getD t₉ (b + 257 + i) 0)) _ v₂ in
-      let ks = none-row (λ i. constantOf (getD t₉ (b + 514 + i) 0)) _ v₃ in
+      let us = none-row (λ i. upvalueOf (getD t₉ (b + upvalues-place + i) 0)) _ v₂ in
+      let ks = none-row (λ i. constantOf (getD t₉ (b + constants-place + i) 0)) _ v₃ in
       let ops = none-row (λ i. getD code (codeFrom t₉ (l + 1) + i) 0) (codeEnd t₉ - codeFrom t₉ (l + 1)) (omega (arith, v₅, ce)) in
       let runs = none-row (λ i. runAt spans (runsFrom t₉ (l + 1) + i)) (runsEnd t₉ - runsFrom t₉ (l + 1)) (omega (arith, v₆, re)) in
       λ i. record {
@@ -184,7 +184,7 @@ module _ (t : List ℕ) (l name arity kind : ℕ) (low : l + 1 < levels) (wf : W
         scope-depth = v₄ i;
       }
 
-  same : (j o : ℕ) → j ≤ l → o < 1024 → getD t₉ (j * 1024 + o) 0 ≡ getD t (j * 1024 + o) 0
+  same : (j o : ℕ) → j ≤ l → o < level-words → getD t₉ (j * level-words + o) 0 ≡ getD t (j * level-words + o) 0
   same j o h a = kp .below _ (omega arith)
 
   pub began : Began t t₉ l name arity kind
@@ -196,22 +196,22 @@ module _ (t : List ℕ) (l name arity kind : ℕ) (low : l + 1 < levels) (wf : W
         fresh = λ code spans. ap (λ (m : ℕ). ctxAt t₉ code spans m (codeEnd t₉) (runsEnd t₉)) (sym up-one) ∙ fresh′ code spans;
         around = λ code spans. ap₂ _∷_
             (ap₂ (ctxAt t₉ code spans l) cu ru ∙ ctx-same t code spans t₉ code spans l (codeEnd t) (runsEnd t) wf (omega arith) (λ o h. same l o (omega arith) (omega arith)) (λ i h. refl) (λ i h. refl))
-            (parents-named t t₉ l wf (omega arith) (λ k o h g. same k o (omega arith) (omega arith)) (same l 772 (omega arith) (omega arith)) (same l 773 (omega arith) (omega arith)) code spans);
+            (parents-named t t₉ l wf (omega arith) (λ k o h g. same k o (omega arith) (omega arith)) (same l code-from-place (omega arith) (omega arith)) (same l runs-from-place (omega arith) (omega arith)) code spans);
         coded = λ code spans limit ok. record {
           roomCode = ok .roomCode;
           roomRuns = ok .roomRuns;
           within = omega (arith, ok .within, ce);
           fewer = omega (arith, ok .fewer, ce, re);
           fewerAt = λ j h. ⊎-elim (λ (q : j ≡ suc l). subst (λ (m : ℕ). runsFrom t₉ m ≤ codeFrom t₉ m) (sym q) (omega (arith, ok .fewer)))
-              (λ (q : j < suc l). omega (arith, same j 772 (omega arith) (omega arith), same j 773 (omega arith) (omega arith), ok .fewerAt j (le-of-lt-suc j l q))) (eq-or-lt-of-le h);
-          fromZero = same 0 772 (omega arith) (omega arith) ∙ ok .fromZero;
+              (λ (q : j < suc l). omega (arith, same j code-from-place (omega arith) (omega arith), same j runs-from-place (omega arith) (omega arith), ok .fewerAt j (le-of-lt-suc j l q))) (eq-or-lt-of-le h);
+          fromZero = same 0 code-from-place (omega arith) (omega arith) ∙ ok .fromZero;
           top = omega (arith, ce);
           topRuns = omega (arith, re);
-          order = λ j h. ⊎-elim (λ (q : j ≡ l). subst (λ (m : ℕ). codeFrom t₉ m ≤ codeFrom t₉ (suc m)) (sym q) (omega (arith, same l 772 (omega arith) (omega arith), ok .top)))
-              (λ (q : j < l). omega (arith, same j 772 (omega arith) (omega arith), same (suc j) 772 (omega arith) (omega arith), ok .order j q)) (eq-or-lt-of-le (le-of-lt-suc j l h));
-          orderRuns = λ j h. ⊎-elim (λ (q : j ≡ l). subst (λ (m : ℕ). runsFrom t₉ m ≤ runsFrom t₉ (suc m)) (sym q) (omega (arith, same l 773 (omega arith) (omega arith), ok .topRuns)))
-              (λ (q : j < l). omega (arith, same j 773 (omega arith) (omega arith), same (suc j) 773 (omega arith) (omega arith), ok .orderRuns j q)) (eq-or-lt-of-le (le-of-lt-suc j l h));
+          order = λ j h. ⊎-elim (λ (q : j ≡ l). subst (λ (m : ℕ). codeFrom t₉ m ≤ codeFrom t₉ (suc m)) (sym q) (omega (arith, same l code-from-place (omega arith) (omega arith), ok .top)))
+              (λ (q : j < l). omega (arith, same j code-from-place (omega arith) (omega arith), same (suc j) code-from-place (omega arith) (omega arith), ok .order j q)) (eq-or-lt-of-le (le-of-lt-suc j l h));
+          orderRuns = λ j h. ⊎-elim (λ (q : j ≡ l). subst (λ (m : ℕ). runsFrom t₉ m ≤ runsFrom t₉ (suc m)) (sym q) (omega (arith, same l runs-from-place (omega arith) (omega arith), ok .topRuns)))
+              (λ (q : j < l). omega (arith, same j runs-from-place (omega arith) (omega arith), same (suc j) runs-from-place (omega arith) (omega arith), ok .orderRuns j q)) (eq-or-lt-of-le (le-of-lt-suc j l h));
         };
-        kept = subst (λ (m : ℕ). Kept (m * 1024) (m * 1024 + 1024) t t₉) up-one kp;
+        kept = subst (λ (m : ℕ). Kept (m * level-words) (m * level-words + level-words) t t₉) up-one kp;
         wf = wf₉;
       }

@@ -11,7 +11,7 @@ use types.Run.{OneOf}
 use denote.Enum.Declared.{tagOf}
 use Rattle.rules.specs.declared.Span.{Span}
 use Rattle.rules.specs.Compiler.{Local, Upvalue, CompilerCtx, with-locals, Found, missing, find-local, capture, Resolved, add-upvalue, through, resolve-upvalue}
-use Rattle.state.specs.Layout.{levels, localsOf, codeFrom, runsFrom, ctxAt, parentsOf, Wf}
+use Rattle.state.specs.Layout.{levels, localsOf, codeFrom, runsFrom, ctxAt, parentsOf, Wf, upvalues-place, constants-place, depth-place, code-from-place, runs-from-place, level-words, local-count-place}
 use Rattle.state.specs.Contracts.{Kept, found, Looked, up-of, Added, Captured}
 use Rattle.state.specs.declared.Slot.{Slot}
 use Rattle.state.specs.declared.Slot.the-variants as slot
@@ -21,12 +21,12 @@ use Rattle.state.proofs.Up.{the-type}
 use Rattle.state.proofs.Laws.{kept-off, ctx-same, ctx-paths, chunk-same, upvalues-same, parents-named}
 
 -- a context that a change keeps off, and those around it
-ctx-off : (lo hi : ℕ) (t t′ : List ℕ) (k : ℕ) → Kept lo hi t t′ → Wf t → k < levels → ((o : ℕ) → o < 777 → lo ≤ k * 1024 + o → k * 1024 + o < hi → ⊥) → (code spans : List ℕ) (ce re : ℕ) → ctxAt t′ code spans k ce re ≡ ctxAt t code spans k ce re
+ctx-off : (lo hi : ℕ) (t t′ : List ℕ) (k : ℕ) → Kept lo hi t t′ → Wf t → k < levels → ((o : ℕ) → o < 777 → lo ≤ k * level-words + o → k * level-words + o < hi → ⊥) → (code spans : List ℕ) (ce re : ℕ) → ctxAt t′ code spans k ce re ≡ ctxAt t code spans k ce re
 ctx-off lo hi t t′ k kp wf low off code spans ce re = ctx-same t code spans t′ code spans k ce re wf low (λ o h. kept-off lo hi t t′ _ kp (λ x y. off o h x y)) (λ i h. refl) (λ i h. refl)
 
-parents-off : (lo hi : ℕ) (t t′ : List ℕ) (k : ℕ) → Kept lo hi t t′ → Wf t → k < levels → k * 1024 ≤ lo → ((o : ℕ) → 772 ≤ o → o ≤ 773 → lo ≤ k * 1024 + o → k * 1024 + o < hi → ⊥) → (code spans : List ℕ) → parentsOf t′ code spans k ≡ parentsOf t code spans k
+parents-off : (lo hi : ℕ) (t t′ : List ℕ) (k : ℕ) → Kept lo hi t t′ → Wf t → k < levels → k * level-words ≤ lo → ((o : ℕ) → code-from-place ≤ o → o ≤ runs-from-place → lo ≤ k * level-words + o → k * level-words + o < hi → ⊥) → (code spans : List ℕ) → parentsOf t′ code spans k ≡ parentsOf t code spans k
 parents-off lo hi t t′ k kp wf low above off code spans =
-    parents-named t t′ k wf low (λ j o a b. kp .below _ (omega arith)) (kept-off lo hi t t′ _ kp (λ x y. off 772 (omega arith) (omega arith) x y)) (kept-off lo hi t t′ _ kp (λ x y. off 773 (omega arith) (omega arith) x y)) code spans
+    parents-named t t′ k wf low (λ j o a b. kp .below _ (omega arith)) (kept-off lo hi t t′ _ kp (λ x y. off code-from-place (omega arith) (omega arith) x y)) (kept-off lo hi t t′ _ kp (λ x y. off runs-from-place (omega arith) (omega arith) x y)) code spans
 
 -- the script has nothing around it
 pub outermost : (t : List ℕ) (nm : ℕ) → Wf t → Captured t t 0 nm up.Nothing
@@ -63,19 +63,19 @@ module _ (t t₁ : List ℕ) (k nm : ℕ) (low : suc k < levels) (wf : Wf t) whe
     marked-ctx : (ls : List Local) → localsOf t₁ k ≡ ls → (code spans : List ℕ) (ce re : ℕ) → ctxAt t₁ code spans k ce re ≡ with-locals (ctxAt t code spans k ce re) ls
     unfolding ctxAt
     marked-ctx ls e code spans ce re =
-        let at : (o : ℕ) → 256 ≤ o → getD t₁ (k * 1024 + o) 0 ≡ getD t (k * 1024 + o) 0 = λ o h. res .kept .above _ (omega arith) in
+        let at : (o : ℕ) → local-count-place ≤ o → getD t₁ (k * level-words + o) 0 ≡ getD t (k * level-words + o) 0 = λ o h. res .kept .above _ (omega arith) in
         ctx-paths t code spans t₁ code spans k ce re ce re (λ o x y. at o (omega arith))
         (chunk-same t code spans t₁ code spans k ce re (wf .fewConstants k (omega arith)) (λ o x y z. at o (omega arith)) (λ i h. refl) (λ i h. refl))
-        e (upvalues-same t t₁ k (wf .fewUpvalues k (omega arith)) (λ o x y. at o (omega arith))) (at 771 (omega arith))
+        e (upvalues-same t t₁ k (wf .fewUpvalues k (omega arith)) (λ o x y. at o (omega arith))) (at depth-place (omega arith))
 
     outer-kept : (code spans : List ℕ) → parentsOf t₁ code spans k ≡ parentsOf t code spans k
     outer-kept = parents-off _ _ t t₁ k (res .kept) wf (omega arith) (omega arith) (λ o a b x y. omega arith)
 
-    from-kept : (o : ℕ) → o < 777 → getD t₁ (suc k * 1024 + o) 0 ≡ getD t (suc k * 1024 + o) 0
+    from-kept : (o : ℕ) → o < 777 → getD t₁ (suc k * level-words + o) 0 ≡ getD t (suc k * level-words + o) 0
     from-kept o h = res .kept .above _ (omega arith)
 
   -- the contexts around, after an upvalue is added above them
-  around-kept : (t₂ t₃ : List ℕ) → Kept (suc k * 1024 + 257) (suc k * 1024 + 514) t₂ t₃ → Wf t₂ → (code spans : List ℕ) → parentsOf t₃ code spans (suc k) ≡ parentsOf t₂ code spans (suc k)
+  around-kept : (t₂ t₃ : List ℕ) → Kept (suc k * level-words + upvalues-place) (suc k * level-words + constants-place) t₂ t₃ → Wf t₂ → (code spans : List ℕ) → parentsOf t₃ code spans (suc k) ≡ parentsOf t₂ code spans (suc k)
   around-kept t₂ t₃ kp wf₂ = parents-off _ _ t₂ t₃ (suc k) kp wf₂ low (omega arith) (λ o a b x y. omega arith)
 
   -- the enclosing function has the local
@@ -84,8 +84,8 @@ module _ (t t₁ : List ℕ) (k nm : ℕ) (low : suc k < levels) (wf : Wf t) whe
   inner t₂ i r res add = record {
     does = λ span code spans ce re.
         let u : Upvalue = record { idx = i; is-local = true } in
-        let cf : codeFrom t₁ (suc k) ≡ codeFrom t (suc k) = from-kept (slot.At i) res 772 (omega arith) in
-        let rf : runsFrom t₁ (suc k) ≡ runsFrom t (suc k) = from-kept (slot.At i) res 773 (omega arith) in
+        let cf : codeFrom t₁ (suc k) ≡ codeFrom t (suc k) = from-kept (slot.At i) res code-from-place (omega arith) in
+        let rf : runsFrom t₁ (suc k) ≡ runsFrom t (suc k) = from-kept (slot.At i) res runs-from-place (omega arith) in
         let ps : parentsOf t₂ code spans (suc k) ≡ with-locals (around t code spans) (capture nm (localsOf t k)) ∷ parentsOf t code spans k =
         around-kept t₁ t₂ (add .kept) (res .wf) code spans ∙ ap₂ _∷_ (ap₂ (ctxAt t₁ code spans k) cf rf ∙ marked-ctx (slot.At i) res _ (res .locals) code spans _ _) (outer-kept (slot.At i) res code spans) in
         ap (up-of span nm r (ctxAt t₂ code spans (suc k) ce re)) ps
@@ -119,13 +119,13 @@ module _ (t t₁ : List ℕ) (k nm : ℕ) (low : suc k < levels) (wf : Wf t) whe
     whole span code spans ce re = answered slot.Nothing res span code spans ce re
         ∙ ap (λ (x : Resolved). through missing x nm span (ctxAt t code spans (suc k) ce re) (around t code spans) (parentsOf t code spans k)) (sym (rec span code spans _ _))
 
-    above₂ : (j : ℕ) → suc k * 1024 ≤ j → getD t₂ j 0 ≡ getD t j 0
+    above₂ : (j : ℕ) → suc k * level-words ≤ j → getD t₂ j 0 ≡ getD t j 0
     above₂ j l = cap .kept .above j (omega arith) ∙ res .kept .above j (omega arith)
 
     top₂ : (code spans : List ℕ) (ce re : ℕ) → ctxAt t₂ code spans (suc k) ce re ≡ ctxAt t code spans (suc k) ce re
     top₂ code spans ce re = ctx-same t code spans t₂ code spans (suc k) ce re wf low (λ o h. above₂ _ (omega arith)) (λ i h. refl) (λ i h. refl)
 
-    rest₂ : (j o : ℕ) → j ≤ suc k → 514 ≤ o → o < 1024 → getD t₂ (j * 1024 + o) 0 ≡ getD t (j * 1024 + o) 0
+    rest₂ : (j o : ℕ) → j ≤ suc k → constants-place ≤ o → o < level-words → getD t₂ (j * level-words + o) 0 ≡ getD t (j * level-words + o) 0
     rest₂ j o a b c =
         ⊎-elim (λ (e : j ≡ suc k). above₂ _ (omega arith)) (λ (l : j < suc k). cap .rest j o (omega arith) b c ∙ kept-off _ _ t t₁ _ (res .kept) (λ x y. omega arith)) (eq-or-lt-of-le a)
 

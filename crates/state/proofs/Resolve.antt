@@ -11,14 +11,14 @@ use native.Mathlib.Nat.{add-mod-right, add-div-right}
 use lib.Seq.{getD-set-same, getD-set-other}
 use borrow.Author.Tests.{eq-eqb, ne-eqb}
 use Rattle.rules.specs.Compiler.{at-slot, uninitialized, find-local}
-use Rattle.state.specs.Layout.{levels, stack, localOf, localsOf, Wf}
+use Rattle.state.specs.Layout.{levels, stack, localOf, localsOf, Wf, level-words, local-count-place}
 use Rattle.state.specs.Contracts.{Topmost, Looked}
 use Rattle.state.specs.declared.Slot.the-variants as slot
 use Rattle.state.proofs.Laws.{find-up, find-at, caught, capture-up, capture-at, kept-set, kept-same, if-true, if-false, wf-plain}
 
 -- the word of local i
 abbrev word : List ℕ → ℕ → ℕ → ℕ
-word t l i = getD t (l * 1024 + i) 0
+word t l i = getD t (l * level-words + i) 0
 
 mark-local : (w : ℕ) → w / 65536 / 2 % 2 ≡ 0 → localOf (w + 131072) ≡ caught (localOf w)
 mark-local w z =
@@ -37,12 +37,12 @@ marked-local w z =
     λ i. record { name = w % 65536; depth = w / 65536 / 2 / 2; is-initialized = eqb (w / 65536 % 2) 1; is-captured = eq-eqb _ _ q i }
 
 module _ (t : List ℕ) (l nm : ℕ) (low : l < levels) (wf : Wf t) where
-  pub nothing : (mark : Bool) → Topmost t (l * 1024) (word t l 256) nm 0 → Looked t t l nm mark slot.Nothing
+  pub nothing : (mark : Bool) → Topmost t (l * level-words) (word t l local-count-place) nm 0 → Looked t t l nm mark slot.Nothing
   unfolding find-local stack
   nothing true top = record { answer = sym (find-up _ nm 0 _ (top .within) (top .none)); locals = refl; quiet = λ e. refl; unmarked = λ e. refl; kept = kept-same _ _ t; wf = wf }
   nothing false top = record { answer = sym (find-up _ nm 0 _ (top .within) (top .none)); locals = refl; quiet = λ e. refl; unmarked = λ e. refl; kept = kept-same _ _ t; wf = wf }
 
-  module _ (j : ℕ) (top : Topmost t (l * 1024) (word t l 256) nm (suc j)) where
+  module _ (j : ℕ) (top : Topmost t (l * level-words) (word t l local-count-place) nm (suc j)) where
     pub unready : (mark : Bool) → word t l j / 65536 % 2 ≡ 0 → Looked t t l nm mark slot.Unready
     unready mark z =
         let no : eqb (word t l j / 65536 % 2) 1 ≡ false = ne-eqb _ _ (λ (e : word t l j / 65536 % 2 ≡ 1). omega arith) in
@@ -73,13 +73,13 @@ module _ (t : List ℕ) (l nm : ℕ) (low : l < levels) (wf : Wf t) where
         wf = wf;
       }
 
-      pub marked : word t l j / 65536 / 2 % 2 ≡ 0 → Looked t (set t (l * 1024 + j) (word t l j + 131072)) l nm true (slot.At j)
+      pub marked : word t l j / 65536 / 2 % 2 ≡ 0 → Looked t (set t (l * level-words + j) (word t l j + 131072)) l nm true (slot.At j)
       marked b =
-          let few : word t l 256 ≤ 256 = wf .fewLocals l low in
+          let few : word t l local-count-place ≤ 256 = wf .fewLocals l low in
           let inside : j < 256 = omega (arith, top .within) in
-          let t′ : List ℕ = set t (l * 1024 + j) (word t l j + 131072) in
-          let other : (i : ℕ) → (i ≡ j → ⊥) → word t′ l i ≡ word t l i = λ i ne. getD-set-other t (l * 1024 + j) (l * 1024 + i) _ 0 (λ e. ne (omega arith)) in
-          let count : word t′ l 256 ≡ word t l 256 = other 256 (λ e. omega arith) in
+          let t′ : List ℕ = set t (l * level-words + j) (word t l j + 131072) in
+          let other : (i : ℕ) → (i ≡ j → ⊥) → word t′ l i ≡ word t l i = λ i ne. getD-set-other t (l * level-words + j) (l * level-words + i) _ 0 (λ e. ne (omega arith)) in
+          let count : word t′ l local-count-place ≡ word t l local-count-place = other local-count-place (λ e. omega arith) in
           let same : localOf (word t′ l j) ≡ caught (localOf (word t l j)) = ap localOf (getD-set-same t _ _ 0 (omega (arith, wf .size))) ∙ mark-local (word t l j) b in
           record {
             answer = found;

@@ -6,17 +6,56 @@ ghost use mathlib.Core.Bool.{false};
 ghost use lib.Dec.{ltb, eqb};
 ghost use lib.ListN.{length, getD, replicate};
 ghost use Rattle.rules.specs.Compiler.{declared};
-ghost use Rattle.state.specs.Layout.{levels, deepest, table-words, localOf, stack, codeFrom, codeEnd, Wf, Coded};
+ghost use Rattle.state.specs.Layout.{levels, deepest, table-words, localOf, stack, codeFrom, codeEnd, Wf, Coded, depth-place, level-words, local-count-place};
 ghost use Rattle.state.specs.Contracts.{Topmost, Without, First, Looked, Added, Captured, last-grows, Wrote, Constants, DeclaredAt, DefinedAt, Dropped, Moved, Closed, Began, Emptied, Blank};
 use rules::Span;
 
-// The script, and the functions that may be open in one another.
-pub const LEVELS: usize = 17;
+// Where things lie in the table: the one place that has these numbers for the code. specs/Layout.antt has them for the contracts.
+pub struct Table {
+    pub words: usize,
+}
 
-// The words after the levels.
-pub const CODE_END: usize = LEVELS * 1024;
+impl Table {
+    // The script, and the functions that may be open in one another.
+    pub const LEVELS: usize = 17;
 
-pub const RUNS_END: usize = LEVELS * 1024 + 1;
+    // Of a level, whose locals start at 0.
+    pub const LEVEL_WORDS: usize = 1024;
+
+    pub const LOCAL_COUNT: usize = 256;
+
+    pub const UPVALUES: usize = 257;
+
+    pub const UPVALUE_COUNT: usize = 513;
+
+    pub const CONSTANTS: usize = 514;
+
+    pub const CONSTANT_COUNT: usize = 770;
+
+    pub const DEPTH: usize = 771;
+
+    pub const CODE_FROM: usize = 772;
+
+    pub const RUNS_FROM: usize = 773;
+
+    pub const NAME: usize = 774;
+
+    pub const ARITY: usize = 775;
+
+    pub const TYPE: usize = 776;
+
+    // After the levels; the last two are the image writer's: functions finished, and the image's bytes behind its header.
+    pub const CODE_END: usize = Table::LEVELS * Table::LEVEL_WORDS;
+
+    pub const RUNS_END: usize = Table::CODE_END + 1;
+
+    pub const FUNCTIONS: usize = Table::CODE_END + 2;
+
+    pub const IMAGE_BYTES: usize = Table::CODE_END + 3;
+
+    // All of it.
+    pub const WORDS: usize = Table::CODE_END + 4;
+}
 
 pub enum Slot {
     At(u8),
@@ -70,8 +109,8 @@ pub fn resolve_local(t: &mut [u64], level: usize, name: u16, mark: bool) -> Slot
     requires { ⌜ (level < levels) × (Wf (now t)) ⌝ }
     ensures { λ r. ⌜ Looked (now (t .entry)) (now (t .exit)) level name mark r ⌝ }
 {
-    let base = level * 1024;
-    let n = t[base + 256] as usize;
+    let base = level * Table::LEVEL_WORDS;
+    let n = t[base + Table::LOCAL_COUNT] as usize;
     let place = topmost(&t[..], base, n, name as u64);
     if place == 0 {
         return Slot::Nothing;
@@ -160,8 +199,8 @@ pub fn add_upvalue(t: &mut [u64], level: usize, is_local: u8, index: u8) -> Up
     requires { ⌜ (level < levels) × (Wf (now t)) × («is_local» < 2) ⌝ }
     ensures { λ r. ⌜ Added (now (t .entry)) (now (t .exit)) level (record { idx = index; is-local = eqb «is_local» 1 }) r ⌝ }
 {
-    let base = level * 1024 + 257;
-    let count = level * 1024 + 513;
+    let base = level * Table::LEVEL_WORDS + Table::UPVALUES;
+    let count = level * Table::LEVEL_WORDS + Table::UPVALUE_COUNT;
     let n = t[count] as usize;
     let w = (is_local as u64) * 256 + (index as u64);
     let place = first(&t[..], base, n, w);
@@ -228,14 +267,14 @@ pub fn emit_u8(
     requires { ⌜ (level < levels) × (Wf (now t)) × (Coded (now t) (now code) (now spans) level limit) ⌝ }
     ensures { λ r. ⌜ Wrote (now (t .entry)) (now (code .entry)) (now (spans .entry)) (now (t .exit)) (now (code .exit)) (now (spans .exit)) level limit byte span r ⌝ }
 {
-    let n = t[CODE_END] as usize;
+    let n = t[Table::CODE_END] as usize;
     if limit <= n {
         return Emitted::Full;
     }
-    let first = t[level * 1024 + 773] as usize;
-    let m = t[RUNS_END] as usize;
+    let first = t[level * Table::LEVEL_WORDS + Table::RUNS_FROM] as usize;
+    let m = t[Table::RUNS_END] as usize;
     code[n] = byte;
-    t[CODE_END] = (n + 1) as u64;
+    t[Table::CODE_END] = (n + 1) as u64;
     if can_grow(&spans[..], first, m, span) {
         let at = (m - 1) * 3 + 2;
         spans[at] = spans[at] + 1;
@@ -244,7 +283,7 @@ pub fn emit_u8(
     spans[m * 3] = span.start;
     spans[m * 3 + 1] = span.end;
     spans[m * 3 + 2] = 1;
-    t[RUNS_END] = (m + 1) as u64;
+    t[Table::RUNS_END] = (m + 1) as u64;
     Emitted::Done
 }
 
@@ -253,8 +292,8 @@ pub fn write_constant(t: &mut [u64], level: usize, w: u64) -> Constanted
     requires { ⌜ (level < levels) × (Wf (now t)) ⌝ }
     ensures { λ r. ⌜ Constants (now (t .entry)) (now (t .exit)) level w r ⌝ }
 {
-    let base = level * 1024 + 514;
-    let count = level * 1024 + 770;
+    let base = level * Table::LEVEL_WORDS + Table::CONSTANTS;
+    let count = level * Table::LEVEL_WORDS + Table::CONSTANT_COUNT;
     let n = t[count] as usize;
     let place = first(&t[..], base, n, w);
     if place < n {
@@ -294,9 +333,9 @@ pub fn declare_local(t: &mut [u64], level: usize, name: u16) -> Declared
     requires { ⌜ (level < levels) × (Wf (now t)) ⌝ }
     ensures { λ r. ⌜ DeclaredAt (now (t .entry)) (now (t .exit)) level name r ⌝ }
 {
-    let base = level * 1024;
-    let n = t[base + 256] as usize;
-    let depth = t[base + 771];
+    let base = level * Table::LEVEL_WORDS;
+    let n = t[base + Table::LOCAL_COUNT] as usize;
+    let depth = t[base + Table::DEPTH];
     if 0 < clashing(&t[..], base, n, depth, name as u64) {
         return Declared::Already;
     }
@@ -304,7 +343,7 @@ pub fn declare_local(t: &mut [u64], level: usize, name: u16) -> Declared
         return Declared::Full;
     }
     t[base + n] = depth * 262144 + (name as u64);
-    t[base + 256] = (n + 1) as u64;
+    t[base + Table::LOCAL_COUNT] = (n + 1) as u64;
     Declared::Done
 }
 
@@ -312,8 +351,8 @@ pub fn define_local(t: &mut [u64], level: usize)
     requires { ⌜ (level < levels) × (Wf (now t)) ⌝ }
     ensures { λ r. ⌜ DefinedAt (now (t .entry)) (now (t .exit)) level ⌝ }
 {
-    let base = level * 1024;
-    let n = t[base + 256] as usize;
+    let base = level * Table::LEVEL_WORDS;
+    let n = t[base + Table::LOCAL_COUNT] as usize;
     if n == 0 {
         return;
     }
@@ -326,10 +365,10 @@ pub fn define_local(t: &mut [u64], level: usize)
 
 // The newest local goes.
 pub fn drop_local(t: &mut [u64], level: usize)
-    requires { ⌜ (level < levels) × (Wf (now t)) × (0 < getD (now t) (level * 1024 + 256) 0) ⌝ }
-    ensures { λ r. ⌜ Dropped (now (t .entry)) (now (t .exit)) level (localOf (getD (now (t .entry)) (level * 1024 + (getD (now (t .entry)) (level * 1024 + 256) 0 - 1)) 0)) ⌝ }
+    requires { ⌜ (level < levels) × (Wf (now t)) × (0 < getD (now t) (level * level-words + local-count-place) 0) ⌝ }
+    ensures { λ r. ⌜ Dropped (now (t .entry)) (now (t .exit)) level (localOf (getD (now (t .entry)) (level * level-words + (getD (now (t .entry)) (level * level-words + local-count-place) 0 - 1)) 0)) ⌝ }
 {
-    let count = level * 1024 + 256;
+    let count = level * Table::LEVEL_WORDS + Table::LOCAL_COUNT;
     t[count] = t[count] - 1;
 }
 
@@ -338,7 +377,7 @@ pub fn move_scope(t: &mut [u64], level: usize, depth: u64)
     requires { ⌜ (level < levels) × (Wf (now t)) × (depth ≤ deepest) ⌝ }
     ensures { λ r. ⌜ Moved (now (t .entry)) (now (t .exit)) level depth ⌝ }
 {
-    t[level * 1024 + 771] = depth;
+    t[level * Table::LEVEL_WORDS + Table::DEPTH] = depth;
 }
 
 // A level has nothing in it.
@@ -346,11 +385,11 @@ fn clear_level(t: &mut [u64], level: usize)
     requires { ⌜ (level < levels) × (length (now t) ≡ table-words) ⌝ }
     ensures { λ r. ⌜ Emptied (now (t .entry)) (now (t .exit)) level ⌝ }
 {
-    let base = level * 1024;
-    t[base + 256] = 0;
-    t[base + 513] = 0;
-    t[base + 770] = 0;
-    t[base + 771] = 0;
+    let base = level * Table::LEVEL_WORDS;
+    t[base + Table::LOCAL_COUNT] = 0;
+    t[base + Table::UPVALUE_COUNT] = 0;
+    t[base + Table::CONSTANT_COUNT] = 0;
+    t[base + Table::DEPTH] = 0;
 }
 
 // No level has anything in it, whatever the table held: its counts and depths are set, and all else is stored before it is read. So the table has to
@@ -360,7 +399,7 @@ pub fn clear_levels(t: &mut [u64])
     ensures { λ r. ⌜ Blank (now (t .exit)) ⌝ }
 {
     let mut level = 0;
-    while level < LEVELS {
+    while level < Table::LEVELS {
         clear_level(t, level);
         level += 1;
     }
@@ -368,22 +407,22 @@ pub fn clear_levels(t: &mut [u64])
 
 // Opens the context above a level: no locals, no upvalues, no constants, no code, one scope deeper.
 pub fn begin_ctx(t: &mut [u64], level: usize, name: u16, arity: u8, kind: u8)
-    requires { ⌜ (level + 1 < levels) × (Wf (now t)) × (getD (now t) (level * 1024 + 771) 0 < deepest) ⌝ }
+    requires { ⌜ (level + 1 < levels) × (Wf (now t)) × (getD (now t) (level * level-words + depth-place) 0 < deepest) ⌝ }
     ensures { λ r. ⌜ Began (now (t .entry)) (now (t .exit)) level name arity kind ⌝ }
 {
-    let base = (level + 1) * 1024;
-    let depth = t[level * 1024 + 771];
-    let code = t[CODE_END];
-    let runs = t[RUNS_END];
-    t[base + 256] = 0;
-    t[base + 513] = 0;
-    t[base + 770] = 0;
-    t[base + 771] = depth + 1;
-    t[base + 772] = code;
-    t[base + 773] = runs;
-    t[base + 774] = name as u64;
-    t[base + 775] = arity as u64;
-    t[base + 776] = kind as u64;
+    let base = (level + 1) * Table::LEVEL_WORDS;
+    let depth = t[level * Table::LEVEL_WORDS + Table::DEPTH];
+    let code = t[Table::CODE_END];
+    let runs = t[Table::RUNS_END];
+    t[base + Table::LOCAL_COUNT] = 0;
+    t[base + Table::UPVALUE_COUNT] = 0;
+    t[base + Table::CONSTANT_COUNT] = 0;
+    t[base + Table::DEPTH] = depth + 1;
+    t[base + Table::CODE_FROM] = code;
+    t[base + Table::RUNS_FROM] = runs;
+    t[base + Table::NAME] = name as u64;
+    t[base + Table::ARITY] = arity as u64;
+    t[base + Table::TYPE] = kind as u64;
 }
 
 // Leaves a context: the code and the runs end where its own began.
@@ -391,8 +430,8 @@ pub fn end_ctx(t: &mut [u64], level: usize)
     requires { ⌜ (level < levels) × (Wf (now t)) ⌝ }
     ensures { λ r. ⌜ Closed (now (t .entry)) (now (t .exit)) level ⌝ }
 {
-    let code = t[level * 1024 + 772];
-    let runs = t[level * 1024 + 773];
-    t[CODE_END] = code;
-    t[RUNS_END] = runs;
+    let code = t[level * Table::LEVEL_WORDS + Table::CODE_FROM];
+    let runs = t[level * Table::LEVEL_WORDS + Table::RUNS_FROM];
+    t[Table::CODE_END] = code;
+    t[Table::RUNS_END] = runs;
 }

@@ -11,7 +11,7 @@ use Rattle.rules.specs.declared.Span.{Span}
 use Rattle.rules.specs.declared.Refusal.the-variants.{CodeFull, TooManyConstants}
 use Rattle.rules.specs.Chunk.{Chunk, empty-chunk, ObjectFunction, Constant, write-u8, write-constant, Written, at-place, no-room}
 use Rattle.rules.specs.Compiler.{Compiler, Outcome, ok, err, go-on, _>>=_, _>>_, the, need, refuse, update-ctx, with-chunk, with-ctx, open-code, emit-u8, emit-place, emit-constant, emit-op-constant}
-use Rattle.state.specs.Layout.{levels, image-at, constantOf, codeEnd, runsEnd, chunkAt, ctxAt, parentsOf}
+use Rattle.state.specs.Layout.{levels, image-at, constantOf, codeEnd, runsEnd, chunkAt, ctxAt, parentsOf, constants-place, depth-place, code-from-place, runs-from-place, level-words}
 use Rattle.state.specs.Contracts.{top-chunk, Wrote, WroteAs, Constants, written-as}
 use Rattle.state.proofs.Laws.{kept-off, ctx-paths, locals-same, upvalues-same, parents-same}
 use Rattle.state.specs.declared.Emitted.{Emitted}
@@ -39,7 +39,7 @@ unfolding need go-on
 emit-full limit byte span x h = emit-is limit byte span x false (le-ltb _ _ h)
 
 module _ (l limit byte : ℕ) (span : Span) (t code spans t′ code′ spans′ : List ℕ) (r : Emitted) (fit : Fit (mem t code spans) l limit) (w : Wrote t code spans t′ code′ spans′ l limit byte span r) where
-  at : (k o : ℕ) → k < levels → o < 1024 → getD t′ (k * 1024 + o) 0 ≡ getD t (k * 1024 + o) 0
+  at : (k o : ℕ) → k < levels → o < level-words → getD t′ (k * level-words + o) 0 ≡ getD t (k * level-words + o) 0
   at k o h g = kept-off _ _ t t′ _ (w .kept) (λ x y. omega arith)
 
   as-done : r ≡ emitted.Done → WroteAs t code spans t′ code′ spans′ l limit byte span emitted.Done
@@ -55,9 +55,9 @@ module _ (l limit byte : ℕ) (span : Span) (t code spans t′ code′ spans′ 
       let ok′ = fit .coded in
       let c : ctxAt t′ code′ spans′ l (codeEnd t′) (runsEnd t′) ≡ with-chunk (ctxAt t code spans l (codeEnd t) (runsEnd t)) (write-u8 (top-chunk t code spans l) byte span) =
       ctx-paths t code spans t′ code′ spans′ l (codeEnd t) (runsEnd t) (codeEnd t′) (runsEnd t′) (λ o a b. at l o low (omega arith)) (as-done q .1)
-      (locals-same t t′ l (fit .wf .fewLocals l low) (λ o a. at l o low (omega arith))) (upvalues-same t t′ l (fit .wf .fewUpvalues l low) (λ o a b. at l o low (omega arith))) (at l 771 low (omega arith)) in
+      (locals-same t t′ l (fit .wf .fewLocals l low) (λ o a. at l o low (omega arith))) (upvalues-same t t′ l (fit .wf .fewUpvalues l low) (λ o a b. at l o low (omega arith))) (at l depth-place low (omega arith)) in
       let ps : parentsOf t′ code′ spans′ l ≡ parentsOf t code spans l =
-      parents-same t code spans t′ code′ spans′ l (fit .wf) low (λ k o a b. at k o (omega arith) (omega arith)) (at l 772 low (omega arith)) (at l 773 low (omega arith)) (ok′ .order) (ok′ .orderRuns) (λ i h. w .codeKept i (omega (arith, ok′ .top))) (w .runsKept) in
+      parents-same t code spans t′ code′ spans′ l (fit .wf) low (λ k o a b. at k o (omega arith) (omega arith)) (at l code-from-place low (omega arith)) (at l runs-from-place low (omega arith)) (ok′ .order) (ok′ .orderRuns) (λ i h. w .codeKept i (omega (arith, ok′ .top))) (w .runsKept) in
       sym (λ i. record { ctx = c i; parents = ps i; class-ctx = rest .classes; functions = rest .functions })
 
   ops-more : r ≡ emitted.Done → code-len (mem t′ code′ spans′) l ≡ code-len (mem t code spans) l + 1
@@ -78,7 +78,7 @@ module _ (l limit byte : ℕ) (span : Span) (t code spans t′ code′ spans′ 
         ahead = record {
           fit = record { low = fit .low; wf = w .wf; coded = w .coded };
           up = omega (arith, ops-more q);
-          deep = at l 771 low (omega arith);
+          deep = at l depth-place low (omega arith);
           head = λ o a b. at l o low (omega arith);
           under = λ k o h a b. at k o (omega arith) (omega arith);
           over = λ q i h g. w .kept .below i g;
@@ -129,7 +129,7 @@ place-full limit span x = refl
 
 module _ (l limit w : ℕ) (span : Span) (t code spans t′ : List ℕ) (r : Constanted) (fit : Fit (mem t code spans) l limit) (c : Constants t t′ l w r) where
   constant-ahead : Ahead l limit steady (mem t code spans) (mem t′ code spans)
-  constant-ahead = ahead-kept t code spans t′ l limit 514 771 fit (c .wf) (c .kept) (omega arith)
+  constant-ahead = ahead-kept t code spans t′ l limit constants-place depth-place fit (c .wf) (c .kept) (omega arith)
 
   pub constant-fit : Fit (mem t′ code spans) l limit
   constant-fit = constant-ahead .fit

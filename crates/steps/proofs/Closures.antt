@@ -10,7 +10,7 @@ use Rattle.rules.specs.Base.{if_then_else_}
 use Rattle.rules.specs.declared.Span.{Span}
 use Rattle.rules.specs.declared.Refusal.{Refusal}
 use Rattle.rules.specs.Compiler.{Upvalue, Compiler, Compile, ok, _>>_, done, return, emit-u8, emit-op, emit-upvalues}
-use Rattle.state.specs.Layout.{levels, code-end-at, row, upvalueOf, upvaluesOf, Wf}
+use Rattle.state.specs.Layout.{levels, code-end-at, row, upvalueOf, upvaluesOf, Wf, upvalues-place, upvalue-count-place, level-words}
 use Rattle.state.proofs.Laws.{row-cong}
 use Rattle.steps.specs.View.{Mem, mem, t-of, Rest, view, Agrees, Fit, steady, Gave, Refused, Did, Turning, PairedAs, PairedAt}
 use Rattle.steps.specs.declared.Step.{Step}
@@ -61,36 +61,36 @@ module _ (limit l w : ℕ) (span : Span) (half : w < 512) where
 
 -- those from i on
 abbrev pub from : List ℕ → (l i n : ℕ) → List Upvalue
-from t l i n = row (λ j. upvalueOf (getD t ((l + 1) * 1024 + (257 + (i + j))) 0)) (n - i)
+from t l i n = row (λ j. upvalueOf (getD t ((l + 1) * level-words + (upvalues-place + (i + j))) 0)) (n - i)
 
 abbrev pub Going : (limit l : ℕ) → Span → (t₀ code₀ spans₀ : List ℕ) → (i n : ℕ) → Mem → Type 0
 Going limit l span t₀ code₀ spans₀ i n now = Turning limit l (emit-upvalues limit (upvaluesOf t₀ (l + 1)) span) (emit-upvalues limit (from t₀ l i n) span) (mem t₀ code₀ spans₀) now
 
-pub going-start : (limit l : ℕ) (span : Span) (t code spans : List ℕ) → Fit (mem t code spans) l limit → Going limit l span t code spans 0 (getD t ((l + 1) * 1024 + 513) 0) (mem t code spans)
+pub going-start : (limit l : ℕ) (span : Span) (t code spans : List ℕ) → Fit (mem t code spans) l limit → Going limit l span t code spans 0 (getD t ((l + 1) * level-words + upvalue-count-place) 0) (mem t code spans)
 going-start limit l span t code spans fit =
-    let n : ℕ = getD t ((l + 1) * 1024 + 513) 0 in
+    let n : ℕ = getD t ((l + 1) * level-words + upvalue-count-place) 0 in
     let z : n ≡ n - 0 = omega arith in
-    let one : (j : ℕ) → j < n → upvalueOf (getD t ((l + 1) * 1024 + 257 + j) 0) ≡ upvalueOf (getD t ((l + 1) * 1024 + (257 + (0 + j))) 0) = λ j h.
-    let q : (l + 1) * 1024 + 257 + j ≡ (l + 1) * 1024 + (257 + (0 + j)) = omega arith in ap (λ (k : ℕ). upvalueOf (getD t k 0)) q in
-    let e : upvaluesOf t (l + 1) ≡ from t l 0 (getD t ((l + 1) * 1024 + 513) 0) = row-cong _ _ n one ∙ ap (row (λ j. upvalueOf (getD t ((l + 1) * 1024 + (257 + (0 + j))) 0))) z in
+    let one : (j : ℕ) → j < n → upvalueOf (getD t ((l + 1) * level-words + upvalues-place + j) 0) ≡ upvalueOf (getD t ((l + 1) * level-words + (upvalues-place + (0 + j))) 0) = λ j h.
+    let q : (l + 1) * level-words + upvalues-place + j ≡ (l + 1) * level-words + (upvalues-place + (0 + j)) = omega arith in ap (λ (k : ℕ). upvalueOf (getD t k 0)) q in
+    let e : upvaluesOf t (l + 1) ≡ from t l 0 (getD t ((l + 1) * level-words + upvalue-count-place) 0) = row-cong _ _ n one ∙ ap (row (λ j. upvalueOf (getD t ((l + 1) * level-words + (upvalues-place + (0 + j))) 0))) z in
     record { same = λ rest h. ap (λ (us : List Upvalue). emit-upvalues limit us span (view (mem t code spans) l rest)) e; agrees = λ rest h. h; ahead = ahead-none fit }
 
-split : (t : List ℕ) (l i n : ℕ) → i < n → from t l i n ≡ upvalueOf (getD t ((l + 1) * 1024 + (257 + i)) 0) ∷ from t l (i + 1) n
+split : (t : List ℕ) (l i n : ℕ) → i < n → from t l i n ≡ upvalueOf (getD t ((l + 1) * level-words + (upvalues-place + i)) 0) ∷ from t l (i + 1) n
 unfolding row
 split t l i n h =
     let e : n - i ≡ suc (n - (i + 1)) = omega arith in
-    let a : (l + 1) * 1024 + (257 + (i + 0)) ≡ (l + 1) * 1024 + (257 + i) = omega arith in
-    let one : (j : ℕ) → j < n - (i + 1) → upvalueOf (getD t ((l + 1) * 1024 + (257 + (i + suc j))) 0) ≡ upvalueOf (getD t ((l + 1) * 1024 + (257 + (i + 1 + j))) 0) = λ j g.
-    let q : (l + 1) * 1024 + (257 + (i + suc j)) ≡ (l + 1) * 1024 + (257 + (i + 1 + j)) = omega arith in ap (λ (k : ℕ). upvalueOf (getD t k 0)) q in
-    ap (row (λ j. upvalueOf (getD t ((l + 1) * 1024 + (257 + (i + j))) 0))) e
-    ∙ ap₂ _∷_ (ap (λ (k : ℕ). upvalueOf (getD t k 0)) a) (row-cong (λ j. upvalueOf (getD t ((l + 1) * 1024 + (257 + (i + suc j))) 0)) (λ j. upvalueOf (getD t ((l + 1) * 1024 + (257 + (i + 1 + j))) 0)) (n - (i + 1)) one)
+    let a : (l + 1) * level-words + (upvalues-place + (i + 0)) ≡ (l + 1) * level-words + (upvalues-place + i) = omega arith in
+    let one : (j : ℕ) → j < n - (i + 1) → upvalueOf (getD t ((l + 1) * level-words + (upvalues-place + (i + suc j))) 0) ≡ upvalueOf (getD t ((l + 1) * level-words + (upvalues-place + (i + 1 + j))) 0) = λ j g.
+    let q : (l + 1) * level-words + (upvalues-place + (i + suc j)) ≡ (l + 1) * level-words + (upvalues-place + (i + 1 + j)) = omega arith in ap (λ (k : ℕ). upvalueOf (getD t k 0)) q in
+    ap (row (λ j. upvalueOf (getD t ((l + 1) * level-words + (upvalues-place + (i + j))) 0))) e
+    ∙ ap₂ _∷_ (ap (λ (k : ℕ). upvalueOf (getD t k 0)) a) (row-cong (λ j. upvalueOf (getD t ((l + 1) * level-words + (upvalues-place + (i + suc j))) 0)) (λ j. upvalueOf (getD t ((l + 1) * level-words + (upvalues-place + (i + 1 + j))) 0)) (n - (i + 1)) one)
 
 module _ (limit l : ℕ) (span : Span) (t₀ code₀ spans₀ : List ℕ) (i n : ℕ) (mid : Mem) (g : Going limit l span t₀ code₀ spans₀ i n mid) where
   -- the words of the level above are as they were
-  pub word-kept : (o : ℕ) → l + 1 < levels → o < 1024 → getD (t-of mid) ((l + 1) * 1024 + o) 0 ≡ getD t₀ ((l + 1) * 1024 + o) 0
+  pub word-kept : (o : ℕ) → l + 1 < levels → o < level-words → getD (t-of mid) ((l + 1) * level-words + o) 0 ≡ getD t₀ ((l + 1) * level-words + o) 0
   word-kept o low h = g .ahead .over refl _ (omega arith) (omega arith)
 
-  module _ (more : i < n) (w : ℕ) (is : w ≡ getD t₀ ((l + 1) * 1024 + (257 + i)) 0) {now : Mem} {r : Step} (p : PairedAt limit l w span mid now r) where
+  module _ (more : i < n) (w : ℕ) (is : w ≡ getD t₀ ((l + 1) * level-words + (upvalues-place + i)) 0) {now : Mem} {r : Step} (p : PairedAt limit l w span mid now r) where
     here : (rest : Rest) → emit-upvalues limit (from t₀ l i n) span (view mid l rest) ≡ emit-upvalues limit (upvalueOf w ∷ from t₀ l (i + 1) n) span (view mid l rest)
     here rest = ap (λ (us : List Upvalue). emit-upvalues limit us span (view mid l rest)) (split t₀ l i n more ∙ ap (λ (k : ℕ). upvalueOf k ∷ from t₀ l (i + 1) n) (sym is))
 
@@ -115,7 +115,7 @@ module _ (limit l : ℕ) (span : Span) (t₀ code₀ spans₀ : List ℕ) (i n :
   gone h =
       let e : n - i ≡ 0 = omega arith in
       next (record {
-        comes = λ rest a. g .same rest a ∙ ap (λ (k : ℕ). emit-upvalues limit (row (λ j. upvalueOf (getD t₀ ((l + 1) * 1024 + (257 + (i + j))) 0)) k) span (view mid l rest)) e;
+        comes = λ rest a. g .same rest a ∙ ap (λ (k : ℕ). emit-upvalues limit (row (λ j. upvalueOf (getD t₀ ((l + 1) * level-words + (upvalues-place + (i + j))) 0)) k) span (view mid l rest)) e;
         agrees = λ rest a. g .agrees rest a;
         ahead = g .ahead;
       })

@@ -12,7 +12,7 @@ use Rattle.rules.specs.declared.Span.{Span}
 use Rattle.rules.specs.declared.Refusal.{Refusal}
 use Rattle.rules.specs.declared.Refusal.the-variants.{AccessInsideInitializer, TooManyUpvalues, ThisOutsideClass}
 use Rattle.rules.specs.Compiler.{Compiler, ok, go-on, _>>=_, _>>_, return, refuse, need, get, the, put-ctxs, Found, at-slot, uninitialized, missing, find-local, Resolved, resolve-upvalue, Place, local-at, upvalue-at, global-named, resolved, resolve, get-place, get-variable}
-use Rattle.state.specs.Layout.{levels, code-end-at, runs-end-at, codeEnd, runsEnd, ctxAt, parentsOf}
+use Rattle.state.specs.Layout.{levels, code-end-at, runs-end-at, codeEnd, runsEnd, ctxAt, parentsOf, depth-place}
 use Rattle.state.specs.Contracts.{found, Looked, up-of, Captured}
 use Rattle.state.specs.declared.Slot.{Slot}
 use Rattle.state.specs.declared.Slot.the-variants as slot
@@ -71,7 +71,7 @@ module _ (l nm : ℕ) (span : Span) (t t₁ : List ℕ) (s : Slot) (res : Looked
           record {
             comes = λ rest _. outer (up.At i) q code spans rest ∙ ap (ok (upvalue-at i)) (sym (λ j. record { ctx = c j; parents = parentsOf t₂ code spans l; class-ctx = rest .classes; functions = rest .functions }));
             agrees = λ rest h. still-agrees (cap .kept .above _ (omega arith)) h;
-            ahead = ahead-named steady t code spans t₂ l limit fit (cap .wf) (cap .rest l 771 (omega arith) (omega arith) (omega arith)) (λ o a b. cap .rest l o (omega arith) (omega arith) (omega arith)) (λ k o a b d. cap .rest k o (omega arith) (omega arith) (omega arith)) (λ j a. cap .kept .above j (omega arith));
+            ahead = ahead-named steady t code spans t₂ l limit fit (cap .wf) (cap .rest l depth-place (omega arith) (omega arith) (omega arith)) (λ o a b. cap .rest l o (omega arith) (omega arith) (omega arith)) (λ k o a b d. cap .rest k o (omega arith) (omega arith) (omega arith)) (λ j a. cap .kept .above j (omega arith));
           };
     }
 

@@ -13,7 +13,7 @@ use Rattle.rules.specs.Op as op
 use Rattle.rules.specs.declared.Span.{Span}
 use Rattle.rules.specs.declared.Refusal.the-variants.{SuperOutsideClass, SuperWithoutSuperclass, ReturnOutsideFunction}
 use Rattle.rules.specs.Compiler.{Compiler, ok, err, go-on, _>>=_, _>>_, done, return, refuse, need, the, innermost-has-super, need-super, ends-in-return, emit-op, emit-op-u8, compile-value, return-value, compile-return, implicit-return}
-use Rattle.state.specs.Layout.{row, type-of, codeFrom, codeEnd, chunkAt, ctxAt}
+use Rattle.state.specs.Layout.{row, type-of, codeFrom, codeEnd, chunkAt, ctxAt, type-place, level-words}
 use Rattle.state.proofs.Laws.{row-snoc}
 use Rattle.steps.specs.View.{Mem, mem, Rest, view, top-class, Fit, steady, Refused, DidAs, Did, Told, Judged, Ending}
 use Rattle.steps.specs.declared.Step.{Step}
@@ -102,7 +102,7 @@ no-value-init (suc zero) limit span h = absurd (omega arith)
 no-value-init (suc (suc zero)) limit span h = absurd (omega arith)
 no-value-init (suc (suc (suc k))) limit span h = refl
 
-pub told-type : {class : ℕ} (t code spans : List ℕ) (l : ℕ) → Told class l (the λ s. s .ctx .type) (type-of (getD t (l * 1024 + 776) 0)) (mem t code spans)
+pub told-type : {class : ℕ} (t code spans : List ℕ) (l : ℕ) → Told class l (the λ s. s .ctx .type) (type-of (getD t (l * level-words + type-place) 0)) (mem t code spans)
 unfolding the view ctxAt
 told-type t code spans l = record { says = λ rest h. refl }
 

@@ -12,7 +12,7 @@ use Rattle.rules.specs.Op as op
 use Rattle.rules.specs.declared.Span.{Span}
 use Rattle.rules.specs.declared.Refusal.the-variants.{AlreadyDefined, TooManyLocals, CodeFull}
 use Rattle.rules.specs.Compiler.{Local, CompilerCtx, Compiler, with-ctx, with-locals, with-scope-depth, Outcome, ok, err, Compile, go-on, _>>=_, _>>_, done, return, need, the, update-ctx, declared, declare-local, define-local, is-global, begin-scope, begin-ctx, emit-u8, emit-op, pop-locals, end-scope, end-ctx, back-to}
-use Rattle.state.specs.Layout.{levels, stack, localOf, localsOf, codeEnd, runsEnd, ctxAt, codeFrom, runsFrom, upvaluesOf, parentsOf, Wf}
+use Rattle.state.specs.Layout.{levels, stack, localOf, localsOf, codeEnd, runsEnd, ctxAt, codeFrom, runsFrom, upvaluesOf, parentsOf, Wf, upvalues-place, depth-place, code-from-place, runs-from-place, level-words, local-count-place}
 use Rattle.state.specs.Contracts.{DeclaredAs, DeclaredAt, DefinedAt, Moved, Began, Wrote, Dropped, Closed}
 use Rattle.state.specs.declared.Declared.{Declared}
 use Rattle.state.specs.declared.Declared.the-variants as decl
@@ -33,7 +33,7 @@ use Rattle.steps.proofs.Jumps.{ahead-none}
 -- the depth moves, by whatever turn says how
 moved-gave : (e : Turn) (m : Compile Unit) (l d : ℕ) (t t′ : List ℕ) → ((x : ℕ) → e .class x ≡ x) → ((x : Rest) → e .rest x ≡ x)
     → ((x : Compiler) → m x ≡ ok tt (with-ctx x (with-scope-depth (x .ctx) (e .depth (x .ctx .scope-depth)))))
-    → Moved t t′ l d → d ≡ e .depth (getD t (l * 1024 + 771) 0) → {class limit : ℕ} (code spans : List ℕ) → Fit (mem t code spans) l limit → Gave class limit l e m tt (mem t code spans) (mem t′ code spans)
+    → Moved t t′ l d → d ≡ e .depth (getD t (l * level-words + depth-place) 0) → {class limit : ℕ} (code spans : List ℕ) → Fit (mem t code spans) l limit → Gave class limit l e m tt (mem t code spans) (mem t′ code spans)
 unfolding view ctxAt
 moved-gave e m l d t t′ ec er is w q {class} {limit} code spans fit =
     let low = fit .low in
@@ -44,18 +44,18 @@ moved-gave e m l d t t′ ec er is w q {class} {limit} code spans fit =
       ahead = ahead-named e t code spans t′ l limit fit (w .wf) (w .does ∙ q) (λ o a b. kp .above _ (omega arith)) (λ k o a b c. kept-off _ _ t t′ _ kp (λ x y. omega arith)) (λ i a. kp .above _ (omega arith));
     }
 
-pub scope-begun : (l d : ℕ) (t t′ : List ℕ) → Moved t t′ l d → d ≡ getD t (l * 1024 + 771) 0 + 1 → Changed l deeper begin-scope t t′
+pub scope-begun : (l d : ℕ) (t t′ : List ℕ) → Moved t t′ l d → d ≡ getD t (l * level-words + depth-place) 0 + 1 → Changed l deeper begin-scope t t′
 unfolding begin-scope update-ctx
 scope-begun l d t t′ w q = record { gives = λ code spans fit. moved-gave deeper begin-scope l d t t′ (λ x. refl) (λ x. refl) (λ x. refl) w q code spans fit }
 
 abbrev pub lower : Compile Unit
 lower = update-ctx λ c. with-scope-depth c (c .scope-depth - 1)
 
-pub lowered : (l d : ℕ) (t t′ : List ℕ) → Moved t t′ l d → d ≡ getD t (l * 1024 + 771) 0 - 1 → {class limit : ℕ} (code spans : List ℕ) → Fit (mem t code spans) l limit → Gave class limit l shallower lower tt (mem t code spans) (mem t′ code spans)
+pub lowered : (l d : ℕ) (t t′ : List ℕ) → Moved t t′ l d → d ≡ getD t (l * level-words + depth-place) 0 - 1 → {class limit : ℕ} (code spans : List ℕ) → Fit (mem t code spans) l limit → Gave class limit l shallower lower tt (mem t code spans) (mem t′ code spans)
 unfolding update-ctx
 lowered l d t t′ w q code spans fit = moved-gave shallower lower l d t t′ (λ x. refl) (λ x. refl) (λ x. refl) w q code spans fit
 
-pub global-asked : (l : ℕ) (t : List ℕ) (r : Bool) → r ≡ eqb (getD t (l * 1024 + 771) 0) 0 → Asked l is-global r t
+pub global-asked : (l : ℕ) (t : List ℕ) (r : Bool) → r ≡ eqb (getD t (l * level-words + depth-place) 0) 0 → Asked l is-global r t
 unfolding is-global the view ctxAt
 global-asked l t r e = record { says = λ code spans. record { says = λ rest _. ap (λ (b : Bool). ok b (view (mem t code spans) l rest)) (sym e) } }
 
@@ -95,9 +95,9 @@ module _ (l n name : ℕ) (span : Span) (t t′ : List ℕ) (r : Declared) (w : 
   unfolding view ctxAt
   declared-new q = record {
     gives = λ {class} {limit} code spans fit. next (record {
-      comes = λ rest _. declare-new name span (view (mem t code spans) l rest) (does-as decl.Done q .0) (does-as decl.Done q .1) ∙ ap (ok tt) (sym (view-locals t code spans t′ l 257 _ (fit .wf) (fit .low) (w .kept) (omega arith) (does-as decl.Done q .2) rest));
+      comes = λ rest _. declare-new name span (view (mem t code spans) l rest) (does-as decl.Done q .0) (does-as decl.Done q .1) ∙ ap (ok tt) (sym (view-locals t code spans t′ l upvalues-place _ (fit .wf) (fit .low) (w .kept) (omega arith) (does-as decl.Done q .2) rest));
       agrees = λ rest h. let low = fit .low in still-agrees (w .kept .above _ (omega arith)) h;
-      ahead = ahead-kept t code spans t′ l limit 0 257 fit (w .wf) (record { below = λ i a. w .kept .below i (omega arith); above = w .kept .above }) (omega arith);
+      ahead = ahead-kept t code spans t′ l limit 0 upvalues-place fit (w .wf) (record { below = λ i a. w .kept .below i (omega arith); above = w .kept .above }) (omega arith);
     });
   }
 
@@ -105,9 +105,9 @@ pub defined : (l : ℕ) (t t′ : List ℕ) → DefinedAt t t′ l → Changed l
 unfolding define-local update-ctx view ctxAt
 defined l t t′ w = record {
   gives = λ {class} {limit} code spans fit. record {
-    comes = λ rest _. ap (ok tt) (sym (view-locals t code spans t′ l 256 _ (fit .wf) (fit .low) (w .kept) (omega arith) (w .does) rest));
+    comes = λ rest _. ap (ok tt) (sym (view-locals t code spans t′ l local-count-place _ (fit .wf) (fit .low) (w .kept) (omega arith) (w .does) rest));
     agrees = λ rest h. let low = fit .low in still-agrees (w .kept .above _ (omega arith)) h;
-    ahead = ahead-kept t code spans t′ l limit 0 256 fit (w .wf) (record { below = λ i a. w .kept .below i (omega arith); above = w .kept .above }) (omega arith);
+    ahead = ahead-kept t code spans t′ l limit 0 local-count-place fit (w .wf) (record { below = λ i a. w .kept .below i (omega arith); above = w .kept .above }) (omega arith);
   };
 }
 
@@ -143,11 +143,11 @@ unfolding _>>_ go-on
 seq-after limit byte span m x y e = ap (λ (o : Outcome Unit). go-on o (λ _. m)) e
 
 module _ (l limit : ℕ) (span : Span) (t code spans : List ℕ) (fit : Fit (mem t code spans) l limit) where
-  pub popped-none : getD t (l * 1024 + 256) 0 ≡ 0 → PoppedAt limit l span (mem t code spans) (mem t code spans) popped.Stop
+  pub popped-none : getD t (l * level-words + local-count-place) 0 ≡ 0 → PoppedAt limit l span (mem t code spans) (mem t code spans) popped.Stop
   unfolding view ctxAt stack
   popped-none z = record {
     does = λ class. record {
-      comes = λ rest _. pop-none limit span (view (mem t code spans) l rest) (ap (stack (λ i. localOf (getD t (l * 1024 + i) 0))) z);
+      comes = λ rest _. pop-none limit span (view (mem t code spans) l rest) (ap (stack (λ i. localOf (getD t (l * level-words + i) 0))) z);
       agrees = λ rest h. h;
       ahead = ahead-none fit;
     };
@@ -155,14 +155,14 @@ module _ (l limit : ℕ) (span : Span) (t code spans : List ℕ) (fit : Fit (mem
 
   -- the newest local
   abbrev newest : Local
-  newest = localOf (getD t (l * 1024 + (getD t (l * 1024 + 256) 0 - 1)) 0)
+  newest = localOf (getD t (l * level-words + (getD t (l * level-words + local-count-place) 0 - 1)) 0)
 
-  module _ (some : getD t (l * 1024 + 256) 0 ≡ 0 → ⊥) where
-    peel : localsOf t l ≡ newest ∷ stack (λ i. localOf (getD t (l * 1024 + i) 0)) (getD t (l * 1024 + 256) 0 - 1)
+  module _ (some : getD t (l * level-words + local-count-place) 0 ≡ 0 → ⊥) where
+    peel : localsOf t l ≡ newest ∷ stack (λ i. localOf (getD t (l * level-words + i) 0)) (getD t (l * level-words + local-count-place) 0 - 1)
     unfolding stack
-    peel = let e : getD t (l * 1024 + 256) 0 ≡ suc (getD t (l * 1024 + 256) 0 - 1) = omega arith in ap (stack (λ i. localOf (getD t (l * 1024 + i) 0))) e
+    peel = let e : getD t (l * level-words + local-count-place) 0 ≡ suc (getD t (l * level-words + local-count-place) 0 - 1) = omega arith in ap (stack (λ i. localOf (getD t (l * level-words + i) 0))) e
 
-    pub popped-stop : newest .depth ≤ getD t (l * 1024 + 771) 0 → PoppedAt limit l span (mem t code spans) (mem t code spans) popped.Stop
+    pub popped-stop : newest .depth ≤ getD t (l * level-words + depth-place) 0 → PoppedAt limit l span (mem t code spans) (mem t code spans) popped.Stop
     unfolding view ctxAt
     popped-stop h = record {
       does = λ class. record {
@@ -172,35 +172,35 @@ module _ (l limit : ℕ) (span : Span) (t code spans : List ℕ) (fit : Fit (mem
       };
     }
 
-    module _ (deep : getD t (l * 1024 + 771) 0 < newest .depth) (byte : ℕ) (is : byte ≡ dropping newest) (t₁ code₁ spans₁ : List ℕ) (r : Emitted) (w : Wrote t code spans t₁ code₁ spans₁ l limit byte span r) where
+    module _ (deep : getD t (l * level-words + depth-place) 0 < newest .depth) (byte : ℕ) (is : byte ≡ dropping newest) (t₁ code₁ spans₁ : List ℕ) (r : Emitted) (w : Wrote t code spans t₁ code₁ spans₁ l limit byte span r) where
       pub popped-full : (now : Mem) → r ≡ emitted.Full → PoppedAt limit l span (mem t code spans) now popped.Full
       unfolding view ctxAt emit-op
       popped-full now q = record {
         does = λ class. record {
           refuses = λ rest h. pop-more limit span (view (mem t code spans) l rest) newest _ peel deep
-              ∙ ap (λ (b : ℕ). (emit-u8 limit b span >> (update-ctx (λ c. with-locals c (stack (λ i. localOf (getD t (l * 1024 + i) 0)) (getD t (l * 1024 + 256) 0 - 1))) >> pop-locals limit (stack (λ i. localOf (getD t (l * 1024 + i) 0)) (getD t (l * 1024 + 256) 0 - 1)) span)) (view (mem t code spans) l rest)) (sym is)
+              ∙ ap (λ (b : ℕ). (emit-u8 limit b span >> (update-ctx (λ c. with-locals c (stack (λ i. localOf (getD t (l * level-words + i) 0)) (getD t (l * level-words + local-count-place) 0 - 1))) >> pop-locals limit (stack (λ i. localOf (getD t (l * level-words + i) 0)) (getD t (l * level-words + local-count-place) 0 - 1)) span)) (view (mem t code spans) l rest)) (sym is)
               ∙ refused-seq (byte-full l limit byte span t code spans t₁ code₁ spans₁ r fit w {class = class} q) _ .refuses rest h;
         };
       }
 
-      pub still-some : 0 < getD t₁ (l * 1024 + 256) 0
-      still-some = let low = fit .low in omega (arith, kept-off _ _ t t₁ (l * 1024 + 256) (w .kept) (λ x y. omega arith))
+      pub still-some : 0 < getD t₁ (l * level-words + local-count-place) 0
+      still-some = let low = fit .low in omega (arith, kept-off _ _ t t₁ (l * level-words + local-count-place) (w .kept) (λ x y. omega arith))
 
-      module _ (t₂ : List ℕ) (d : Dropped t₁ t₂ l (localOf (getD t₁ (l * 1024 + (getD t₁ (l * 1024 + 256) 0 - 1)) 0))) where
-        at : (o : ℕ) → o < 1024 → getD t₁ (l * 1024 + o) 0 ≡ getD t (l * 1024 + o) 0
+      module _ (t₂ : List ℕ) (d : Dropped t₁ t₂ l (localOf (getD t₁ (l * level-words + (getD t₁ (l * level-words + local-count-place) 0 - 1)) 0))) where
+        at : (o : ℕ) → o < level-words → getD t₁ (l * level-words + o) 0 ≡ getD t (l * level-words + o) 0
         at o h = let low = fit .low in kept-off _ _ t t₁ _ (w .kept) (λ x y. omega arith)
 
-        count : getD t₁ (l * 1024 + 256) 0 ≡ getD t (l * 1024 + 256) 0
-        count = at 256 (omega arith)
+        count : getD t₁ (l * level-words + local-count-place) 0 ≡ getD t (l * level-words + local-count-place) 0
+        count = at local-count-place (omega arith)
 
-        same-newest : localOf (getD t₁ (l * 1024 + (getD t₁ (l * 1024 + 256) 0 - 1)) 0) ≡ newest
-        same-newest = let few = fit .wf .fewLocals l (fit .low) in ap (λ (k : ℕ). localOf (getD t₁ (l * 1024 + (k - 1)) 0)) count ∙ ap localOf (at (getD t (l * 1024 + 256) 0 - 1) (omega arith))
+        same-newest : localOf (getD t₁ (l * level-words + (getD t₁ (l * level-words + local-count-place) 0 - 1)) 0) ≡ newest
+        same-newest = let few = fit .wf .fewLocals l (fit .low) in ap (λ (k : ℕ). localOf (getD t₁ (l * level-words + (k - 1)) 0)) count ∙ ap localOf (at (getD t (l * level-words + local-count-place) 0 - 1) (omega arith))
 
         split : localsOf t l ≡ newest ∷ localsOf t₂ l
         split = sym (locals-same t t₁ l (fit .wf .fewLocals l (fit .low)) (λ o h. at o (omega arith))) ∙ d .does ∙ ap (λ (a : Local). a ∷ localsOf t₂ l) same-newest
 
         dropped-view : (rest : Rest) → with-ctx (view (mem t₁ code₁ spans₁) l rest) (with-locals (view (mem t₁ code₁ spans₁) l rest .ctx) (localsOf t₂ l)) ≡ view (mem t₂ code₁ spans₁) l rest
-        dropped-view rest = sym (view-locals t₁ code₁ spans₁ t₂ l 257 _ (w .wf) (fit .low) (record { below = λ i a. d .kept .below i (omega arith); above = d .kept .above }) (omega arith) refl rest)
+        dropped-view rest = sym (view-locals t₁ code₁ spans₁ t₂ l upvalues-place _ (w .wf) (fit .low) (record { below = λ i a. d .kept .below i (omega arith); above = d .kept .above }) (omega arith) refl rest)
 
         after : (rest : Rest) → (update-ctx (λ c. with-locals c (localsOf t₂ l)) >> pop-locals limit (localsOf t₂ l) span) (view (mem t₁ code₁ spans₁) l rest) ≡ pops limit span (view (mem t₂ code₁ spans₁) l rest)
         unfolding _>>_ update-ctx go-on _>>=_ the view ctxAt
@@ -220,7 +220,7 @@ module _ (l limit : ℕ) (span : Span) (t code spans : List ℕ) (fit : Fit (mem
                       ∙ seq-after limit byte span _ (view (mem t code spans) l rest) (view (mem t₁ code₁ spans₁) l rest) (gb class .comes rest h)
                       ∙ after rest;
                   agrees = λ {class} rest h. still-agrees (d .kept .above _ (omega arith)) (gb class .agrees rest h);
-                  ahead = ahead-then (gb 0 .ahead) (ahead-kept t₁ code₁ spans₁ t₂ l limit 256 257 fit₁ (d .wf) (d .kept) (omega arith));
+                  ahead = ahead-then (gb 0 .ahead) (ahead-kept t₁ code₁ spans₁ t₂ l limit 256 upvalues-place fit₁ (d .wf) (d .kept) (omega arith));
                 },
                 omega (arith, d .fewer, count),
               );
@@ -237,7 +237,7 @@ passing-none p fit = record { same = λ rest h. refl; agrees = λ rest h. h; ahe
 pub passing-then : {limit l : ℕ} {p : Compile Unit} {a b c : Mem} → Passing limit l p a b → Passing limit l p b c → Passing limit l p a c
 passing-then x y = record { same = λ rest h. x .same rest h ∙ y .same rest (x .agrees rest h); agrees = λ rest h. y .agrees rest (x .agrees rest h); ahead = ahead-then (x .ahead) (y .ahead) }
 
-module _ (l limit d : ℕ) (span : Span) (t code spans t₁ : List ℕ) (fit : Fit (mem t code spans) l limit) (w : Moved t t₁ l d) (q : d ≡ getD t (l * 1024 + 771) 0 - 1) (mid : Mem) (p : Passing limit l (pops limit span) (mem t₁ code spans) mid) where
+module _ (l limit d : ℕ) (span : Span) (t code spans t₁ : List ℕ) (fit : Fit (mem t code spans) l limit) (w : Moved t t₁ l d) (q : d ≡ getD t (l * level-words + depth-place) 0 - 1) (mid : Mem) (p : Passing limit l (pops limit span) (mem t₁ code spans) mid) where
   pub ended : (now : Mem) → PoppedAt limit l span mid now popped.Stop → {class : ℕ} → Gave class limit l shallower (end-scope limit span) tt (mem t code spans) now
   unfolding end-scope
   ended now h {class} =
@@ -254,7 +254,7 @@ module _ (l limit d : ℕ) (span : Span) (t code spans t₁ : List ℕ) (fit : F
 
 -- ## A context
 
-scope-of : (t code spans : List ℕ) (l : ℕ) (c : CompilerCtx) → ctxAt t code spans l (codeEnd t) (runsEnd t) ≡ c → getD t (l * 1024 + 771) 0 ≡ c .scope-depth
+scope-of : (t code spans : List ℕ) (l : ℕ) (c : CompilerCtx) → ctxAt t code spans l (codeEnd t) (runsEnd t) ≡ c → getD t (l * level-words + depth-place) 0 ≡ c .scope-depth
 unfolding ctxAt
 scope-of t code spans l c e = ap (λ (c : CompilerCtx). c .scope-depth) e
 
@@ -280,7 +280,7 @@ leave-is l t code spans rest = refl
 left-up : (l : ℕ) (t t′ : List ℕ) → suc l < levels → Wf t → Closed t t′ (suc l) → Left (suc l) t t′
 unfolding view
 left-up l t t′ low wf w =
-    let at : (k o : ℕ) → k < levels → o < 1024 → getD t′ (k * 1024 + o) 0 ≡ getD t (k * 1024 + o) 0 = λ k o a b. kept-off _ _ t t′ _ (w .kept) (λ x y. omega arith) in
+    let at : (k o : ℕ) → k < levels → o < level-words → getD t′ (k * level-words + o) 0 ≡ getD t (k * level-words + o) 0 = λ k o a b. kept-off _ _ t t′ _ (w .kept) (λ x y. omega arith) in
     let q : suc l - 1 ≡ l = omega arith in
     record {
       fit = λ {limit} code spans fit.
@@ -293,18 +293,18 @@ left-up l t t′ low wf w =
               roomRuns = ok′ .roomRuns;
               within = omega (arith, w .code, ok′ .top, ok′ .within);
               fewer = omega (arith, w .code, w .runs, ok′ .fewerAt (suc l) (omega arith));
-              fewerAt = λ k z. omega (arith, at k 772 (omega arith) (omega arith), at k 773 (omega arith) (omega arith), ok′ .fewerAt k (omega arith));
-              fromZero = at 0 772 (omega arith) (omega arith) ∙ ok′ .fromZero;
-              top = omega (arith, w .code, at l 772 (omega arith) (omega arith), ok′ .order l (omega arith));
-              topRuns = omega (arith, w .runs, at l 773 (omega arith) (omega arith), ok′ .orderRuns l (omega arith));
-              order = λ k z. omega (arith, at k 772 (omega arith) (omega arith), at (suc k) 772 (omega arith) (omega arith), ok′ .order k (omega arith));
-              orderRuns = λ k z. omega (arith, at k 773 (omega arith) (omega arith), at (suc k) 773 (omega arith) (omega arith), ok′ .orderRuns k (omega arith));
+              fewerAt = λ k z. omega (arith, at k code-from-place (omega arith) (omega arith), at k runs-from-place (omega arith) (omega arith), ok′ .fewerAt k (omega arith));
+              fromZero = at 0 code-from-place (omega arith) (omega arith) ∙ ok′ .fromZero;
+              top = omega (arith, w .code, at l code-from-place (omega arith) (omega arith), ok′ .order l (omega arith));
+              topRuns = omega (arith, w .runs, at l runs-from-place (omega arith) (omega arith), ok′ .orderRuns l (omega arith));
+              order = λ k z. omega (arith, at k code-from-place (omega arith) (omega arith), at (suc k) code-from-place (omega arith) (omega arith), ok′ .order k (omega arith));
+              orderRuns = λ k z. omega (arith, at k runs-from-place (omega arith) (omega arith), at (suc k) runs-from-place (omega arith) (omega arith), ok′ .orderRuns k (omega arith));
             };
           });
       comes = λ code spans rest.
           let c : ctxAt t code spans l (codeFrom t (suc l)) (runsFrom t (suc l)) ≡ ctxAt t′ code spans l (codeEnd t′) (runsEnd t′) =
           sym (ap₂ (ctxAt t′ code spans l) (w .code) (w .runs) ∙ ctx-same t code spans t′ code spans l (codeFrom t (suc l)) (runsFrom t (suc l)) wf (omega arith) (λ o h. at l o (omega arith) (omega arith)) (λ i h. refl) (λ i h. refl)) in
-          let ps : parentsOf t code spans l ≡ parentsOf t′ code spans l = sym (parents-named t t′ l wf (omega arith) (λ k o a b. at k o (omega arith) (omega arith)) (at l 772 (omega arith) (omega arith)) (at l 773 (omega arith) (omega arith)) code spans) in
+          let ps : parentsOf t code spans l ≡ parentsOf t′ code spans l = sym (parents-named t t′ l wf (omega arith) (λ k o a b. at k o (omega arith) (omega arith)) (at l code-from-place (omega arith) (omega arith)) (at l runs-from-place (omega arith) (omega arith)) code spans) in
           leave-is l t code spans rest
           ∙ ap (ok (length (rest .functions), upvaluesOf t (suc l))) (λ i. record { ctx = c i; parents = ps i; class-ctx = rest .classes; functions = finished (mem t code spans) (suc l) rest .functions })
           ∙ ap (λ (k : ℕ). ok (length (rest .functions), upvaluesOf t (suc l)) (view (mem t′ code spans) k (finished (mem t code spans) (suc l) rest))) (sym q);

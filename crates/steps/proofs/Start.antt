@@ -7,7 +7,7 @@ use mathlib.Core.Logic.{⊎-elim}
 use mathlib.Core.List.{List, []}
 use lib.ListN.{getD, set, List·getD-eq-default}
 use lib.Seq.{getD-set-same, getD-set-other}
-use Rattle.state.specs.Layout.{levels, code-end-at, runs-end-at, image-at, row, stack, localOf, upvalueOf, constantOf, runAt, type-of, codeFrom, runsFrom, codeEnd, runsEnd, chunkAt, ctxAt, parentsOf, Wf}
+use Rattle.state.specs.Layout.{levels, code-end-at, runs-end-at, image-at, row, stack, localOf, upvalueOf, constantOf, runAt, type-of, codeFrom, runsFrom, codeEnd, runsEnd, chunkAt, ctxAt, parentsOf, Wf, upvalues-place, upvalue-count-place, constants-place, constant-count-place, depth-place, code-from-place, runs-from-place, name-place, arity-place, type-place, level-words}
 use Rattle.state.specs.Contracts.{Blank}
 use Rattle.state.proofs.Laws.{wf-plain}
 use Rattle.state.proofs.Clearing.{zero-still}
@@ -23,19 +23,19 @@ empty-stack f n q = ap (stack f) q
 
 module _ (t : List ℕ) (blank : Blank t) where
   abbrev t₁ : List ℕ
-  t₁ = set t 774 3
+  t₁ = set t name-place 3
 
   abbrev t₂ : List ℕ
-  t₂ = set t₁ 772 0
+  t₂ = set t₁ code-from-place 0
 
   abbrev t₃ : List ℕ
-  t₃ = set t₂ 773 0
+  t₃ = set t₂ runs-from-place 0
 
   abbrev t₄ : List ℕ
-  t₄ = set t₃ 775 0
+  t₄ = set t₃ arity-place 0
 
   abbrev t₅ : List ℕ
-  t₅ = set t₄ 776 0
+  t₅ = set t₄ type-place 0
 
   abbrev t₆ : List ℕ
   t₆ = set t₅ code-end-at 0
@@ -50,19 +50,19 @@ module _ (t : List ℕ) (blank : Blank t) where
   t₉ = set t₈ (image-at + 1) 0
 
   wf₁ : Wf t₁
-  wf₁ = wf-plain t 0 774 3 (omega arith) (λ x y. omega arith) (λ e. omega arith) (λ e. omega arith) (blank .wf)
+  wf₁ = wf-plain t 0 name-place 3 (omega arith) (λ x y. omega arith) (λ e. omega arith) (λ e. omega arith) (blank .wf)
 
   wf₂ : Wf t₂
-  wf₂ = wf-plain t₁ 0 772 0 (omega arith) (λ x y. omega arith) (λ e. omega arith) (λ e. omega arith) wf₁
+  wf₂ = wf-plain t₁ 0 code-from-place 0 (omega arith) (λ x y. omega arith) (λ e. omega arith) (λ e. omega arith) wf₁
 
   wf₃ : Wf t₃
-  wf₃ = wf-plain t₂ 0 773 0 (omega arith) (λ x y. omega arith) (λ e. omega arith) (λ e. omega arith) wf₂
+  wf₃ = wf-plain t₂ 0 runs-from-place 0 (omega arith) (λ x y. omega arith) (λ e. omega arith) (λ e. omega arith) wf₂
 
   wf₄ : Wf t₄
-  wf₄ = wf-plain t₃ 0 775 0 (omega arith) (λ x y. omega arith) (λ e. omega arith) (λ e. omega arith) wf₃
+  wf₄ = wf-plain t₃ 0 arity-place 0 (omega arith) (λ x y. omega arith) (λ e. omega arith) (λ e. omega arith) wf₃
 
   wf₅ : Wf t₅
-  wf₅ = wf-plain t₄ 0 776 0 (omega arith) (λ x y. omega arith) (λ e. omega arith) (λ e. omega arith) wf₄
+  wf₅ = wf-plain t₄ 0 type-place 0 (omega arith) (λ x y. omega arith) (λ e. omega arith) (λ e. omega arith) wf₄
 
   wf₆ : Wf t₆
   wf₆ = wf-plain t₅ levels 0 0 (omega arith) (λ x y. omega arith) (λ e. omega arith) (λ e. omega arith) wf₅
@@ -101,35 +101,35 @@ module _ (t : List ℕ) (blank : Blank t) where
   zero₁ : (i : ℕ) → getD t₁ i 0 ≡ 0 → getD t₉ i 0 ≡ 0
   zero₁ i e = zero₂ i (zero-still t₁ _ i e)
 
-  zero : (i : ℕ) → (i ≡ 774 → ⊥) → getD t i 0 ≡ 0 → getD t₉ i 0 ≡ 0
-  zero i ne e = zero₁ i (getD-set-other t 774 i 3 0 ne ∙ e)
+  zero : (i : ℕ) → (i ≡ name-place → ⊥) → getD t i 0 ≡ 0 → getD t₉ i 0 ≡ 0
+  zero i ne e = zero₁ i (getD-set-other t name-place i 3 0 ne ∙ e)
 
   locals : getD t₉ 256 0 ≡ 0
   locals = zero 256 (λ e. omega arith) (blank .empty 0 (omega arith) .locals)
 
-  upvalues : getD t₉ 513 0 ≡ 0
-  upvalues = zero 513 (λ e. omega arith) (blank .empty 0 (omega arith) .upvalues)
+  upvalues : getD t₉ upvalue-count-place 0 ≡ 0
+  upvalues = zero upvalue-count-place (λ e. omega arith) (blank .empty 0 (omega arith) .upvalues)
 
-  constants : getD t₉ 770 0 ≡ 0
-  constants = zero 770 (λ e. omega arith) (blank .empty 0 (omega arith) .constants)
+  constants : getD t₉ constant-count-place 0 ≡ 0
+  constants = zero constant-count-place (λ e. omega arith) (blank .empty 0 (omega arith) .constants)
 
-  depth : getD t₉ 771 0 ≡ 0
-  depth = zero 771 (λ e. omega arith) (blank .empty 0 (omega arith) .depth)
+  depth : getD t₉ depth-place 0 ≡ 0
+  depth = zero depth-place (λ e. omega arith) (blank .empty 0 (omega arith) .depth)
 
-  name : getD t₉ 774 0 ≡ 3
-  name = getD-set-other t₈ _ 774 0 0 (λ e. omega arith) ∙ getD-set-other t₇ _ 774 0 0 (λ e. omega arith) ∙ getD-set-other t₆ _ 774 0 0 (λ e. omega arith) ∙ getD-set-other t₅ _ 774 0 0 (λ e. omega arith) ∙ getD-set-other t₄ _ 774 0 0 (λ e. omega arith) ∙ getD-set-other t₃ _ 774 0 0 (λ e. omega arith) ∙ getD-set-other t₂ _ 774 0 0 (λ e. omega arith) ∙ getD-set-other t₁ _ 774 0 0 (λ e. omega arith) ∙ getD-set-same t 774 3 0 (omega (arith, blank .wf .size))
+  name : getD t₉ name-place 0 ≡ 3
+  name = getD-set-other t₈ _ name-place 0 0 (λ e. omega arith) ∙ getD-set-other t₇ _ name-place 0 0 (λ e. omega arith) ∙ getD-set-other t₆ _ name-place 0 0 (λ e. omega arith) ∙ getD-set-other t₅ _ name-place 0 0 (λ e. omega arith) ∙ getD-set-other t₄ _ name-place 0 0 (λ e. omega arith) ∙ getD-set-other t₃ _ name-place 0 0 (λ e. omega arith) ∙ getD-set-other t₂ _ name-place 0 0 (λ e. omega arith) ∙ getD-set-other t₁ _ name-place 0 0 (λ e. omega arith) ∙ getD-set-same t name-place 3 0 (omega (arith, blank .wf .size))
 
-  code-from : getD t₉ 772 0 ≡ 0
-  code-from = zero₂ 772 (getD-set-same t₁ 772 0 0 (omega (arith, wf₁ .size)))
+  code-from : getD t₉ code-from-place 0 ≡ 0
+  code-from = zero₂ code-from-place (getD-set-same t₁ code-from-place 0 0 (omega (arith, wf₁ .size)))
 
-  runs-from : getD t₉ 773 0 ≡ 0
-  runs-from = zero₃ 773 (getD-set-same t₂ 773 0 0 (omega (arith, wf₂ .size)))
+  runs-from : getD t₉ runs-from-place 0 ≡ 0
+  runs-from = zero₃ runs-from-place (getD-set-same t₂ runs-from-place 0 0 (omega (arith, wf₂ .size)))
 
-  arity : getD t₉ 775 0 ≡ 0
-  arity = zero₄ 775 (getD-set-same t₃ 775 0 0 (omega (arith, wf₃ .size)))
+  arity : getD t₉ arity-place 0 ≡ 0
+  arity = zero₄ arity-place (getD-set-same t₃ arity-place 0 0 (omega (arith, wf₃ .size)))
 
-  type : getD t₉ 776 0 ≡ 0
-  type = zero₅ 776 (getD-set-same t₄ 776 0 0 (omega (arith, wf₄ .size)))
+  type : getD t₉ type-place 0 ≡ 0
+  type = zero₅ type-place (getD-set-same t₄ type-place 0 0 (omega (arith, wf₄ .size)))
 
   code-end : getD t₉ code-end-at 0 ≡ 0
   code-end = zero₆ code-end-at (getD-set-same t₅ code-end-at 0 0 (omega (arith, wf₅ .size)))
@@ -170,9 +170,9 @@ module _ (t : List ℕ) (blank : Blank t) where
       };
     };
     is = λ code spans.
-        let ls = empty-stack (λ i. localOf (getD t₉ (0 * 1024 + i) 0)) (getD t₉ 256 0) locals in
-        let us = empty-row (λ i. upvalueOf (getD t₉ (0 * 1024 + 257 + i) 0)) (getD t₉ 513 0) upvalues in
-        let ks = empty-row (λ i. constantOf (getD t₉ (0 * 1024 + 514 + i) 0)) (getD t₉ 770 0) constants in
+        let ls = empty-stack (λ i. localOf (getD t₉ (0 * level-words + i) 0)) (getD t₉ 256 0) locals in
+        let us = empty-row (λ i. upvalueOf (getD t₉ (0 * level-words + upvalues-place + i) 0)) (getD t₉ upvalue-count-place 0) upvalues in
+        let ks = empty-row (λ i. constantOf (getD t₉ (0 * level-words + constants-place + i) 0)) (getD t₉ constant-count-place 0) constants in
         let os = empty-row (λ i. getD code (codeFrom t₉ 0 + i) 0) (codeEnd t₉ - codeFrom t₉ 0) (omega (arith, code-end)) in
         let rs = empty-row (λ i. runAt spans (runsFrom t₉ 0 + i)) (runsEnd t₉ - runsFrom t₉ 0) (omega (arith, runs-end)) in
         λ i. record {

@@ -13,17 +13,14 @@ ghost use Rattle.rules.specs.Tree.{this};
 ghost use Rattle.rules.specs.Answer.{NO-SPAN};
 ghost use Rattle.rules.specs.Op as ops;
 ghost use Rattle.rules.specs.Base.{if_then_else_};
-ghost use Rattle.state.specs.Layout.{levels, deepest, table-words, localOf, constantOf, type-of, codeFrom, codeEnd, upvaluesOf, Wf};
+ghost use Rattle.state.specs.Layout.{levels, deepest, table-words, localOf, constantOf, type-of, codeFrom, codeEnd, upvaluesOf, Wf, depth-place, level-words};
 ghost use Rattle.steps.specs.View.{mem, Fit, code-len, depth-at, steady, deeper, shallower, Did, Opened, Measured, Changed, Tried, Asked, Placed, PoppedAt, Entered, Judged, Ending, Started, Left, PairedAt};
 use op::Op;
 use rules::Refusal;
 use rules::Span;
+use state::Table;
 
 // The image writer's words, the last of the table.
-const COUNT: usize = state::LEVELS * 1024 + 2;
-
-const BYTES: usize = state::LEVELS * 1024 + 3;
-
 pub enum Step {
     Next(usize),
     Stop(Refusal),
@@ -208,8 +205,8 @@ pub fn code_length(t: &[u64], level: usize) -> usize
     requires { ⌜ (level < levels) × (length (now t) ≡ table-words) × (codeFrom (now t) level ≤ codeEnd (now t)) ⌝ }
     ensures { λ r. ⌜ Measured (now (t .entry)) level r ⌝ }
 {
-    let from = t[level * 1024 + 772] as usize;
-    let end = t[state::CODE_END] as usize;
+    let from = t[level * Table::LEVEL_WORDS + Table::CODE_FROM] as usize;
+    let end = t[Table::CODE_END] as usize;
     end - from
 }
 
@@ -256,8 +253,8 @@ pub fn patch_jump(
     requires { ⌜ (Fit (mem (now t) (now code) (now spans)) level limit) × (place + 2 ≤ code-len (mem (now t) (now code) (now spans)) level) ⌝ }
     ensures { λ r. ⌜ ((class : ℕ) → Did class limit level next steady (patch-jump place span) (mem (now (t .entry)) (now (code .entry)) (now (spans .entry))) (mem (now (t .exit)) (now (code .exit)) (now (spans .exit))) r) ⌝ }
 {
-    let from = t[level * 1024 + 772] as usize;
-    let end = t[state::CODE_END] as usize;
+    let from = t[level * Table::LEVEL_WORDS + Table::CODE_FROM] as usize;
+    let end = t[Table::CODE_END] as usize;
     let distance = end - from - 2 - place;
     if 65535 < distance {
         return Step::Stop(Refusal::JumpTooLarge(span));
@@ -318,10 +315,10 @@ pub fn emit_loop(
 // ## Locals and scopes
 
 pub fn begin_scope(t: &mut [u64], level: usize)
-    requires { ⌜ (level < levels) × (Wf (now t)) × (getD (now t) (level * 1024 + 771) 0 < deepest) ⌝ }
+    requires { ⌜ (level < levels) × (Wf (now t)) × (getD (now t) (level * level-words + depth-place) 0 < deepest) ⌝ }
     ensures { λ r. ⌜ Changed level deeper begin-scope (now (t .entry)) (now (t .exit)) ⌝ }
 {
-    let depth = t[level * 1024 + 771];
+    let depth = t[level * Table::LEVEL_WORDS + Table::DEPTH];
     state::move_scope(t, level, depth + 1);
 }
 
@@ -329,7 +326,7 @@ pub fn is_global(t: &[u64], level: usize) -> bool
     requires { ⌜ (level < levels) × (Wf (now t)) ⌝ }
     ensures { λ r. ⌜ Asked level is-global r (now (t .entry)) ⌝ }
 {
-    t[level * 1024 + 771] == 0
+    t[level * Table::LEVEL_WORDS + Table::DEPTH] == 0
 }
 
 pub fn declare_local(t: &mut [u64], level: usize, name: u16, span: Span, next: usize) -> Step
@@ -373,12 +370,12 @@ pub fn pop_local(
     requires { ⌜ Fit (mem (now t) (now code) (now spans)) level limit ⌝ }
     ensures { λ r. ⌜ PoppedAt limit level span (mem (now (t .entry)) (now (code .entry)) (now (spans .entry))) (mem (now (t .exit)) (now (code .exit)) (now (spans .exit))) r ⌝ }
 {
-    let n = t[level * 1024 + 256] as usize;
+    let n = t[level * Table::LEVEL_WORDS + Table::LOCAL_COUNT] as usize;
     if n == 0 {
         return Popped::Stop;
     }
-    let w = t[level * 1024 + (n - 1)];
-    let depth = t[level * 1024 + 771];
+    let w = t[level * Table::LEVEL_WORDS + (n - 1)];
+    let depth = t[level * Table::LEVEL_WORDS + Table::DEPTH];
     if w / 65536 / 2 / 2 <= depth {
         return Popped::Stop;
     }
@@ -399,10 +396,10 @@ pub fn end_scope(
     span: Span,
     next: usize,
 ) -> Step
-    requires { ⌜ (Fit (mem (now t) (now code) (now spans)) level limit) × (0 < getD (now t) (level * 1024 + 771) 0) ⌝ }
+    requires { ⌜ (Fit (mem (now t) (now code) (now spans)) level limit) × (0 < getD (now t) (level * level-words + depth-place) 0) ⌝ }
     ensures { λ r. ⌜ ((class : ℕ) → Did class limit level next shallower (end-scope limit span) (mem (now (t .entry)) (now (code .entry)) (now (spans .entry))) (mem (now (t .exit)) (now (code .exit)) (now (spans .exit))) r) ⌝ }
 {
-    let depth = t[level * 1024 + 771];
+    let depth = t[level * Table::LEVEL_WORDS + Table::DEPTH];
     state::move_scope(t, level, depth - 1);
     loop {
         let step = pop_local(t, code, spans, level, limit, span);
@@ -604,8 +601,8 @@ pub fn ends_in_return(t: &[u64], code: &[u8], level: usize) -> bool
     requires { ⌜ (level < levels) × (length (now t) ≡ table-words) × (codeEnd (now t) ≤ length (now code)) ⌝ }
     ensures { λ r. ⌜ Ending (now (t .entry)) (now (code .entry)) level r ⌝ }
 {
-    let from = t[level * 1024 + 772] as usize;
-    let end = t[state::CODE_END] as usize;
+    let from = t[level * Table::LEVEL_WORDS + Table::CODE_FROM] as usize;
+    let end = t[Table::CODE_END] as usize;
     if end <= from {
         return false;
     }
@@ -645,7 +642,7 @@ pub fn return_nothing(
     requires { ⌜ Fit (mem (now t) (now code) (now spans)) level limit ⌝ }
     ensures { λ r. ⌜ ((class : ℕ) → Did class limit level next steady (compile-return limit none span) (mem (now (t .entry)) (now (code .entry)) (now (spans .entry))) (mem (now (t .exit)) (now (code .exit)) (now (spans .exit))) r) ⌝ }
 {
-    let kind = t[level * 1024 + 776];
+    let kind = t[level * Table::LEVEL_WORDS + Table::TYPE];
     if kind == 0 {
         return Step::Stop(Refusal::ReturnOutsideFunction(span));
     }
@@ -685,7 +682,7 @@ pub fn implicit_return(
 
 // The context of a function is the innermost now, one scope deeper: its level is one more.
 pub fn begin_ctx(t: &mut [u64], level: usize, name: u16, arity: u8, kind: u8)
-    requires { ⌜ (level + 1 < levels) × (Wf (now t)) × (getD (now t) (level * 1024 + 771) 0 < deepest) ⌝ }
+    requires { ⌜ (level + 1 < levels) × (Wf (now t)) × (getD (now t) (level * level-words + depth-place) 0 < deepest) ⌝ }
     ensures { λ r. ⌜ Entered level name arity kind (now (t .entry)) (now (t .exit)) ⌝ }
 {
     state::begin_ctx(t, level, name, arity, kind);
@@ -732,10 +729,10 @@ pub fn emit_upvalues(
     requires { ⌜ (Fit (mem (now t) (now code) (now spans)) level limit) × (level + 1 < levels) ⌝ }
     ensures { λ r. ⌜ ((class : ℕ) → Did class limit level next steady (emit-upvalues limit (upvaluesOf (now (t .entry)) (level + 1)) span) (mem (now (t .entry)) (now (code .entry)) (now (spans .entry))) (mem (now (t .exit)) (now (code .exit)) (now (spans .exit))) r) ⌝ }
 {
-    let n = t[(level + 1) * 1024 + 513] as usize;
+    let n = t[(level + 1) * Table::LEVEL_WORDS + Table::UPVALUE_COUNT] as usize;
     let mut i = 0;
     while i < n {
-        let w = t[(level + 1) * 1024 + (257 + i)];
+        let w = t[(level + 1) * Table::LEVEL_WORDS + (Table::UPVALUES + i)];
         let a = emit_pair(t, code, spans, level, limit, w, span);
         let Step::Next(_) = a else {
             return a;
@@ -751,13 +748,13 @@ pub fn begin_script(t: &mut [u64])
     ensures { λ r. ⌜ Started (now (t .exit)) ⌝ }
 {
     state::clear_levels(t);
-    t[774] = 3;
-    t[772] = 0;
-    t[773] = 0;
-    t[775] = 0;
-    t[776] = 0;
-    t[state::CODE_END] = 0;
-    t[state::RUNS_END] = 0;
-    t[COUNT] = 0;
-    t[BYTES] = 0;
+    t[Table::NAME] = 3;
+    t[Table::CODE_FROM] = 0;
+    t[Table::RUNS_FROM] = 0;
+    t[Table::ARITY] = 0;
+    t[Table::TYPE] = 0;
+    t[Table::CODE_END] = 0;
+    t[Table::RUNS_END] = 0;
+    t[Table::FUNCTIONS] = 0;
+    t[Table::IMAGE_BYTES] = 0;
 }

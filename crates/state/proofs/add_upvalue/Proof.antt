@@ -6,8 +6,9 @@ use borrow.Author.Needs.{needs}
 use Rattle.state.proofs.Adding as ways
 use Rattle.state.proofs.add_upvalue.Statement.{statement}
 use Rattle.state.proofs.add_upvalue.Tie as tie
+use Rattle.state.specs.Layout.{upvalue-count-place, level-words}
 
-few : (s : tie.Start) → getD (s .args .t .now) (s .args .level * 1024 + 513) 0 ≤ 256
+few : (s : tie.Start) → getD (s .args .t .now) (s .args .level * level-words + upvalue-count-place) 0 ≤ 256
 few s = s .pre .1 .fewUpvalues (s .args .level) (s .pre .0)
 
 mul-base : tie.Need-mul-base

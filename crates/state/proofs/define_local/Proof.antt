@@ -6,8 +6,9 @@ use borrow.Author.Needs.{needs}
 use Rattle.state.proofs.Declare as ways
 use Rattle.state.proofs.define_local.Statement.{statement}
 use Rattle.state.proofs.define_local.Tie as tie
+use Rattle.state.specs.Layout.{level-words, local-count-place}
 
-few : (s : tie.Start) → getD (s .args .t .now) (s .args .level * 1024 + 256) 0 ≤ 256
+few : (s : tie.Start) → getD (s .args .t .now) (s .args .level * level-words + local-count-place) 0 ≤ 256
 few s = s .pre .1 .fewLocals (s .args .level) (s .pre .0)
 
 mul-base : tie.Need-mul-base
@@ -43,7 +44,7 @@ slice-read-w c = omega (arith, few (c .before .before .before))
 add-t : tie.Need-add-t
 add-t c =
     let a = c .before .before .before .before .args in
-    omega (arith, c .before .slice-known2 .given (a .level * 1024 + (getD (a .t .now) (a .level * 1024 + 256) 0 - 1)))
+    omega (arith, c .before .slice-known2 .given (a .level * level-words + (getD (a .t .now) (a .level * level-words + local-count-place) 0 - 1)))
 
 mul-t : tie.Need-mul-t
 mul-t c = omega (arith, few (c .before .before .before .before))
@@ -58,13 +59,13 @@ returns-2 : tie.Need-returns-2
 returns-2 c =
     let s = c .before .before .before .before in
     let a = s .args in
-    ways.define-now (a .t .now) (a .level) (s .pre .0) (s .pre .1) (getD (a .t .now) (a .level * 1024 + 256) 0 - 1) (omega arith) (c .if2 .taken)
+    ways.define-now (a .t .now) (a .level) (s .pre .0) (s .pre .1) (getD (a .t .now) (a .level * level-words + local-count-place) 0 - 1) (omega arith) (c .if2 .taken)
 
 returns-3 : tie.Need-returns-3
 returns-3 c =
     let s = c .before .before .before .before in
     let a = s .args in
-    ways.define-again (a .t .now) (a .level) (s .pre .0) (s .pre .1) (getD (a .t .now) (a .level * 1024 + 256) 0 - 1) (omega arith) (c .if2 .left)
+    ways.define-again (a .t .now) (a .level) (s .pre .0) (s .pre .1) (getD (a .t .now) (a .level * level-words + local-count-place) 0 - 1) (omega arith) (c .if2 .left)
 
 pub define-local-spec : {M : Type 1} → statement M
 define-local-spec =

@@ -8,16 +8,17 @@ use Rattle.state.proofs.Resolve as ways
 use Rattle.state.specs.Contracts.{Topmost}
 use Rattle.state.proofs.resolve_local.Statement.{statement}
 use Rattle.state.proofs.resolve_local.Tie as tie
+use Rattle.state.specs.Layout.{level-words, local-count-place}
 
-few : (s : tie.Start) → getD (s .args .t .now) (s .args .level * 1024 + 256) 0 ≤ 256
+few : (s : tie.Start) → getD (s .args .t .now) (s .args .level * level-words + local-count-place) 0 ≤ 256
 few s = s .pre .1 .fewLocals (s .args .level) (s .pre .0)
 
 -- where a local of the name was found: its place is one less than what topmost answers
-top : (c : tie.Else1) → let s = c .before .before .before .before .before in Topmost (s .args .t .now) (s .args .level * 1024) (getD (s .args .t .now) (s .args .level * 1024 + 256) 0) (s .args .name) (suc (c .before .topmost .result - 1))
+top : (c : tie.Else1) → let s = c .before .before .before .before .before in Topmost (s .args .t .now) (s .args .level * level-words) (getD (s .args .t .now) (s .args .level * level-words + local-count-place) 0) (s .args .name) (suc (c .before .topmost .result - 1))
 top c =
     let s = c .before .before .before .before .before in
     let e : c .before .topmost .result ≡ suc (c .before .topmost .result - 1) = omega arith in
-    subst (λ (r : ℕ). Topmost (s .args .t .now) (s .args .level * 1024) (getD (s .args .t .now) (s .args .level * 1024 + 256) 0) (s .args .name) r) e (c .before .topmost .ensures)
+    subst (λ (r : ℕ). Topmost (s .args .t .now) (s .args .level * level-words) (getD (s .args .t .now) (s .args .level * level-words + local-count-place) 0) (s .args .name) r) e (c .before .topmost .ensures)
 
 mul-base : tie.Need-mul-base
 mul-base c = search needs
@@ -42,7 +43,7 @@ returns c =
     let s = c .before .before .before .before .before in
     let a = s .args in
     ways.nothing (a .t .now) (a .level) (a .name) (s .pre .0) (s .pre .1) (a .mark)
-    (subst (λ (r : ℕ). Topmost (a .t .now) (a .level * 1024) (getD (a .t .now) (a .level * 1024 + 256) 0) (a .name) r) (c .if1 .taken) (c .before .topmost .ensures))
+    (subst (λ (r : ℕ). Topmost (a .t .now) (a .level * level-words) (getD (a .t .now) (a .level * level-words + local-count-place) 0) (a .name) r) (c .if1 .taken) (c .before .topmost .ensures))
 
 sub-at : tie.Need-sub-at
 sub-at c = search needs
@@ -75,7 +76,7 @@ add-t : tie.Need-add-t
 add-t c =
     let s = c .before .before .before .before .before .before .before .before .before in
     let j = c .before .before .before .before .before .topmost .result - 1 in
-    omega (arith, c .before .before .before .slice-known3 .given (s .args .level * 1024 + j))
+    omega (arith, c .before .before .before .slice-known3 .given (s .args .level * level-words + j))
 
 mul-t : tie.Need-mul-t
 mul-t c = omega (arith, few (c .before .before .before .before .before .before .before .before .before))

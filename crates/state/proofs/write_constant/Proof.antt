@@ -6,8 +6,9 @@ use borrow.Author.Needs.{needs}
 use Rattle.state.proofs.Constant as ways
 use Rattle.state.proofs.write_constant.Statement.{statement}
 use Rattle.state.proofs.write_constant.Tie as tie
+use Rattle.state.specs.Layout.{constant-count-place, level-words}
 
-few : (s : tie.Start) → getD (s .args .t .now) (s .args .level * 1024 + 770) 0 ≤ 256
+few : (s : tie.Start) → getD (s .args .t .now) (s .args .level * level-words + constant-count-place) 0 ≤ 256
 few s = s .pre .1 .fewConstants (s .args .level) (s .pre .0)
 
 mul-base : tie.Need-mul-base

@@ -8,10 +8,11 @@ use native.Mathlib.Omega.{arith}
 use borrow.Author.Needs.{needs}
 use Rattle.steps.proofs.emit_upvalues.Statement.{statement}
 use Rattle.steps.proofs.emit_upvalues.Tie as tie
+use Rattle.state.specs.Layout.{upvalues-place, upvalue-count-place, level-words}
 
 abbrev Inv-loop : tie.InvT-loop
 Inv-loop t₀ code₀ spans₀ level limit span next n i₀ t code spans i =
-    (ways.Going limit level span t₀ code₀ spans₀ i n (mem t code spans)) × (n ≡ getD t₀ ((level + 1) * 1024 + 513) 0) × (i ≤ n) × (length t ≡ length t₀) × (length code ≡ length code₀) × (length spans ≡ length spans₀)
+    (ways.Going limit level span t₀ code₀ spans₀ i n (mem t code spans)) × (n ≡ getD t₀ ((level + 1) * level-words + upvalue-count-place) 0) × (i ≤ n) × (length t ≡ length t₀) × (length code ≡ length code₀) × (length spans ≡ length spans₀)
 
 abbrev μ-loop : tie.MeasureT-loop
 μ-loop t₀ code₀ spans₀ level limit span next n i₀ t code spans i = n - i
@@ -56,7 +57,7 @@ emit-pair-requires : tie.Need-emit-pair-requires Inv-loop μ-loop
 emit-pair-requires c κs =
     let a = c .before .before .before .before .before .before .before .before .before .before .args in
     let g = c .before .before .before .before .before .loop .inv .0 in
-    (g .ahead .fit, g .ahead .fit .wf .pairs (a .level + 1) (257 + c .before .before .before .before .before .loop .i) (c .before .before .before .before .before .before .before .before .before .before .pre .1) (omega arith) (omega (arith, ways.word-kept (a .limit) (a .level) (a .span) _ _ _ (c .before .before .before .before .before .loop .i) _ _ g 513 (c .before .before .before .before .before .before .before .before .before .before .pre .1) (omega arith), c .before .before .before .before .before .loop .inv .1)))
+    (g .ahead .fit, g .ahead .fit .wf .pairs (a .level + 1) (upvalues-place + c .before .before .before .before .before .loop .i) (c .before .before .before .before .before .before .before .before .before .before .pre .1) (omega arith) (omega (arith, ways.word-kept (a .limit) (a .level) (a .span) _ _ _ (c .before .before .before .before .before .loop .i) _ _ g upvalue-count-place (c .before .before .before .before .before .before .before .before .before .before .pre .1) (omega arith), c .before .before .before .before .before .loop .inv .1)))
 
 enum-told : tie.Need-enum-told Inv-loop μ-loop
 enum-told c = search needs
@@ -74,7 +75,7 @@ same-length-3 : tie.Need-same-length-3 Inv-loop μ-loop
 same-length-3 c = search needs
 
 returns : tie.Need-returns Inv-loop μ-loop
-returns c = λ class. let a = c .before .before .before .before .before .before .before .before .before .before .before .before .before .before .before .before .before .before .before .args in ways.going-stop (a .limit) (a .level) (a .span) _ _ _ (c .before .before .before .before .before .before .before .before .before .before .before .before .before .before .loop .i) _ _ (c .before .before .before .before .before .before .before .before .before .before .before .before .before .before .loop .inv .0) (omega arith) _ (ways.word-kept (a .limit) (a .level) (a .span) _ _ _ (c .before .before .before .before .before .before .before .before .before .before .before .before .before .before .loop .i) _ _ (c .before .before .before .before .before .before .before .before .before .before .before .before .before .before .loop .inv .0) (257 + c .before .before .before .before .before .before .before .before .before .before .before .before .before .before .loop .i) (c .before .before .before .before .before .before .before .before .before .before .before .before .before .before .before .before .before .before .before .pre .1) (omega (arith, c .before .before .before .before .before .before .before .before .before .before .before .before .before .before .before .before .before .before .before .pre .0 .wf .fewUpvalues (a .level + 1) (c .before .before .before .before .before .before .before .before .before .before .before .before .before .before .before .before .before .before .before .pre .1), c .before .before .before .before .before .before .before .before .before .before .before .before .before .before .loop .inv .1))) (c .before .before .before .before .before .before .before .before .emit-pair .ensures) (c .enum-told2 .given .1)
+returns c = λ class. let a = c .before .before .before .before .before .before .before .before .before .before .before .before .before .before .before .before .before .before .before .args in ways.going-stop (a .limit) (a .level) (a .span) _ _ _ (c .before .before .before .before .before .before .before .before .before .before .before .before .before .before .loop .i) _ _ (c .before .before .before .before .before .before .before .before .before .before .before .before .before .before .loop .inv .0) (omega arith) _ (ways.word-kept (a .limit) (a .level) (a .span) _ _ _ (c .before .before .before .before .before .before .before .before .before .before .before .before .before .before .loop .i) _ _ (c .before .before .before .before .before .before .before .before .before .before .before .before .before .before .loop .inv .0) (upvalues-place + c .before .before .before .before .before .before .before .before .before .before .before .before .before .before .loop .i) (c .before .before .before .before .before .before .before .before .before .before .before .before .before .before .before .before .before .before .before .pre .1) (omega (arith, c .before .before .before .before .before .before .before .before .before .before .before .before .before .before .before .before .before .before .before .pre .0 .wf .fewUpvalues (a .level + 1) (c .before .before .before .before .before .before .before .before .before .before .before .before .before .before .before .before .before .before .before .pre .1), c .before .before .before .before .before .before .before .before .before .before .before .before .before .before .loop .inv .1))) (c .before .before .before .before .before .before .before .before .emit-pair .ensures) (c .enum-told2 .given .1)
 
 add-i : tie.Need-add-i Inv-loop μ-loop
 add-i c = omega (arith, c .before .before .before .before .before .before .before .before .before .before .before .before .before .before .before .before .before .before .before .pre .0 .wf .fewUpvalues (c .before .before .before .before .before .before .before .before .before .before .before .before .before .before .before .before .before .before .before .args .level + 1) (c .before .before .before .before .before .before .before .before .before .before .before .before .before .before .before .before .before .before .before .pre .1), c .before .before .before .before .before .before .before .before .before .before .before .before .before .before .loop .inv .1)
@@ -83,7 +84,7 @@ loop-less : tie.Need-loop-less Inv-loop μ-loop
 loop-less c = omega arith
 
 loop-again : tie.Need-loop-again Inv-loop μ-loop
-loop-again c = let a = c .before .before .before .before .before .before .before .before .before .before .before .before .before .before .before .before .before .before .before .args in (ways.going-on (a .limit) (a .level) (a .span) _ _ _ (c .before .before .before .before .before .before .before .before .before .before .before .before .before .before .loop .i) _ _ (c .before .before .before .before .before .before .before .before .before .before .before .before .before .before .loop .inv .0) (omega arith) _ (ways.word-kept (a .limit) (a .level) (a .span) _ _ _ (c .before .before .before .before .before .before .before .before .before .before .before .before .before .before .loop .i) _ _ (c .before .before .before .before .before .before .before .before .before .before .before .before .before .before .loop .inv .0) (257 + c .before .before .before .before .before .before .before .before .before .before .before .before .before .before .loop .i) (c .before .before .before .before .before .before .before .before .before .before .before .before .before .before .before .before .before .before .before .pre .1) (omega (arith, c .before .before .before .before .before .before .before .before .before .before .before .before .before .before .before .before .before .before .before .pre .0 .wf .fewUpvalues (a .level + 1) (c .before .before .before .before .before .before .before .before .before .before .before .before .before .before .before .before .before .before .before .pre .1), c .before .before .before .before .before .before .before .before .before .before .before .before .before .before .loop .inv .1))) (c .before .before .before .before .before .before .before .before .emit-pair .ensures) (c .enum-told .given .1), c .before .before .before .before .before .before .before .before .before .before .before .before .before .before .loop .inv .1, omega arith, omega (arith, c .before .before .before .before .before .before .before .before .emit-pair .kept .0, c .before .before .before .before .before .before .before .before .before .before .before .before .before .before .loop .inv .3), omega (arith, c .before .before .before .before .before .before .before .before .emit-pair .kept .1 .0, c .before .before .before .before .before .before .before .before .before .before .before .before .before .before .loop .inv .4), omega (arith, c .before .before .before .before .before .before .before .before .emit-pair .kept .1 .1 .0, c .before .before .before .before .before .before .before .before .before .before .before .before .before .before .loop .inv .5))
+loop-again c = let a = c .before .before .before .before .before .before .before .before .before .before .before .before .before .before .before .before .before .before .before .args in (ways.going-on (a .limit) (a .level) (a .span) _ _ _ (c .before .before .before .before .before .before .before .before .before .before .before .before .before .before .loop .i) _ _ (c .before .before .before .before .before .before .before .before .before .before .before .before .before .before .loop .inv .0) (omega arith) _ (ways.word-kept (a .limit) (a .level) (a .span) _ _ _ (c .before .before .before .before .before .before .before .before .before .before .before .before .before .before .loop .i) _ _ (c .before .before .before .before .before .before .before .before .before .before .before .before .before .before .loop .inv .0) (upvalues-place + c .before .before .before .before .before .before .before .before .before .before .before .before .before .before .loop .i) (c .before .before .before .before .before .before .before .before .before .before .before .before .before .before .before .before .before .before .before .pre .1) (omega (arith, c .before .before .before .before .before .before .before .before .before .before .before .before .before .before .before .before .before .before .before .pre .0 .wf .fewUpvalues (a .level + 1) (c .before .before .before .before .before .before .before .before .before .before .before .before .before .before .before .before .before .before .before .pre .1), c .before .before .before .before .before .before .before .before .before .before .before .before .before .before .loop .inv .1))) (c .before .before .before .before .before .before .before .before .emit-pair .ensures) (c .enum-told .given .1), c .before .before .before .before .before .before .before .before .before .before .before .before .before .before .loop .inv .1, omega arith, omega (arith, c .before .before .before .before .before .before .before .before .emit-pair .kept .0, c .before .before .before .before .before .before .before .before .before .before .before .before .before .before .loop .inv .3), omega (arith, c .before .before .before .before .before .before .before .before .emit-pair .kept .1 .0, c .before .before .before .before .before .before .before .before .before .before .before .before .before .before .loop .inv .4), omega (arith, c .before .before .before .before .before .before .before .before .emit-pair .kept .1 .1 .0, c .before .before .before .before .before .before .before .before .before .before .before .before .before .before .loop .inv .5))
 
 same-length-4 : tie.Need-same-length-4 Inv-loop μ-loop
 same-length-4 c = search needs

@@ -10,13 +10,14 @@ use Rattle.steps.specs.View.{mem, pops, Passing}
 use Rattle.steps.specs.declared.Popped.the-variants as popped
 use Rattle.steps.proofs.end_scope.Statement.{statement}
 use Rattle.steps.proofs.end_scope.Tie as tie
+use Rattle.state.specs.Layout.{level-words, local-count-place}
 
 abbrev Inv-loop : tie.InvT-loop
 Inv-loop t₀ code₀ spans₀ level limit span next depth t code spans =
     (Passing limit level (pops limit span) (mem t₀ code₀ spans₀) (mem t code spans)) × (length t ≡ length t₀) × (length code ≡ length code₀) × (length spans ≡ length spans₀)
 
 abbrev μ-loop : tie.MeasureT-loop
-μ-loop t₀ code₀ spans₀ level limit span next depth t code spans = getD t (level * 1024 + 256) 0
+μ-loop t₀ code₀ spans₀ level limit span next depth t code spans = getD t (level * level-words + local-count-place) 0
 
 mul-depth : tie.Need-mul-depth Inv-loop μ-loop
 mul-depth c = search needs
