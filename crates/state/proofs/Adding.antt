@@ -62,14 +62,17 @@ module _ (t : List ℕ) (l a b : ℕ) (bit : a < 2) (small : b < 256) (low : l <
 
   other : (w : ℕ) → w < 512 → (w ≡ a * 256 + b → ⊥) → same-upvalue u (upvalueOf w) ≡ false
   unfolding same-upvalue
-  other w half ne = and-false _ _ (λ x y. let q : b ≡ w % 256 = eqb-true _ _ x in let p : a ≡ w / 256 = one-bit a (w / 256) bit (omega arith) (alike-same (eqb a 1) (eqb (w / 256) 1) y) in ne (omega arith))
+  other w half ne = and-false _ _ (λ x y. let q : b ≡ w % 256 = eqb-true _ _ x in let p : a ≡ w / 256 = one-bit a (w / 256) bit (omega arith)
+      (alike-same (eqb a 1) (eqb (w / 256) 1) y) in ne (omega arith))
 
   -- an upvalue that stands there is one of two kinds
   half : (j : ℕ) → j < getD t (l * level-words + upvalue-count-place) 0 → getD t (l * level-words + upvalues-place + j) 0 < 512
-  half j h = let q : l * level-words + (upvalues-place + j) ≡ l * level-words + upvalues-place + j = omega arith in subst (λ (k : ℕ). getD t k 0 < 512) q (wf .pairs l (upvalues-place + j) low (omega arith) (omega arith))
+  half j h = let q : l * level-words + (upvalues-place + j) ≡ l * level-words + upvalues-place + j = omega arith in subst (λ (k : ℕ). getD t k 0 < 512) q
+      (wf .pairs l (upvalues-place + j) low (omega arith) (omega arith))
 
   module _ (r : ℕ) (found : First t (l * level-words + upvalues-place) (getD t (l * level-words + upvalue-count-place) 0) (a * 256 + b) r) where
-    by-place : (o : Option ℕ) → position (same-upvalue u) (upvaluesOf t l) ≡ o → (span : Span) (code spans : List ℕ) (ce re : ℕ) (above : List CompilerCtx) → add-upvalue u span (ctxAt t code spans l ce re) above ≡ added o u span (ctxAt t code spans l ce re) above
+    by-place : (o : Option ℕ) → position (same-upvalue u) (upvaluesOf t l) ≡ o → (span : Span) (code spans : List ℕ) (ce re : ℕ) (above : List CompilerCtx) →
+        add-upvalue u span (ctxAt t code spans l ce re) above ≡ added o u span (ctxAt t code spans l ce re) above
     unfolding add-upvalue ctxAt
     by-place o e span code spans ce re above = ap (λ (x : Option ℕ). added x u span (ctxAt t code spans l ce re) above) e
 
@@ -100,7 +103,9 @@ module _ (t : List ℕ) (l a b : ℕ) (bit : a < 2) (small : b < 256) (low : l <
         wf = wf;
       }
 
-      pub pushed : getD t (l * level-words + upvalue-count-place) 0 < 256 → Added t (set (set t (l * level-words + upvalues-place + getD t (l * level-words + upvalue-count-place) 0) (a * 256 + b)) (l * level-words + upvalue-count-place) (getD t (l * level-words + upvalue-count-place) 0 + 1)) l u (up.At (getD t (l * level-words + upvalue-count-place) 0))
+      pub pushed : getD t (l * level-words + upvalue-count-place) 0 < 256 → Added t
+          (set (set t (l * level-words + upvalues-place + getD t (l * level-words + upvalue-count-place) 0) (a * 256 + b))
+          (l * level-words + upvalue-count-place) (getD t (l * level-words + upvalue-count-place) 0 + 1)) l u (up.At (getD t (l * level-words + upvalue-count-place) 0))
       unfolding added ctxAt
       pushed m =
           let c : ℕ = l * level-words + upvalue-count-place in
@@ -108,13 +113,20 @@ module _ (t : List ℕ) (l a b : ℕ) (bit : a < 2) (small : b < 256) (low : l <
           let t₁ : List ℕ = set t (l * level-words + upvalues-place + k) (a * 256 + b) in
           let t′ : List ℕ = set t₁ c (k + 1) in
           let room : c < length t = omega (arith, wf .size) in
-          let kp : Kept (l * level-words + upvalues-place) (l * level-words + constants-place) t t′ = kept-then _ _ t t₁ _ _ (kept-set _ _ t _ _ (omega arith) (omega arith)) (omega arith) (omega arith) in
-          let at : (o : ℕ) → (upvalues-place ≤ o → o < constants-place → ⊥) → getD t′ (l * level-words + o) 0 ≡ getD t (l * level-words + o) 0 = λ o off. kept-off _ _ t t′ _ kp (λ x y. off (omega arith) (omega arith)) in
+          let kp : Kept (l * level-words + upvalues-place) (l * level-words + constants-place) t t′ = kept-then _ _ t t₁ _ _
+          (kept-set _ _ t _ _ (omega arith) (omega arith)) (omega arith) (omega arith) in
+          let at : (o : ℕ) → (upvalues-place ≤ o → o < constants-place → ⊥) → getD t′ (l * level-words + o) 0 ≡ getD t (l * level-words + o) 0 = λ o off.
+          kept-off _ _ t t′ _ kp (λ x y. off (omega arith) (omega arith)) in
           let w : upvalueOf (a * 256 + b) ≡ u = λ i. record { idx = digits-mod a small i; is-local = eqb (digits-div a small i) 1 } in
           let us : upvaluesOf t′ l ≡ upvaluesOf t l ++ (u ∷ []) = push-vec upvalueOf t _ c (a * 256 + b) (omega arith) room ∙ ap (λ (x : Upvalue). upvaluesOf t l ++ (x ∷ [])) w in
           let half′ : (o : ℕ) → upvalues-place ≤ o → o < upvalues-place + (k + 1) → getD t₁ (l * level-words + o) 0 < 512 = λ o x y.
-          ⊎-elim (λ (g : o < upvalues-place + k). omega (arith, few-set 511 t (l * level-words + upvalues-place + k) (a * 256 + b) (l * level-words + o) (omega arith) (omega (arith, wf .pairs l o low x g))))
-          (λ (g : upvalues-place + k ≤ o). let e : l * level-words + upvalues-place + k ≡ l * level-words + o = omega arith in subst (λ (j : ℕ). getD t₁ j 0 < 512) e (omega (arith, getD-set-same t (l * level-words + upvalues-place + k) (a * 256 + b) 0 (omega arith))))
+          ⊎-elim (λ (g : o < upvalues-place + k). omega (
+            arith,
+            few-set 511 t (l * level-words + upvalues-place + k) (a * 256 + b) (l * level-words + o)
+                (omega arith) (omega (arith, wf .pairs l o low x g)),
+          ))
+          (λ (g : upvalues-place + k ≤ o). let e : l * level-words + upvalues-place + k ≡ l * level-words + o = omega arith in subst
+          (λ (j : ℕ). getD t₁ j 0 < 512) e (omega (arith, getD-set-same t (l * level-words + upvalues-place + k) (a * 256 + b) 0 (omega arith))))
           (lt-or-le o (upvalues-place + k)) in
           let len : length (upvaluesOf t l) ≡ k = length-row _ _ in
           let ctx : (code spans : List ℕ) (ce re : ℕ) → ctxAt t′ code spans l ce re ≡ with-upvalues (ctxAt t code spans l ce re) (upvaluesOf t l ++ (u ∷ [])) = λ code spans ce re.
@@ -123,8 +135,11 @@ module _ (t : List ℕ) (l a b : ℕ) (bit : a < 2) (small : b < 256) (low : l <
           (locals-same t t′ l (wf .fewLocals l low) (λ o x. at o (λ p q. omega arith)))
           us (at depth-place (λ p q. omega arith)) in
           record {
-            does = λ span nm code spans ce re above. ap₂ (λ (n : ℕ) (x : CompilerCtx). captured n x above) (sym len) (ctx code spans ce re) ∙ sym (by-place nothing none span code spans ce re above ∙ if-true _ _ _ (counted true (lt-ltb _ _ m)));
+            does = λ span nm code spans ce re above. ap₂ (λ (n : ℕ) (x : CompilerCtx). captured n x above) (sym len) (ctx code spans ce re) ∙ sym
+                (by-place nothing none span code spans ce re above ∙ if-true _ _ _ (counted true (lt-ltb _ _ m)));
             some = λ e. let z : _≡_ {A = ℕ} 0 1 = cc in omega arith;
             kept = kp;
-            wf = wf-upvalues t₁ l (k + 1) low (omega arith) half′ (subst (λ (j : ℕ). Wf (set t j (a * 256 + b))) (omega arith) (wf-entry t l (upvalues-place + k) _ (omega arith) (λ p q. omega arith) (λ e. omega arith) (λ e. omega arith) (λ e. omega arith) (λ e. omega arith) wf));
+            wf = wf-upvalues t₁ l (k + 1) low (omega arith) half′
+                (subst (λ (j : ℕ). Wf (set t j (a * 256 + b))) (omega arith)
+                (wf-entry t l (upvalues-place + k) _ (omega arith) (λ p q. omega arith) (λ e. omega arith) (λ e. omega arith) (λ e. omega arith) (λ e. omega arith) wf));
           }

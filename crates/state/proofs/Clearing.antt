@@ -44,7 +44,8 @@ module _ (t : List ℕ) (l : ℕ) (low : l < levels) (size : length t ≡ table-
       constants = zero-still t₃ _ _ (getD-set-same t₂ _ 0 0 (omega (arith, n₂)));
       depth = getD-set-same t₃ _ 0 0 (omega (arith, n₃));
     };
-    kept = kept-then _ _ t t₃ _ _ (kept-then _ _ t t₂ _ _ (kept-then _ _ t t₁ _ _ (kept-set _ _ t _ _ (omega arith) (omega arith)) (omega arith) (omega arith)) (omega arith) (omega arith)) (omega arith) (omega arith);
+    kept = kept-then _ _ t t₃ _ _ (kept-then _ _ t t₂ _ _ (kept-then _ _ t t₁ _ _ (kept-set _ _ t _ _ (omega arith) (omega arith)) (omega arith) (omega arith))
+        (omega arith) (omega arith)) (omega arith) (omega arith);
   }
 
 still-empty : (t t′ : List ℕ) (l k : ℕ) → Kept (l * level-words) (l * level-words + level-words) t t′ → k < l → Empty t k → Empty t′ k

@@ -57,12 +57,15 @@ module _ (t : List ℕ) (l nm : ℕ) (short : nm < 65536) (low : l < levels) (wf
     pub full : 256 ≤ getD t (l * level-words + local-count-place) 0 → DeclaredAt t t l nm decl.Full
     full m = record { does = (c, omega (arith, length-stack (λ i. localOf (getD t (l * level-words + i) 0)) (getD t (l * level-words + local-count-place) 0))); kept = kept-same _ _ t; wf = wf }
 
-    pub pushed : getD t (l * level-words + local-count-place) 0 < 256 → DeclaredAt t (set (set t (l * level-words + getD t (l * level-words + local-count-place) 0) (getD t (l * level-words + depth-place) 0 * 262144 + nm)) (l * level-words + local-count-place) (getD t (l * level-words + local-count-place) 0 + 1)) l nm decl.Done
+    pub pushed : getD t (l * level-words + local-count-place) 0 < 256 → DeclaredAt t
+        (set (set t (l * level-words + getD t (l * level-words + local-count-place) 0) (getD t (l * level-words + depth-place) 0 * 262144 + nm))
+        (l * level-words + local-count-place) (getD t (l * level-words + local-count-place) 0 + 1)) l nm decl.Done
     pushed m =
         let n : ℕ = getD t (l * level-words + local-count-place) 0 in
         let d : ℕ = getD t (l * level-words + depth-place) 0 in
         let t₁ : List ℕ = set t (l * level-words + n) (d * 262144 + nm) in
-        let ls = push-pile localOf t (l * level-words) (l * level-words + local-count-place) (d * 262144 + nm) (omega arith) (omega (arith, wf .size)) ∙ ap (λ (x : Local). x ∷ localsOf t l) (new-local nm d short) in
+        let ls = push-pile localOf t (l * level-words) (l * level-words + local-count-place) (d * 262144 + nm) (omega arith) (omega (arith, wf .size)) ∙ ap
+        (λ (x : Local). x ∷ localsOf t l) (new-local nm d short) in
         record {
           does = (c, omega (arith, length-stack (λ i. localOf (getD t (l * level-words + i) 0)) (getD t (l * level-words + local-count-place) 0)), ls);
           kept = kept-then _ _ t t₁ _ _ (kept-set _ _ t _ _ (omega arith) (omega arith)) (omega arith) (omega arith);
@@ -96,11 +99,19 @@ module _ (t : List ℕ) (l : ℕ) (low : l < levels) (wf : Wf t) where
 
   module _ (n : ℕ) (e : getD t (l * level-words + local-count-place) 0 ≡ suc n) where
     -- the newest local's word may change to one that reads as initialized
-    locals-ready : (t′ : List ℕ) → getD t′ (l * level-words + local-count-place) 0 ≡ getD t (l * level-words + local-count-place) 0 → ((i : ℕ) → i < n → getD t′ (l * level-words + i) 0 ≡ getD t (l * level-words + i) 0)
-        → localOf (getD t′ (l * level-words + n) 0) ≡ record { name = localOf (getD t (l * level-words + n) 0) .name; depth = localOf (getD t (l * level-words + n) 0) .depth; is-initialized = true; is-captured = localOf (getD t (l * level-words + n) 0) .is-captured }
+    locals-ready : (t′ : List ℕ) → getD t′ (l * level-words + local-count-place) 0 ≡ getD t (l * level-words + local-count-place) 0 →
+        ((i : ℕ) → i < n → getD t′ (l * level-words + i) 0 ≡ getD t (l * level-words + i) 0)
+        → localOf (getD t′ (l * level-words + n) 0) ≡ record {
+          name = localOf (getD t (l * level-words + n) 0) .name;
+          depth = localOf (getD t (l * level-words + n) 0) .depth;
+          is-initialized = true;
+          is-captured
+              = localOf (getD t (l * level-words + n) 0) .is-captured;
+        }
         → localsOf t′ l ≡ initialize (localsOf t l)
     unfolding initialize stack
-    locals-ready t′ c old new = ap (stack _) (c ∙ e) ∙ ap₂ _∷_ new (stack-cong _ _ _ (λ i h. ap localOf (old i h))) ∙ sym (ap (λ (k : ℕ). initialize (stack (λ i. localOf (getD t (l * level-words + i) 0)) k)) e)
+    locals-ready t′ c old new = ap (stack _) (c ∙ e) ∙ ap₂ _∷_ new (stack-cong _ _ _ (λ i h. ap localOf (old i h))) ∙ sym
+        (ap (λ (k : ℕ). initialize (stack (λ i. localOf (getD t (l * level-words + i) 0)) k)) e)
 
     pub define-again : (getD t (l * level-words + n) 0 / 65536 % 2 ≡ 0 → ⊥) → DefinedAt t t l
     define-again z = record { does = locals-ready t refl (λ i h. refl) (readied-local _ z); kept = kept-same _ _ t; wf = wf }
@@ -129,7 +140,8 @@ module _ (t : List ℕ) (l : ℕ) (low : l < levels) (wf : Wf t) where
         record {
           does = ap (stack (λ i. localOf (getD t (l * level-words + i) 0))) e
               ∙ ap (λ (xs : List Local). localOf (getD t (l * level-words + n) 0) ∷ xs)
-              (stack-cong _ _ n (λ i (h : i < n). ap localOf (sym (getD-set-other t (l * level-words + local-count-place) (l * level-words + i) n 0 (omega arith)))) ∙ ap (stack (λ i. localOf (getD t′ (l * level-words + i) 0))) (sym c));
+              (stack-cong _ _ n (λ i (h : i < n). ap localOf
+              (sym (getD-set-other t (l * level-words + local-count-place) (l * level-words + i) n 0 (omega arith)))) ∙ ap (stack (λ i. localOf (getD t′ (l * level-words + i) 0))) (sym c));
           kept = kept-set _ _ t _ _ (omega arith) (omega arith);
           fewer = omega arith;
           wf = wf-count t l local-count-place n (omega arith) (λ e. omega arith) (omega arith) wf;

@@ -94,7 +94,8 @@ row-last : {A : Type 0} (f : ℕ → A) (n k : ℕ) → n ≡ suc k → row f n 
 row-last f n k e = ap (row f) e ∙ row-snoc f k
 
 -- the last run grows
-runs-grow : (spans : List ℕ) (rs m : ℕ) (span : Span) → rs < m → m * 3 ≤ length spans → grows span (runAt spans (m - 1)) ≡ true → row (λ i. runAt (set spans ((m - 1) * 3 + 2) (getD spans ((m - 1) * 3 + 2) 0 + 1)) (rs + i)) (m - rs) ≡ push-span (row (λ i. runAt spans (rs + i)) (m - rs)) span
+runs-grow : (spans : List ℕ) (rs m : ℕ) (span : Span) → rs < m → m * 3 ≤ length spans → grows span (runAt spans (m - 1)) ≡ true → row
+    (λ i. runAt (set spans ((m - 1) * 3 + 2) (getD spans ((m - 1) * 3 + 2) 0 + 1)) (rs + i)) (m - rs) ≡ push-span (row (λ i. runAt spans (rs + i)) (m - rs)) span
 runs-grow spans rs m span h r g =
     let a : m - rs ≡ suc (m - 1 - rs) = omega arith in
     let b : rs + (m - 1 - rs) ≡ m - 1 = omega arith in
@@ -103,7 +104,8 @@ runs-grow spans rs m span h r g =
     let c₀ : getD sp ((m - 1) * 3) 0 ≡ getD spans ((m - 1) * 3) 0 = getD-set-other spans ((m - 1) * 3 + 2) ((m - 1) * 3) v 0 (omega arith) in
     let c₁ : getD sp ((m - 1) * 3 + 1) 0 ≡ getD spans ((m - 1) * 3 + 1) 0 = getD-set-other spans ((m - 1) * 3 + 2) ((m - 1) * 3 + 1) v 0 (omega arith) in
     let c₂ : getD sp ((m - 1) * 3 + 2) 0 ≡ getD spans ((m - 1) * 3 + 2) 0 + 1 = getD-set-same spans ((m - 1) * 3 + 2) v 0 (omega arith) in
-    let new : runAt sp (rs + (m - 1 - rs)) ≡ record { span = runAt spans (m - 1) .span; count = getD spans ((m - 1) * 3 + 2) 0 + 1 } = ap (runAt sp) b ∙ (λ i. record { span = record { start = c₀ i; end = c₁ i }; count = c₂ i }) in
+    let new : runAt sp (rs + (m - 1 - rs)) ≡ record { span = runAt spans (m - 1) .span; count = getD spans ((m - 1) * 3 + 2) 0 + 1 } = ap (runAt sp) b ∙
+    (λ i. record { span = record { start = c₀ i; end = c₁ i }; count = c₂ i }) in
     let old : row (λ i. runAt sp (rs + i)) (m - 1 - rs) ≡ row (λ i. runAt spans (rs + i)) (m - 1 - rs) = row-cong _ _ _ (λ i (l : i < m - 1 - rs). run-same spans sp (rs + i)
     (getD-set-other spans ((m - 1) * 3 + 2) ((rs + i) * 3) v 0 (omega arith))
     (getD-set-other spans ((m - 1) * 3 + 2) ((rs + i) * 3 + 1) v 0 (omega arith))
@@ -114,7 +116,8 @@ runs-grow spans rs m span h r g =
     ∙ ap (λ (xs : List Run). push-span xs span) (sym (row-last (λ i. runAt spans (rs + i)) (m - rs) (m - 1 - rs) a))
 
 -- a run more
-fresh-after : (spans : List ℕ) (rs m k : ℕ) (span : Span) → m - rs ≡ k → last-grows spans rs m span ≡ false → push-span (row (λ i. runAt spans (rs + i)) k) span ≡ row (λ i. runAt spans (rs + i)) k ++ (record { span = span; count = 1 } ∷ [])
+fresh-after : (spans : List ℕ) (rs m k : ℕ) (span : Span) → m - rs ≡ k → last-grows spans rs m span ≡ false → push-span (row (λ i. runAt spans (rs + i)) k) span
+    ≡ row (λ i. runAt spans (rs + i)) k ++ (record { span = span; count = 1 } ∷ [])
 unfolding row push-span
 fresh-after spans rs m zero span q g = refl
 fresh-after spans rs m (suc k) span q g =
@@ -122,9 +125,11 @@ fresh-after spans rs m (suc k) span q g =
     let h : rs < m = omega arith in
     let g′ : grows span (runAt spans (rs + k)) ≡ false = ap (λ (x : ℕ). grows span (runAt spans x)) (sym b) ∙ and-not (ltb rs m) _ (lt-ltb _ _ h) g in
     let e = row-snoc (λ i. runAt spans (rs + i)) k in
-    ap (λ (xs : List Run). push-span xs span) e ∙ push-fresh (row (λ i. runAt spans (rs + i)) k) (runAt spans (rs + k)) span g′ ∙ ap (λ (xs : List Run). xs ++ (record { span = span; count = 1 } ∷ [])) (sym e)
+    ap (λ (xs : List Run). push-span xs span) e ∙ push-fresh (row (λ i. runAt spans (rs + i)) k) (runAt spans (rs + k)) span g′ ∙ ap
+    (λ (xs : List Run). xs ++ (record { span = span; count = 1 } ∷ [])) (sym e)
 
-runs-fresh : (spans : List ℕ) (rs m : ℕ) (span : Span) → rs ≤ m → m * 3 + 3 ≤ length spans → last-grows spans rs m span ≡ false → row (λ i. runAt (set (set (set spans (m * 3) (span .start)) (m * 3 + 1) (span .end)) (m * 3 + 2) 1) (rs + i)) (m + 1 - rs) ≡ push-span (row (λ i. runAt spans (rs + i)) (m - rs)) span
+runs-fresh : (spans : List ℕ) (rs m : ℕ) (span : Span) → rs ≤ m → m * 3 + 3 ≤ length spans → last-grows spans rs m span ≡ false → row
+    (λ i. runAt (set (set (set spans (m * 3) (span .start)) (m * 3 + 1) (span .end)) (m * 3 + 2) 1) (rs + i)) (m + 1 - rs) ≡ push-span (row (λ i. runAt spans (rs + i)) (m - rs)) span
 runs-fresh spans rs m span h r g =
     let s : ℕ = span .start in
     let e : ℕ = span .end in
@@ -135,12 +140,15 @@ runs-fresh spans rs m span h r g =
     let s₃ : List ℕ = set s₂ (m * 3 + 2) 1 in
     let n₁ : length s₁ ≡ length spans = length-set spans (m * 3) s in
     let n₂ : length s₂ ≡ length spans = length-set s₁ (m * 3 + 1) e ∙ n₁ in
-    let off : (i : ℕ) → i < m * 3 → getD s₃ i 0 ≡ getD spans i 0 = λ i l. getD-set-other s₂ (m * 3 + 2) i 1 0 (omega arith) ∙ getD-set-other s₁ (m * 3 + 1) i e 0 (omega arith) ∙ getD-set-other spans (m * 3) i s 0 (omega arith) in
-    let c₀ : getD s₃ (m * 3) 0 ≡ s = getD-set-other s₂ (m * 3 + 2) (m * 3) 1 0 (omega arith) ∙ getD-set-other s₁ (m * 3 + 1) (m * 3) e 0 (omega arith) ∙ getD-set-same spans (m * 3) s 0 (omega arith) in
+    let off : (i : ℕ) → i < m * 3 → getD s₃ i 0 ≡ getD spans i 0 = λ i l. getD-set-other s₂ (m * 3 + 2) i 1 0 (omega arith) ∙ getD-set-other s₁ (m * 3 + 1) i e
+    0 (omega arith) ∙ getD-set-other spans (m * 3) i s 0 (omega arith) in
+    let c₀ : getD s₃ (m * 3) 0 ≡ s = getD-set-other s₂ (m * 3 + 2) (m * 3) 1 0 (omega arith) ∙ getD-set-other s₁ (m * 3 + 1) (m * 3) e 0 (omega arith) ∙
+    getD-set-same spans (m * 3) s 0 (omega arith) in
     let c₁ : getD s₃ (m * 3 + 1) 0 ≡ e = getD-set-other s₂ (m * 3 + 2) (m * 3 + 1) 1 0 (omega arith) ∙ getD-set-same s₁ (m * 3 + 1) e 0 (omega arith) in
     let c₂ : getD s₃ (m * 3 + 2) 0 ≡ 1 = getD-set-same s₂ (m * 3 + 2) 1 0 (omega arith) in
     let new : runAt s₃ (rs + (m - rs)) ≡ record { span = span; count = 1 } = ap (runAt s₃) b ∙ (λ i. record { span = record { start = c₀ i; end = c₁ i }; count = c₂ i }) in
-    let old : row (λ i. runAt s₃ (rs + i)) (m - rs) ≡ row (λ i. runAt spans (rs + i)) (m - rs) = row-cong _ _ _ (λ i (l : i < m - rs). run-same spans s₃ (rs + i) (off ((rs + i) * 3) (omega arith)) (off ((rs + i) * 3 + 1) (omega arith)) (off ((rs + i) * 3 + 2) (omega arith))) in
+    let old : row (λ i. runAt s₃ (rs + i)) (m - rs) ≡ row (λ i. runAt spans (rs + i)) (m - rs) = row-cong _ _ _
+    (λ i (l : i < m - rs). run-same spans s₃ (rs + i) (off ((rs + i) * 3) (omega arith)) (off ((rs + i) * 3 + 1) (omega arith)) (off ((rs + i) * 3 + 2) (omega arith))) in
     row-last (λ i. runAt s₃ (rs + i)) (m + 1 - rs) (m - rs) a ∙ ap₂ (λ (xs : List Run) (x : Run). xs ++ (x ∷ [])) old new ∙ sym (fresh-after spans rs m (m - rs) span refl g)
 
 -- ## emit_u8's ways out
@@ -158,16 +166,20 @@ module _ (t code spans : List ℕ) (l limit byte : ℕ) (span : Span) (low : l <
 
   module _ (h : codeEnd t < limit) where
     -- whatever becomes of the runs
-    changed : (t′ spans′ : List ℕ) (re′ : ℕ) → Kept code-end-at image-at t t′ → row (λ i. runAt spans′ (runsFrom t l + i)) (re′ - runsFrom t l) ≡ push-span (row (λ i. runAt spans (runsFrom t l + i)) (runsEnd t - runsFrom t l)) span → codeEnd t′ ≡ codeEnd t + 1 → runsEnd t′ ≡ re′ → top-chunk t′ (set code (codeEnd t) byte) spans′ l ≡ write-u8 (top-chunk t code spans l) byte span
+    changed : (t′ spans′ : List ℕ) (re′ : ℕ) → Kept code-end-at image-at t t′ → row (λ i. runAt spans′ (runsFrom t l + i)) (re′ - runsFrom t l) ≡ push-span
+        (row (λ i. runAt spans (runsFrom t l + i)) (runsEnd t - runsFrom t l)) span → codeEnd t′ ≡ codeEnd t + 1 → runsEnd t′ ≡ re′ → top-chunk t′
+        (set code (codeEnd t) byte) spans′ l ≡ write-u8 (top-chunk t code spans l) byte span
     unfolding chunkAt write-u8
     changed t′ spans′ re′ kp runs ce re =
         let at : (o : ℕ) → o < level-words → getD t′ (l * level-words + o) 0 ≡ getD t (l * level-words + o) 0 = λ o b. kept-off _ _ t t′ _ kp (λ x y. omega arith) in
         ap₂ (chunkAt t′ (set code (codeEnd t) byte) spans′ l) ce re
-        ∙ chunk-paths t code spans t′ (set code (codeEnd t) byte) spans′ l (codeEnd t) (runsEnd t) (codeEnd t + 1) re′ _ (constants-same t t′ l (wf .fewConstants l low) (λ o a b. at o (omega arith))) (at code-from-place (omega arith)) (at runs-from-place (omega arith))
+        ∙ chunk-paths t code spans t′ (set code (codeEnd t) byte) spans′ l (codeEnd t) (runsEnd t) (codeEnd t + 1) re′ _
+        (constants-same t t′ l (wf .fewConstants l low) (λ o a b. at o (omega arith))) (at code-from-place (omega arith)) (at runs-from-place (omega arith))
         _ (code-more code (codeFrom t l) (codeEnd t) byte (ok .top) (omega (arith, ok .roomCode))) _ runs
 
     -- the invariant, after
-    kept-coded : (t′ spans′ : List ℕ) (re′ : ℕ) → Kept code-end-at image-at t t′ → length spans′ ≡ length spans → codeEnd t′ ≡ codeEnd t + 1 → runsEnd t′ ≡ re′ → runsEnd t ≤ re′ → re′ ≤ codeEnd t + 1 → Coded t′ (set code (codeEnd t) byte) spans′ l limit
+    kept-coded : (t′ spans′ : List ℕ) (re′ : ℕ) → Kept code-end-at image-at t t′ → length spans′ ≡ length spans → codeEnd t′ ≡ codeEnd t + 1 → runsEnd t′ ≡ re′
+        → runsEnd t ≤ re′ → re′ ≤ codeEnd t + 1 → Coded t′ (set code (codeEnd t) byte) spans′ l limit
     kept-coded t′ spans′ re′ kp ns ce re ge le =
         let at : (k o : ℕ) → k < levels → o < level-words → getD t′ (k * level-words + o) 0 ≡ getD t (k * level-words + o) 0 = λ k o a b. kept-off _ _ t t′ _ kp (λ x y. omega arith) in
         let f = at l code-from-place low (omega arith) in
@@ -185,7 +197,8 @@ module _ (t code spans : List ℕ) (l limit byte : ℕ) (span : Span) (low : l <
           orderRuns = λ k z. omega (arith, at k runs-from-place (omega arith) (omega arith), at (suc k) runs-from-place (omega arith) (omega arith), ok .orderRuns k z);
         }
 
-    pub grown : last-grows spans (runsFrom t l) (runsEnd t) span ≡ true → Wrote t code spans (set t code-end-at (codeEnd t + 1)) (set code (codeEnd t) byte) (set spans ((runsEnd t - 1) * 3 + 2) (getD spans ((runsEnd t - 1) * 3 + 2) 0 + 1)) l limit byte span emitted.Done
+    pub grown : last-grows spans (runsFrom t l) (runsEnd t) span ≡ true → Wrote t code spans (set t code-end-at (codeEnd t + 1)) (set code (codeEnd t) byte)
+        (set spans ((runsEnd t - 1) * 3 + 2) (getD spans ((runsEnd t - 1) * 3 + 2) 0 + 1)) l limit byte span emitted.Done
     grown g =
         let t′ : List ℕ = set t code-end-at (codeEnd t + 1) in
         let v : ℕ = getD spans ((runsEnd t - 1) * 3 + 2) 0 + 1 in
@@ -205,7 +218,9 @@ module _ (t code spans : List ℕ) (l limit byte : ℕ) (span : Span) (low : l <
           wf = wf-plain t levels 0 _ (omega arith) (λ a b. omega arith) (λ z. omega arith) (λ z. omega arith) wf;
         }
 
-    pub fresh : last-grows spans (runsFrom t l) (runsEnd t) span ≡ false → Wrote t code spans (set (set t code-end-at (codeEnd t + 1)) runs-end-at (runsEnd t + 1)) (set code (codeEnd t) byte) (set (set (set spans (runsEnd t * 3) (span .start)) (runsEnd t * 3 + 1) (span .end)) (runsEnd t * 3 + 2) 1) l limit byte span emitted.Done
+    pub fresh : last-grows spans (runsFrom t l) (runsEnd t) span ≡ false → Wrote t code spans
+        (set (set t code-end-at (codeEnd t + 1)) runs-end-at (runsEnd t + 1)) (set code (codeEnd t) byte)
+        (set (set (set spans (runsEnd t * 3) (span .start)) (runsEnd t * 3 + 1) (span .end)) (runsEnd t * 3 + 2) 1) l limit byte span emitted.Done
     fresh g =
         let m : ℕ = runsEnd t in
         let t₂ : List ℕ = set t code-end-at (codeEnd t + 1) in
@@ -221,8 +236,10 @@ module _ (t code spans : List ℕ) (l limit byte : ℕ) (span : Span) (low : l <
         record {
           does = (h, changed t′ spans′ (m + 1) kp (runs-fresh spans (runsFrom t l) m span (ok .topRuns) room g) ce re);
           codeKept = λ i z. getD-set-other code (codeEnd t) i byte 0 (omega arith);
-          runsKept = λ i z. getD-set-other s₂ (m * 3 + 2) i 1 0 (omega (arith, ok .topRuns)) ∙ getD-set-other s₁ (m * 3 + 1) i (span .end) 0 (omega (arith, ok .topRuns)) ∙ getD-set-other spans (m * 3) i (span .start) 0 (omega (arith, ok .topRuns));
+          runsKept = λ i z. getD-set-other s₂ (m * 3 + 2) i 1 0 (omega (arith, ok .topRuns)) ∙ getD-set-other s₁ (m * 3 + 1) i (span .end) 0
+              (omega (arith, ok .topRuns)) ∙ getD-set-other spans (m * 3) i (span .start) 0 (omega (arith, ok .topRuns));
           kept = kp;
           coded = kept-coded t′ spans′ (m + 1) kp ns ce re (omega arith) (omega (arith, ok .fewer));
-          wf = wf-plain t₂ levels 1 _ (omega arith) (λ a b. omega arith) (λ z. omega arith) (λ z. omega arith) (wf-plain t levels 0 _ (omega arith) (λ a b. omega arith) (λ z. omega arith) (λ z. omega arith) wf);
+          wf = wf-plain t₂ levels 1 _ (omega arith) (λ a b. omega arith) (λ z. omega arith) (λ z. omega arith)
+              (wf-plain t levels 0 _ (omega arith) (λ a b. omega arith) (λ z. omega arith) (λ z. omega arith) wf);
         }

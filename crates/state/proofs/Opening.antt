@@ -26,7 +26,8 @@ closed t l low wf =
       code = getD-set-other t₁ runs-end-at code-end-at (runsFrom t l) 0 (omega arith) ∙ getD-set-same t code-end-at (codeFrom t l) 0 (omega (arith, wf .size));
       runs = getD-set-same t₁ runs-end-at (runsFrom t l) 0 (omega (arith, wf .size, length-set t code-end-at (codeFrom t l)));
       kept = kept-then _ _ t t₁ _ _ (kept-set _ _ t _ _ (omega arith) (omega arith)) (omega arith) (omega arith);
-      wf = wf-plain t₁ levels 1 _ (omega arith) (λ a b. omega arith) (λ z. omega arith) (λ z. omega arith) (wf-plain t levels 0 _ (omega arith) (λ a b. omega arith) (λ z. omega arith) (λ z. omega arith) wf);
+      wf = wf-plain t₁ levels 1 _ (omega arith) (λ a b. omega arith) (λ z. omega arith) (λ z. omega arith)
+          (wf-plain t levels 0 _ (omega arith) (λ a b. omega arith) (λ z. omega arith) (λ z. omega arith) wf);
     }
 
 none-row : {A : Type 0} (f : ℕ → A) (n : ℕ) → n ≡ 0 → row f n ≡ []
@@ -111,7 +112,9 @@ module _ (t : List ℕ) (l name arity kind : ℕ) (low : l + 1 < levels) (wf : W
   kp : Kept b (b + level-words) t t₉
   kp =
       kept-then _ _ t t₈ _ _ (kept-then _ _ t t₇ _ _ (kept-then _ _ t t₆ _ _
-      (kept-then _ _ t t₅ _ _ (kept-then _ _ t t₄ _ _ (kept-then _ _ t t₃ _ _ (kept-then _ _ t t₂ _ _ (kept-then _ _ t t₁ _ _ (kept-set _ _ t _ _ (omega arith) (omega arith)) (omega arith) (omega arith)) (omega arith) (omega arith)) (omega arith) (omega arith)) (omega arith) (omega arith)) (omega arith) (omega arith))
+      (kept-then _ _ t t₅ _ _ (kept-then _ _ t t₄ _ _ (kept-then _ _ t t₃ _ _
+      (kept-then _ _ t t₂ _ _ (kept-then _ _ t t₁ _ _ (kept-set _ _ t _ _ (omega arith) (omega arith)) (omega arith) (omega arith)) (omega arith)
+      (omega arith)) (omega arith) (omega arith)) (omega arith) (omega arith)) (omega arith) (omega arith))
       (omega arith) (omega arith)) (omega arith) (omega arith)) (omega arith) (omega arith)
 
   wf₉ : Wf t₉
@@ -121,26 +124,31 @@ module _ (t : List ℕ) (l name arity kind : ℕ) (low : l + 1 < levels) (wf : W
       (wf-plain t₆ (l + 1) name-place _ (omega arith) (λ x y. omega arith) (λ z. omega arith) (λ z. omega arith)
       (wf-plain t₅ (l + 1) runs-from-place _ (omega arith) (λ x y. omega arith) (λ z. omega arith) (λ z. omega arith)
       (wf-plain t₄ (l + 1) code-from-place _ (omega arith) (λ x y. omega arith) (λ z. omega arith) (λ z. omega arith)
-      (wf-depth t₃ (l + 1) _ (omega arith) (wf-count t₂ (l + 1) constant-count-place 0 (omega arith) (λ e. omega arith) (omega arith) (wf-upvalues t₁ (l + 1) 0 low (omega arith) (λ o x y. absurd (omega arith)) (wf-count t (l + 1) local-count-place 0 (omega arith) (λ e. omega arith) (omega arith) wf))))))))
+      (wf-depth t₃ (l + 1) _ (omega arith) (wf-count t₂ (l + 1) constant-count-place 0 (omega arith) (λ e. omega arith) (omega arith)
+      (wf-upvalues t₁ (l + 1) 0 low (omega arith) (λ o x y. absurd (omega arith)) (wf-count t (l + 1) local-count-place 0 (omega arith) (λ e. omega arith) (omega arith) wf))))))))
 
   -- the last three stores, and the last six, keep off what is below them
   o₉ : (o : ℕ) → o < name-place → getD t₉ (b + o) 0 ≡ getD t₆ (b + o) 0
   o₉ o h = put-other b t₈ type-place kind o (λ z. omega arith) ∙ put-other b t₇ arity-place arity o (λ z. omega arith) ∙ put-other b t₆ name-place name o (λ z. omega arith)
 
   o₆ : (o : ℕ) → o < depth-place → getD t₆ (b + o) 0 ≡ getD t₃ (b + o) 0
-  o₆ o h = put-other b t₅ runs-from-place (runsEnd t) o (λ z. omega arith) ∙ put-other b t₄ code-from-place (codeEnd t) o (λ z. omega arith) ∙ put-other b t₃ depth-place (getD t (l * level-words + depth-place) 0 + 1) o (λ z. omega arith)
+  o₆ o h = put-other b t₅ runs-from-place (runsEnd t) o (λ z. omega arith) ∙ put-other b t₄ code-from-place (codeEnd t) o (λ z. omega arith) ∙ put-other b t₃
+      depth-place (getD t (l * level-words + depth-place) 0 + 1) o (λ z. omega arith)
 
   v₁ : getD t₉ (b + local-count-place) 0 ≡ 0
-  v₁ = o₉ local-count-place (omega arith) ∙ o₆ local-count-place (omega arith) ∙ put-other b t₂ constant-count-place 0 local-count-place (λ z. omega arith) ∙ put-other b t₁ upvalue-count-place 0 local-count-place (λ z. omega arith) ∙ put-same b t 256 0 (omega (arith, wf .size))
+  v₁ = o₉ local-count-place (omega arith) ∙ o₆ local-count-place (omega arith) ∙ put-other b t₂ constant-count-place 0 local-count-place (λ z. omega arith) ∙
+      put-other b t₁ upvalue-count-place 0 local-count-place (λ z. omega arith) ∙ put-same b t 256 0 (omega (arith, wf .size))
 
   v₂ : getD t₉ (b + upvalue-count-place) 0 ≡ 0
-  v₂ = o₉ upvalue-count-place (omega arith) ∙ o₆ upvalue-count-place (omega arith) ∙ put-other b t₂ constant-count-place 0 upvalue-count-place (λ z. omega arith) ∙ put-same b t₁ upvalue-count-place 0 (omega (arith, n₁))
+  v₂ = o₉ upvalue-count-place (omega arith) ∙ o₆ upvalue-count-place (omega arith) ∙ put-other b t₂ constant-count-place 0 upvalue-count-place
+      (λ z. omega arith) ∙ put-same b t₁ upvalue-count-place 0 (omega (arith, n₁))
 
   v₃ : getD t₉ (b + constant-count-place) 0 ≡ 0
   v₃ = o₉ constant-count-place (omega arith) ∙ o₆ constant-count-place (omega arith) ∙ put-same b t₂ constant-count-place 0 (omega (arith, n₂))
 
   v₄ : getD t₉ (b + depth-place) 0 ≡ getD t (l * level-words + depth-place) 0 + 1
-  v₄ = o₉ depth-place (omega arith) ∙ put-other b t₅ runs-from-place (runsEnd t) depth-place (λ z. omega arith) ∙ put-other b t₄ code-from-place (codeEnd t) depth-place (λ z. omega arith) ∙ put-same b t₃ depth-place (getD t (l * level-words + depth-place) 0 + 1) (omega (arith, n₃))
+  v₄ = o₉ depth-place (omega arith) ∙ put-other b t₅ runs-from-place (runsEnd t) depth-place (λ z. omega arith) ∙ put-other b t₄ code-from-place (codeEnd t)
+      depth-place (λ z. omega arith) ∙ put-same b t₃ depth-place (getD t (l * level-words + depth-place) 0 + 1) (omega (arith, n₃))
 
   v₅ : getD t₉ (b + code-from-place) 0 ≡ codeEnd t
   v₅ = o₉ code-from-place (omega arith) ∙ put-other b t₅ runs-from-place (runsEnd t) code-from-place (λ z. omega arith) ∙ put-same b t₄ code-from-place (codeEnd t) (omega (arith, n₄))
@@ -195,22 +203,39 @@ module _ (t : List ℕ) (l name arity kind : ℕ) (low : l + 1 < levels) (wf : W
       record {
         fresh = λ code spans. ap (λ (m : ℕ). ctxAt t₉ code spans m (codeEnd t₉) (runsEnd t₉)) (sym up-one) ∙ fresh′ code spans;
         around = λ code spans. ap₂ _∷_
-            (ap₂ (ctxAt t₉ code spans l) cu ru ∙ ctx-same t code spans t₉ code spans l (codeEnd t) (runsEnd t) wf (omega arith) (λ o h. same l o (omega arith) (omega arith)) (λ i h. refl) (λ i h. refl))
-            (parents-named t t₉ l wf (omega arith) (λ k o h g. same k o (omega arith) (omega arith)) (same l code-from-place (omega arith) (omega arith)) (same l runs-from-place (omega arith) (omega arith)) code spans);
+            (ap₂ (ctxAt t₉ code spans l) cu ru ∙ ctx-same t code spans t₉ code spans l (codeEnd t) (runsEnd t) wf (omega arith)
+            (λ o h. same l o (omega arith) (omega arith)) (λ i h. refl) (λ i h. refl))
+            (parents-named t t₉ l wf (omega arith) (λ k o h g. same k o (omega arith) (omega arith)) (same l code-from-place (omega arith) (omega arith))
+            (same l runs-from-place (omega arith) (omega arith)) code spans);
         coded = λ code spans limit ok. record {
           roomCode = ok .roomCode;
           roomRuns = ok .roomRuns;
           within = omega (arith, ok .within, ce);
           fewer = omega (arith, ok .fewer, ce, re);
           fewerAt = λ j h. ⊎-elim (λ (q : j ≡ suc l). subst (λ (m : ℕ). runsFrom t₉ m ≤ codeFrom t₉ m) (sym q) (omega (arith, ok .fewer)))
-              (λ (q : j < suc l). omega (arith, same j code-from-place (omega arith) (omega arith), same j runs-from-place (omega arith) (omega arith), ok .fewerAt j (le-of-lt-suc j l q))) (eq-or-lt-of-le h);
+              (λ (q : j < suc l). omega (
+                arith,
+                same j code-from-place (omega arith) (omega arith),
+                same j runs-from-place (omega arith) (omega arith),
+                ok .fewerAt j (le-of-lt-suc j l q),
+              )) (eq-or-lt-of-le h);
           fromZero = same 0 code-from-place (omega arith) (omega arith) ∙ ok .fromZero;
           top = omega (arith, ce);
           topRuns = omega (arith, re);
           order = λ j h. ⊎-elim (λ (q : j ≡ l). subst (λ (m : ℕ). codeFrom t₉ m ≤ codeFrom t₉ (suc m)) (sym q) (omega (arith, same l code-from-place (omega arith) (omega arith), ok .top)))
-              (λ (q : j < l). omega (arith, same j code-from-place (omega arith) (omega arith), same (suc j) code-from-place (omega arith) (omega arith), ok .order j q)) (eq-or-lt-of-le (le-of-lt-suc j l h));
+              (λ (q : j < l). omega (
+                arith,
+                same j code-from-place (omega arith) (omega arith),
+                same (suc j) code-from-place (omega arith) (omega arith),
+                ok .order j q,
+              )) (eq-or-lt-of-le (le-of-lt-suc j l h));
           orderRuns = λ j h. ⊎-elim (λ (q : j ≡ l). subst (λ (m : ℕ). runsFrom t₉ m ≤ runsFrom t₉ (suc m)) (sym q) (omega (arith, same l runs-from-place (omega arith) (omega arith), ok .topRuns)))
-              (λ (q : j < l). omega (arith, same j runs-from-place (omega arith) (omega arith), same (suc j) runs-from-place (omega arith) (omega arith), ok .orderRuns j q)) (eq-or-lt-of-le (le-of-lt-suc j l h));
+              (λ (q : j < l). omega (
+                arith,
+                same j runs-from-place (omega arith) (omega arith),
+                same (suc j) runs-from-place (omega arith) (omega arith),
+                ok .orderRuns j q,
+              )) (eq-or-lt-of-le (le-of-lt-suc j l h));
         };
         kept = subst (λ (m : ℕ). Kept (m * level-words) (m * level-words + level-words) t t₉) up-one kp;
         wf = wf₉;

@@ -21,12 +21,15 @@ use Rattle.state.proofs.Up.{the-type}
 use Rattle.state.proofs.Laws.{kept-off, ctx-same, ctx-paths, chunk-same, upvalues-same, parents-named}
 
 -- a context that a change keeps off, and those around it
-ctx-off : (lo hi : ℕ) (t t′ : List ℕ) (k : ℕ) → Kept lo hi t t′ → Wf t → k < levels → ((o : ℕ) → o < 777 → lo ≤ k * level-words + o → k * level-words + o < hi → ⊥) → (code spans : List ℕ) (ce re : ℕ) → ctxAt t′ code spans k ce re ≡ ctxAt t code spans k ce re
+ctx-off : (lo hi : ℕ) (t t′ : List ℕ) (k : ℕ) → Kept lo hi t t′ → Wf t → k < levels →
+    ((o : ℕ) → o < 777 → lo ≤ k * level-words + o → k * level-words + o < hi → ⊥) → (code spans : List ℕ) (ce re : ℕ) → ctxAt t′ code spans k ce re ≡ ctxAt t code spans k ce re
 ctx-off lo hi t t′ k kp wf low off code spans ce re = ctx-same t code spans t′ code spans k ce re wf low (λ o h. kept-off lo hi t t′ _ kp (λ x y. off o h x y)) (λ i h. refl) (λ i h. refl)
 
-parents-off : (lo hi : ℕ) (t t′ : List ℕ) (k : ℕ) → Kept lo hi t t′ → Wf t → k < levels → k * level-words ≤ lo → ((o : ℕ) → code-from-place ≤ o → o ≤ runs-from-place → lo ≤ k * level-words + o → k * level-words + o < hi → ⊥) → (code spans : List ℕ) → parentsOf t′ code spans k ≡ parentsOf t code spans k
+parents-off : (lo hi : ℕ) (t t′ : List ℕ) (k : ℕ) → Kept lo hi t t′ → Wf t → k < levels → k * level-words ≤ lo →
+    ((o : ℕ) → code-from-place ≤ o → o ≤ runs-from-place → lo ≤ k * level-words + o → k * level-words + o < hi → ⊥) → (code spans : List ℕ) → parentsOf t′ code spans k ≡ parentsOf t code spans k
 parents-off lo hi t t′ k kp wf low above off code spans =
-    parents-named t t′ k wf low (λ j o a b. kp .below _ (omega arith)) (kept-off lo hi t t′ _ kp (λ x y. off code-from-place (omega arith) (omega arith) x y)) (kept-off lo hi t t′ _ kp (λ x y. off runs-from-place (omega arith) (omega arith) x y)) code spans
+    parents-named t t′ k wf low (λ j o a b. kp .below _ (omega arith)) (kept-off lo hi t t′ _ kp (λ x y. off code-from-place (omega arith) (omega arith) x y))
+    (kept-off lo hi t t′ _ kp (λ x y. off runs-from-place (omega arith) (omega arith) x y)) code spans
 
 -- the script has nothing around it
 pub outermost : (t : List ℕ) (nm : ℕ) → Wf t → Captured t t 0 nm up.Nothing
@@ -34,7 +37,8 @@ unfolding parentsOf resolve-upvalue
 outermost t nm wf = record { does = λ span code spans ce re. refl; quiet = λ e. refl; kept = record { below = λ j l. refl; above = λ j l. refl }; rest = λ j o a b c. refl; wf = wf }
 
 -- what was not found further out is not found
-stays : (span : Span) (nm : ℕ) (r : Up) → ((i : ℕ) → r ≡ up.At i → ⊥) → (c p x c′ : CompilerCtx) (a y ps′ : List CompilerCtx) → up-of span nm r c′ ps′ ≡ through missing (up-of span nm r x y) nm span c p a
+stays : (span : Span) (nm : ℕ) (r : Up) → ((i : ℕ) → r ≡ up.At i → ⊥) → (c p x c′ : CompilerCtx) (a y ps′ : List CompilerCtx) → up-of span nm r c′ ps′ ≡ through
+    missing (up-of span nm r x y) nm span c p a
 unfolding through
 stays span nm (up.At i) h c p x c′ a y ps′ = absurd (h i refl)
 stays span nm up.Nothing h c p x c′ a y ps′ = refl
@@ -47,13 +51,16 @@ module _ (t t₁ : List ℕ) (k nm : ℕ) (low : suc k < levels) (wf : Wf t) whe
   around t code spans = ctxAt t code spans k (codeFrom t (suc k)) (runsFrom t (suc k))
 
   step : (span : Span) (code spans : List ℕ) (ce re : ℕ) → resolve-upvalue nm span (ctxAt t code spans (suc k) ce re) (parentsOf t code spans (suc k))
-      ≡ through (find-local nm (localsOf t k)) (resolve-upvalue nm span (around t code spans) (parentsOf t code spans k)) nm span (ctxAt t code spans (suc k) ce re) (around t code spans) (parentsOf t code spans k)
+      ≡ through (find-local nm (localsOf t k)) (resolve-upvalue nm span (around t code spans) (parentsOf t code spans k)) nm span
+      (ctxAt t code spans (suc k) ce re) (around t code spans) (parentsOf t code spans k)
   unfolding parentsOf resolve-upvalue ctxAt
   step span code spans ce re = refl
 
   answered : (r : Slot) → Looked t t₁ k nm true r → (span : Span) (code spans : List ℕ) (ce re : ℕ) → resolve-upvalue nm span (ctxAt t code spans (suc k) ce re) (parentsOf t code spans (suc k))
       ≡ through (found r) (resolve-upvalue nm span (around t code spans) (parentsOf t code spans k)) nm span (ctxAt t code spans (suc k) ce re) (around t code spans) (parentsOf t code spans k)
-  answered r res span code spans ce re = step span code spans ce re ∙ ap (λ (f : Found). through f (resolve-upvalue nm span (around t code spans) (parentsOf t code spans k)) nm span (ctxAt t code spans (suc k) ce re) (around t code spans) (parentsOf t code spans k)) (sym (res .answer))
+  answered r res span code spans ce re = step span code spans ce re ∙ ap
+      (λ (f : Found). through f (resolve-upvalue nm span (around t code spans) (parentsOf t code spans k)) nm span (ctxAt t code spans (suc k) ce re)
+      (around t code spans) (parentsOf t code spans k)) (sym (res .answer))
 
   module _ (r : Slot) (res : Looked t t₁ k nm true r) where
     top-kept : (code spans : List ℕ) (ce re : ℕ) → ctxAt t₁ code spans (suc k) ce re ≡ ctxAt t code spans (suc k) ce re
@@ -75,7 +82,8 @@ module _ (t t₁ : List ℕ) (k nm : ℕ) (low : suc k < levels) (wf : Wf t) whe
     from-kept o h = res .kept .above _ (omega arith)
 
   -- the contexts around, after an upvalue is added above them
-  around-kept : (t₂ t₃ : List ℕ) → Kept (suc k * level-words + upvalues-place) (suc k * level-words + constants-place) t₂ t₃ → Wf t₂ → (code spans : List ℕ) → parentsOf t₃ code spans (suc k) ≡ parentsOf t₂ code spans (suc k)
+  around-kept : (t₂ t₃ : List ℕ) → Kept (suc k * level-words + upvalues-place) (suc k * level-words + constants-place) t₂ t₃ → Wf t₂ → (code spans : List ℕ) →
+      parentsOf t₃ code spans (suc k) ≡ parentsOf t₂ code spans (suc k)
   around-kept t₂ t₃ kp wf₂ = parents-off _ _ t₂ t₃ (suc k) kp wf₂ low (omega arith) (λ o a b x y. omega arith)
 
   -- the enclosing function has the local
@@ -87,7 +95,8 @@ module _ (t t₁ : List ℕ) (k nm : ℕ) (low : suc k < levels) (wf : Wf t) whe
         let cf : codeFrom t₁ (suc k) ≡ codeFrom t (suc k) = from-kept (slot.At i) res code-from-place (omega arith) in
         let rf : runsFrom t₁ (suc k) ≡ runsFrom t (suc k) = from-kept (slot.At i) res runs-from-place (omega arith) in
         let ps : parentsOf t₂ code spans (suc k) ≡ with-locals (around t code spans) (capture nm (localsOf t k)) ∷ parentsOf t code spans k =
-        around-kept t₁ t₂ (add .kept) (res .wf) code spans ∙ ap₂ _∷_ (ap₂ (ctxAt t₁ code spans k) cf rf ∙ marked-ctx (slot.At i) res _ (res .locals) code spans _ _) (outer-kept (slot.At i) res code spans) in
+        around-kept t₁ t₂ (add .kept) (res .wf) code spans ∙ ap₂ _∷_
+        (ap₂ (ctxAt t₁ code spans k) cf rf ∙ marked-ctx (slot.At i) res _ (res .locals) code spans _ _) (outer-kept (slot.At i) res code spans) in
         ap (up-of span nm r (ctxAt t₂ code spans (suc k) ce re)) ps
         ∙ add .does span nm code spans ce re _
         ∙ ap (λ (c : CompilerCtx). add-upvalue u span c (with-locals (around t code spans) (capture nm (localsOf t k)) ∷ parentsOf t code spans k)) (top-kept (slot.At i) res code spans ce re)
@@ -110,12 +119,14 @@ module _ (t t₁ : List ℕ) (k nm : ℕ) (low : suc k < levels) (wf : Wf t) whe
 
   module _ (res : Looked t t₁ k nm true slot.Nothing) (t₂ : List ℕ) (r : Up) (cap : Captured t₁ t₂ k nm r) where
     -- what the enclosing function's own search does
-    rec : (span : Span) (code spans : List ℕ) (ce re : ℕ) → up-of span nm r (ctxAt t₂ code spans k ce re) (parentsOf t₂ code spans k) ≡ resolve-upvalue nm span (ctxAt t code spans k ce re) (parentsOf t code spans k)
+    rec : (span : Span) (code spans : List ℕ) (ce re : ℕ) → up-of span nm r (ctxAt t₂ code spans k ce re) (parentsOf t₂ code spans k) ≡ resolve-upvalue nm span
+        (ctxAt t code spans k ce re) (parentsOf t code spans k)
     unfolding ctxAt
     rec span code spans ce re = cap .does span code spans ce re ∙ ap₂ (resolve-upvalue nm span) (marked-ctx slot.Nothing res _ (res .locals) code spans ce re) (outer-kept slot.Nothing res code spans)
 
     whole : (span : Span) (code spans : List ℕ) (ce re : ℕ) → resolve-upvalue nm span (ctxAt t code spans (suc k) ce re) (parentsOf t code spans (suc k))
-        ≡ through missing (up-of span nm r (ctxAt t₂ code spans k (codeFrom t (suc k)) (runsFrom t (suc k))) (parentsOf t₂ code spans k)) nm span (ctxAt t code spans (suc k) ce re) (around t code spans) (parentsOf t code spans k)
+        ≡ through missing (up-of span nm r (ctxAt t₂ code spans k (codeFrom t (suc k)) (runsFrom t (suc k))) (parentsOf t₂ code spans k)) nm span
+        (ctxAt t code spans (suc k) ce re) (around t code spans) (parentsOf t code spans k)
     whole span code spans ce re = answered slot.Nothing res span code spans ce re
         ∙ ap (λ (x : Resolved). through missing x nm span (ctxAt t code spans (suc k) ce re) (around t code spans) (parentsOf t code spans k)) (sym (rec span code spans _ _))
 

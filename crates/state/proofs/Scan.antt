@@ -9,7 +9,8 @@ use Rattle.state.specs.Contracts.{Without}
 use Rattle.state.proofs.Laws.{lt-or-le}
 
 -- each of eight words is another
-pub without-eight : (t : List ℕ) (at w : ℕ) → (getD t at 0 ≡ w → ⊥) → (getD t (at + 1) 0 ≡ w → ⊥) → (getD t (at + 2) 0 ≡ w → ⊥) → (getD t (at + 3) 0 ≡ w → ⊥) → (getD t (at + 4) 0 ≡ w → ⊥) → (getD t (at + 5) 0 ≡ w → ⊥) → (getD t (at + 6) 0 ≡ w → ⊥) → (getD t (at + 7) 0 ≡ w → ⊥) → Without t at 8 w
+pub without-eight : (t : List ℕ) (at w : ℕ) → (getD t at 0 ≡ w → ⊥) → (getD t (at + 1) 0 ≡ w → ⊥) → (getD t (at + 2) 0 ≡ w → ⊥) → (getD t (at + 3) 0 ≡ w → ⊥) →
+    (getD t (at + 4) 0 ≡ w → ⊥) → (getD t (at + 5) 0 ≡ w → ⊥) → (getD t (at + 6) 0 ≡ w → ⊥) → (getD t (at + 7) 0 ≡ w → ⊥) → Without t at 8 w
 without-eight t at w a b c d e f g h zero l = let z : at ≡ at + 0 = omega arith in subst (λ (k : ℕ). getD t k 0 ≡ w → ⊥) z a
 without-eight t at w a b c d e f g h (suc zero) l = b
 without-eight t at w a b c d e f g h (suc (suc zero)) l = c

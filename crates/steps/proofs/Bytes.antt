@@ -26,7 +26,8 @@ use Rattle.steps.proofs.Views.{open-is, view-len, still-agrees, ahead-k
 
 -- ## A byte
 
-emit-is : (limit byte : ℕ) (span : Span) (x : Compiler) (b : Bool) → ltb (open-code x) limit ≡ b → emit-u8 limit byte span x ≡ go-on (need b CodeFull x) (λ _. update-ctx λ c. with-chunk c (write-u8 (c .chunk) byte span))
+emit-is : (limit byte : ℕ) (span : Span) (x : Compiler) (b : Bool) → ltb (open-code x) limit ≡ b → emit-u8 limit byte span x ≡ go-on (need b CodeFull x)
+    (λ _. update-ctx λ c. with-chunk c (write-u8 (c .chunk) byte span))
 unfolding emit-u8 _>>=_ _>>_ the go-on
 emit-is limit byte span x b e = ap (λ (b : Bool). go-on (need b CodeFull x) (λ _. update-ctx λ c. with-chunk c (write-u8 (c .chunk) byte span))) e
 
@@ -38,7 +39,8 @@ emit-full : (limit byte : ℕ) (span : Span) (x : Compiler) → limit ≤ open-c
 unfolding need go-on
 emit-full limit byte span x h = emit-is limit byte span x false (le-ltb _ _ h)
 
-module _ (l limit byte : ℕ) (span : Span) (t code spans t′ code′ spans′ : List ℕ) (r : Emitted) (fit : Fit (mem t code spans) l limit) (w : Wrote t code spans t′ code′ spans′ l limit byte span r) where
+module _ (l limit byte : ℕ) (span : Span) (t code spans t′ code′ spans′ : List ℕ) (r : Emitted) (fit : Fit (mem t code spans) l limit)
+    (w : Wrote t code spans t′ code′ spans′ l limit byte span r) where
   at : (k o : ℕ) → k < levels → o < level-words → getD t′ (k * level-words + o) 0 ≡ getD t (k * level-words + o) 0
   at k o h g = kept-off _ _ t t′ _ (w .kept) (λ x y. omega arith)
 
@@ -48,16 +50,19 @@ module _ (l limit byte : ℕ) (span : Span) (t code spans t′ code′ spans′ 
   as-full : r ≡ emitted.Full → limit ≤ codeEnd t
   as-full q = subst (λ (e : Emitted). WroteAs t code spans t′ code′ spans′ l limit byte span e) q (w .does)
 
-  view-now : r ≡ emitted.Done → (rest : Rest) → with-ctx (view (mem t code spans) l rest) (with-chunk (view (mem t code spans) l rest .ctx) (write-u8 (view (mem t code spans) l rest .ctx .chunk) byte span)) ≡ view (mem t′ code′ spans′) l rest
+  view-now : r ≡ emitted.Done → (rest : Rest) → with-ctx (view (mem t code spans) l rest)
+      (with-chunk (view (mem t code spans) l rest .ctx) (write-u8 (view (mem t code spans) l rest .ctx .chunk) byte span)) ≡ view (mem t′ code′ spans′) l rest
   unfolding view ctxAt
   view-now q rest =
       let low = fit .low in
       let ok′ = fit .coded in
       let c : ctxAt t′ code′ spans′ l (codeEnd t′) (runsEnd t′) ≡ with-chunk (ctxAt t code spans l (codeEnd t) (runsEnd t)) (write-u8 (top-chunk t code spans l) byte span) =
       ctx-paths t code spans t′ code′ spans′ l (codeEnd t) (runsEnd t) (codeEnd t′) (runsEnd t′) (λ o a b. at l o low (omega arith)) (as-done q .1)
-      (locals-same t t′ l (fit .wf .fewLocals l low) (λ o a. at l o low (omega arith))) (upvalues-same t t′ l (fit .wf .fewUpvalues l low) (λ o a b. at l o low (omega arith))) (at l depth-place low (omega arith)) in
+      (locals-same t t′ l (fit .wf .fewLocals l low) (λ o a. at l o low (omega arith)))
+      (upvalues-same t t′ l (fit .wf .fewUpvalues l low) (λ o a b. at l o low (omega arith))) (at l depth-place low (omega arith)) in
       let ps : parentsOf t′ code′ spans′ l ≡ parentsOf t code spans l =
-      parents-same t code spans t′ code′ spans′ l (fit .wf) low (λ k o a b. at k o (omega arith) (omega arith)) (at l code-from-place low (omega arith)) (at l runs-from-place low (omega arith)) (ok′ .order) (ok′ .orderRuns) (λ i h. w .codeKept i (omega (arith, ok′ .top))) (w .runsKept) in
+      parents-same t code spans t′ code′ spans′ l (fit .wf) low (λ k o a b. at k o (omega arith) (omega arith)) (at l code-from-place low (omega arith))
+      (at l runs-from-place low (omega arith)) (ok′ .order) (ok′ .orderRuns) (λ i h. w .codeKept i (omega (arith, ok′ .top))) (w .runsKept) in
       sym (λ i. record { ctx = c i; parents = ps i; class-ctx = rest .classes; functions = rest .functions })
 
   ops-more : r ≡ emitted.Done → code-len (mem t′ code′ spans′) l ≡ code-len (mem t code spans) l + 1
@@ -93,7 +98,8 @@ module _ (l limit byte : ℕ) (span : Span) (t code spans t′ code′ spans′ 
 out : (x y : Compiler) → _≡_ {A = Outcome Unit} (ok tt x) (ok tt y) → x ≡ y
 out x y p = cc
 
-one-more : (limit byte : ℕ) (span : Span) (s s′ : Compiler) (b : Bool) → ltb (open-code s) limit ≡ b → emit-u8 limit byte span s ≡ ok tt s′ → length (s′ .ctx .chunk .ops) ≡ length (s .ctx .chunk .ops) + 1
+one-more : (limit byte : ℕ) (span : Span) (s s′ : Compiler) (b : Bool) → ltb (open-code s) limit ≡ b → emit-u8 limit byte span s ≡ ok tt s′ → length
+    (s′ .ctx .chunk .ops) ≡ length (s .ctx .chunk .ops) + 1
 unfolding need go-on update-ctx write-u8
 one-more limit byte span s s′ true h e =
     let q : with-ctx s (with-chunk (s .ctx) (write-u8 (s .ctx .chunk) byte span)) ≡ s′ = out _ _ (sym (emit-is limit byte span s true h) ∙ e) in
@@ -107,11 +113,18 @@ unmade = record { name = 0; arity = 0; upvalue-count = 0; chunk = empty-chunk }
 abbrev nobody : Mem → Rest
 nobody m = record { classes = []; functions = replicate (getD (t-of m) image-at 0) unmade }
 
-pub longer : {limit l n v : ℕ} (byte : ℕ) (span : Span) {before now : Mem} {r : Step} → Did 0 limit l n steady (emit-u8 limit byte span) before now r → r ≡ Next v → code-len now l ≡ code-len before l + 1
+pub longer : {limit l n v : ℕ} (byte : ℕ) (span : Span) {before now : Mem} {r : Step} → Did 0 limit l n steady (emit-u8 limit byte span) before now r → r ≡ Next
+    v → code-len now l ≡ code-len before l + 1
 longer {limit = limit} {l = l} byte span {before = before} {now = now} d e =
     let g = went d e in
     let x : Rest = nobody before in
-    omega (arith, view-len now l x, view-len before l x, one-more limit byte span (view before l x) (view now l x) _ refl (g .comes x (record { innermost = refl; made = length-replicate (getD (t-of before) image-at 0) unmade })))
+    omega (
+      arith,
+      view-len now l x,
+      view-len before l x,
+      one-more limit byte span (view before l x) (view now l x) _ refl
+          (g .comes x (record { innermost = refl; made = length-replicate (getD (t-of before) image-at 0) unmade })),
+    )
 
 -- ## A constant
 
@@ -147,7 +160,8 @@ module _ (l limit w : ℕ) (span : Span) (t code spans t′ : List ℕ) (r : Con
   back : {class : ℕ} {rest : Rest} → Agrees class (mem t code spans) rest → Agrees class (mem t′ code spans) rest
   back h = let low = fit .low in still-agrees (c .kept .above _ (omega arith)) h
 
-  constant-as : {class n : ℕ} (i : ℕ) {now : Mem} (a : Step) → r ≡ constanted.At i → Did class limit l n steady (emit-u8 limit i span) (mem t′ code spans) now a → DidAs class limit l n steady (emit-constant limit (constantOf w) span) (mem t code spans) now a
+  constant-as : {class n : ℕ} (i : ℕ) {now : Mem} (a : Step) → r ≡ constanted.At i → Did class limit l n steady (emit-u8 limit i span) (mem t′ code spans) now a
+      → DidAs class limit l n steady (emit-constant limit (constantOf w) span) (mem t code spans) now a
   constant-as i (Next v) q d =
       let g = d .does .0 in (
         record {
@@ -159,15 +173,21 @@ module _ (l limit w : ℕ) (span : Span) (t code spans t′ : List ℕ) (r : Con
       )
   constant-as i (Stop x) q d = record { refuses = λ rest h. constant-view i q rest ∙ d .does .refuses rest (back h) }
 
-  pub constant-then : {class n : ℕ} (i : ℕ) {now : Mem} {a : Step} → r ≡ constanted.At i → Did class limit l n steady (emit-u8 limit i span) (mem t′ code spans) now a → Did class limit l n steady (emit-constant limit (constantOf w) span) (mem t code spans) now a
+  pub constant-then : {class n : ℕ} (i : ℕ) {now : Mem} {a : Step} → r ≡ constanted.At i → Did class limit l n steady (emit-u8 limit i span) (mem t′ code spans)
+      now a → Did class limit l n steady (emit-constant limit (constantOf w) span) (mem t code spans) now a
   constant-then i {a = a} q d = record { does = constant-as i a q d }
 
   pub constant-full : {class : ℕ} → r ≡ constanted.Full → Refused class l (emit-constant limit (constantOf w) span) (mem t code spans) (TooManyConstants span)
-  constant-full q = record { refuses = λ rest _. place-is limit span (constantOf w) (view (mem t code spans) l rest) _ (does-as constanted.Full q rest) ∙ place-full limit span (view (mem t code spans) l rest) }
+  constant-full q = record {
+    refuses = λ rest _. place-is limit span (constantOf w) (view (mem t code spans) l rest) _ (does-as constanted.Full q rest) ∙
+        place-full limit span (view (mem t code spans) l rest);
+  }
 
 -- the same constant by another name
-pub constant-is : {class limit l n : ℕ} {e : Turn} (span : Span) {k k′ : Constant} {before now : Mem} {r : Step} → k ≡ k′ → Did class limit l n e (emit-constant limit k span) before now r → Did class limit l n e (emit-constant limit k′ span) before now r
+pub constant-is : {class limit l n : ℕ} {e : Turn} (span : Span) {k k′ : Constant} {before now : Mem} {r : Step} → k ≡ k′ → Did class limit l n e
+    (emit-constant limit k span) before now r → Did class limit l n e (emit-constant limit k′ span) before now r
 constant-is {class} {limit} {l} {n} {e} span {before = before} {now = now} {r = r} q d = subst (λ (k : Constant). Did class limit l n e (emit-constant limit k span) before now r) q d
 
-pub op-constant-is : {class limit l n : ℕ} {e : Turn} (op : ℕ) (span : Span) {k k′ : Constant} {before now : Mem} {r : Step} → k ≡ k′ → Did class limit l n e (emit-op-constant limit op k span) before now r → Did class limit l n e (emit-op-constant limit op k′ span) before now r
+pub op-constant-is : {class limit l n : ℕ} {e : Turn} (op : ℕ) (span : Span) {k k′ : Constant} {before now : Mem} {r : Step} → k ≡ k′ → Did class limit l n e
+    (emit-op-constant limit op k span) before now r → Did class limit l n e (emit-op-constant limit op k′ span) before now r
 op-constant-is {class} {limit} {l} {n} {e} op span {before = before} {now = now} {r = r} q d = subst (λ (k : Constant). Did class limit l n e (emit-op-constant limit op k span) before now r) q d

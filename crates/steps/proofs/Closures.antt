@@ -28,7 +28,8 @@ module _ (limit l w : ℕ) (span : Span) (half : w < 512) where
   unfolding emit-upvalues
   pair-is us x = ap (λ (b : ℕ). (emit-u8 limit b span >> (emit-u8 limit (w % 256) span >> emit-upvalues limit us span)) x) (sym (bit (w / 256) (omega arith)))
 
-  pub pair-first : {before now : Mem} {r : Step} {x : Refusal} → ((class : ℕ) → Did class limit l 0 steady (emit-op limit (w / 256) span) before now r) → r ≡ Stop x → PairedAt limit l w span before now r
+  pub pair-first : {before now : Mem} {r : Step} {x : Refusal} → ((class : ℕ) → Did class limit l 0 steady (emit-op limit (w / 256) span) before now r) → r ≡
+      Stop x → PairedAt limit l w span before now r
   unfolding emit-op
   pair-first {before} {now} {r} {x} d q = record {
     does = subst (λ (s : Step). PairedAs limit l w span before now s) (sym q) (λ us class. record {
@@ -66,13 +67,15 @@ from t l i n = row (λ j. upvalueOf (getD t ((l + 1) * level-words + (upvalues-p
 abbrev pub Going : (limit l : ℕ) → Span → (t₀ code₀ spans₀ : List ℕ) → (i n : ℕ) → Mem → Type 0
 Going limit l span t₀ code₀ spans₀ i n now = Turning limit l (emit-upvalues limit (upvaluesOf t₀ (l + 1)) span) (emit-upvalues limit (from t₀ l i n) span) (mem t₀ code₀ spans₀) now
 
-pub going-start : (limit l : ℕ) (span : Span) (t code spans : List ℕ) → Fit (mem t code spans) l limit → Going limit l span t code spans 0 (getD t ((l + 1) * level-words + upvalue-count-place) 0) (mem t code spans)
+pub going-start : (limit l : ℕ) (span : Span) (t code spans : List ℕ) → Fit (mem t code spans) l limit → Going limit l span t code spans 0
+    (getD t ((l + 1) * level-words + upvalue-count-place) 0) (mem t code spans)
 going-start limit l span t code spans fit =
     let n : ℕ = getD t ((l + 1) * level-words + upvalue-count-place) 0 in
     let z : n ≡ n - 0 = omega arith in
     let one : (j : ℕ) → j < n → upvalueOf (getD t ((l + 1) * level-words + upvalues-place + j) 0) ≡ upvalueOf (getD t ((l + 1) * level-words + (upvalues-place + (0 + j))) 0) = λ j h.
     let q : (l + 1) * level-words + upvalues-place + j ≡ (l + 1) * level-words + (upvalues-place + (0 + j)) = omega arith in ap (λ (k : ℕ). upvalueOf (getD t k 0)) q in
-    let e : upvaluesOf t (l + 1) ≡ from t l 0 (getD t ((l + 1) * level-words + upvalue-count-place) 0) = row-cong _ _ n one ∙ ap (row (λ j. upvalueOf (getD t ((l + 1) * level-words + (upvalues-place + (0 + j))) 0))) z in
+    let e : upvaluesOf t (l + 1) ≡ from t l 0 (getD t ((l + 1) * level-words + upvalue-count-place) 0) = row-cong _ _ n one ∙ ap
+    (row (λ j. upvalueOf (getD t ((l + 1) * level-words + (upvalues-place + (0 + j))) 0))) z in
     record { same = λ rest h. ap (λ (us : List Upvalue). emit-upvalues limit us span (view (mem t code spans) l rest)) e; agrees = λ rest h. h; ahead = ahead-none fit }
 
 split : (t : List ℕ) (l i n : ℕ) → i < n → from t l i n ≡ upvalueOf (getD t ((l + 1) * level-words + (upvalues-place + i)) 0) ∷ from t l (i + 1) n
@@ -80,10 +83,12 @@ unfolding row
 split t l i n h =
     let e : n - i ≡ suc (n - (i + 1)) = omega arith in
     let a : (l + 1) * level-words + (upvalues-place + (i + 0)) ≡ (l + 1) * level-words + (upvalues-place + i) = omega arith in
-    let one : (j : ℕ) → j < n - (i + 1) → upvalueOf (getD t ((l + 1) * level-words + (upvalues-place + (i + suc j))) 0) ≡ upvalueOf (getD t ((l + 1) * level-words + (upvalues-place + (i + 1 + j))) 0) = λ j g.
+    let one : (j : ℕ) → j < n - (i + 1) → upvalueOf (getD t ((l + 1) * level-words + (upvalues-place + (i + suc j))) 0) ≡ upvalueOf
+    (getD t ((l + 1) * level-words + (upvalues-place + (i + 1 + j))) 0) = λ j g.
     let q : (l + 1) * level-words + (upvalues-place + (i + suc j)) ≡ (l + 1) * level-words + (upvalues-place + (i + 1 + j)) = omega arith in ap (λ (k : ℕ). upvalueOf (getD t k 0)) q in
     ap (row (λ j. upvalueOf (getD t ((l + 1) * level-words + (upvalues-place + (i + j))) 0))) e
-    ∙ ap₂ _∷_ (ap (λ (k : ℕ). upvalueOf (getD t k 0)) a) (row-cong (λ j. upvalueOf (getD t ((l + 1) * level-words + (upvalues-place + (i + suc j))) 0)) (λ j. upvalueOf (getD t ((l + 1) * level-words + (upvalues-place + (i + 1 + j))) 0)) (n - (i + 1)) one)
+    ∙ ap₂ _∷_ (ap (λ (k : ℕ). upvalueOf (getD t k 0)) a) (row-cong (λ j. upvalueOf (getD t ((l + 1) * level-words + (upvalues-place + (i + suc j))) 0))
+    (λ j. upvalueOf (getD t ((l + 1) * level-words + (upvalues-place + (i + 1 + j))) 0)) (n - (i + 1)) one)
 
 module _ (limit l : ℕ) (span : Span) (t₀ code₀ spans₀ : List ℕ) (i n : ℕ) (mid : Mem) (g : Going limit l span t₀ code₀ spans₀ i n mid) where
   -- the words of the level above are as they were

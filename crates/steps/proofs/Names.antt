@@ -26,12 +26,14 @@ use Rattle.steps.specs.declared.Step.the-variants.{Next, Stop}
 use Rattle.steps.proofs.Views.{still-agrees, ahead-named}
 use Rattle.steps.proofs.Jumps.{ahead-none}
 
-resolve-is : (nm : ℕ) (span : Span) (x : Compiler) (f : Found) (u : Resolved) → find-local nm (x .ctx .locals) ≡ f → resolve-upvalue nm span (x .ctx) (x .parents) ≡ u → resolve nm span x ≡ resolved f u nm span x
+resolve-is : (nm : ℕ) (span : Span) (x : Compiler) (f : Found) (u : Resolved) → find-local nm (x .ctx .locals) ≡ f → resolve-upvalue nm span (x .ctx)
+    (x .parents) ≡ u → resolve nm span x ≡ resolved f u nm span x
 unfolding resolve _>>=_ get go-on
 resolve-is nm span x f u p q = ap₂ (λ (f : Found) (u : Resolved). resolved f u nm span x) p q
 
 -- a place that is found without a change
-stays : {class limit l : ℕ} (nm : ℕ) (span : Span) (m : Mem) (v : Place) → Fit m l limit → ((rest : Rest) → resolve nm span (view m l rest) ≡ ok v (view m l rest)) → Gave class limit l steady (resolve nm span) v m m
+stays : {class limit l : ℕ} (nm : ℕ) (span : Span) (m : Mem) (v : Place) → Fit m l limit →
+    ((rest : Rest) → resolve nm span (view m l rest) ≡ ok v (view m l rest)) → Gave class limit l steady (resolve nm span) v m m
 stays nm span m v fit h = record { comes = λ rest _. h rest; agrees = λ rest q. q; ahead = ahead-none fit }
 
 module _ (l nm : ℕ) (span : Span) (t t₁ : List ℕ) (s : Slot) (res : Looked t t₁ l nm false s) where
@@ -49,13 +51,17 @@ module _ (l nm : ℕ) (span : Span) (t t₁ : List ℕ) (s : Slot) (res : Looked
 
   pub at-unready : s ≡ slot.Unready → Placed l nm span t t₁ (Nowhere (AccessInsideInitializer span nm))
   unfolding resolved refuse
-  at-unready e = record { gives = λ class limit code spans fit. record { refuses = λ rest _. resolve-is nm span (view (mem t code spans) l rest) uninitialized _ (finds slot.Unready e code spans rest) refl } }
+  at-unready e = record {
+    gives = λ class limit code spans fit. record
+        { refuses = λ rest _. resolve-is nm span (view (mem t code spans) l rest) uninitialized _ (finds slot.Unready e code spans rest) refl };
+  }
 
   module _ (e : s ≡ slot.Nothing) (t₂ : List ℕ) (u : Up) (cap₁ : Captured t₁ t₂ l nm u) where
     cap : Captured t t₂ l nm u
     cap = subst (λ (x : List ℕ). Captured x t₂ l nm u) (res .unmarked refl) cap₁
 
-    outer : (y : Up) → u ≡ y → (code spans : List ℕ) (rest : Rest) → resolve nm span (view (mem t code spans) l rest) ≡ resolved missing (up-of span nm y (ctxAt t₂ code spans l (codeEnd t) (runsEnd t)) (parentsOf t₂ code spans l)) nm span (view (mem t code spans) l rest)
+    outer : (y : Up) → u ≡ y → (code spans : List ℕ) (rest : Rest) → resolve nm span (view (mem t code spans) l rest) ≡ resolved missing
+        (up-of span nm y (ctxAt t₂ code spans l (codeEnd t) (runsEnd t)) (parentsOf t₂ code spans l)) nm span (view (mem t code spans) l rest)
     unfolding view
     outer y q code spans rest =
         resolve-is nm span (view (mem t code spans) l rest) missing _ (finds slot.Nothing e code spans rest)
@@ -69,9 +75,11 @@ module _ (l nm : ℕ) (span : Span) (t t₁ : List ℕ) (s : Slot) (res : Looked
           let re : runsEnd t₂ ≡ runsEnd t = cap .kept .above runs-end-at (omega arith) in
           let c = ap₂ (ctxAt t₂ code spans l) ce re in
           record {
-            comes = λ rest _. outer (up.At i) q code spans rest ∙ ap (ok (upvalue-at i)) (sym (λ j. record { ctx = c j; parents = parentsOf t₂ code spans l; class-ctx = rest .classes; functions = rest .functions }));
+            comes = λ rest _. outer (up.At i) q code spans rest ∙ ap (ok (upvalue-at i))
+                (sym (λ j. record { ctx = c j; parents = parentsOf t₂ code spans l; class-ctx = rest .classes; functions = rest .functions }));
             agrees = λ rest h. still-agrees (cap .kept .above _ (omega arith)) h;
-            ahead = ahead-named steady t code spans t₂ l limit fit (cap .wf) (cap .rest l depth-place (omega arith) (omega arith) (omega arith)) (λ o a b. cap .rest l o (omega arith) (omega arith) (omega arith)) (λ k o a b d. cap .rest k o (omega arith) (omega arith) (omega arith)) (λ j a. cap .kept .above j (omega arith));
+            ahead = ahead-named steady t code spans t₂ l limit fit (cap .wf) (cap .rest l depth-place (omega arith) (omega arith) (omega arith))
+                (λ o a b. cap .rest l o (omega arith) (omega arith) (omega arith)) (λ k o a b d. cap .rest k o (omega arith) (omega arith) (omega arith)) (λ j a. cap .kept .above j (omega arith));
           };
     }
 
@@ -116,7 +124,8 @@ no-class (true ∷ cs) = ne-eqb (suc (length cs)) 0 (λ (z : suc (length cs) ≡
 no-class (false ∷ cs) = ne-eqb (suc (length cs)) 0 (λ (z : suc (length cs) ≡ 0). omega arith)
 
 module _ (limit name : ℕ) (span : Span) (class : ℕ) where
-  variable-is : (b : Bool) → (eqb name this && eqb class 0) ≡ b → (l : ℕ) (m : Mem) (rest : Rest) → Agrees class m rest → get-variable limit name span (view m l rest) ≡ go-on (need (not b) (ThisOutsideClass span) (view m l rest)) (λ _. resolve name span >>= λ place. get-place limit place name span)
+  variable-is : (b : Bool) → (eqb name this && eqb class 0) ≡ b → (l : ℕ) (m : Mem) (rest : Rest) → Agrees class m rest → get-variable limit name span
+      (view m l rest) ≡ go-on (need (not b) (ThisOutsideClass span) (view m l rest)) (λ _. resolve name span >>= λ place. get-place limit place name span)
   unfolding get-variable _>>=_ _>>_ the go-on view
   variable-is b e l (mem t code spans) rest h =
       ap (λ (b : Bool). go-on (need (not b) (ThisOutsideClass span) (view (mem t code spans) l rest)) (λ _. resolve name span >>= λ place. get-place limit place name span))
@@ -127,10 +136,20 @@ module _ (limit name : ℕ) (span : Span) (class : ℕ) where
   lost e {l} m = record { refuses = λ rest h. variable-is true e l m rest h }
 
   module _ (e : (eqb name this && eqb class 0) ≡ false) where
-    kept-as : {l n : ℕ} {before now : Mem} (r : Step) → Did class limit l n steady (resolve name span >>= λ place. get-place limit place name span) before now r → DidAs class limit l n steady (get-variable limit name span) before now r
+    kept-as : {l n : ℕ} {before now : Mem} (r : Step) → Did class limit l n steady (resolve name span >>= λ place. get-place limit place name span) before now r
+        → DidAs class limit l n steady (get-variable limit name span) before now r
     unfolding need go-on
-    kept-as {l} {before = before} (Next v) d = (record { comes = λ rest h. variable-is false e l before rest h ∙ d .does .0 .comes rest h; agrees = d .does .0 .agrees; ahead = d .does .0 .ahead }, d .does .1)
+    kept-as {l} {before = before} (Next v) d = (
+      record {
+        comes = λ rest h. variable-is false e l before rest h ∙ d .does .0 .comes rest h;
+        agrees =
+            d .does .0 .agrees;
+        ahead = d .does .0 .ahead;
+      },
+      d .does .1,
+    )
     kept-as {l} {before = before} (Stop x) d = record { refuses = λ rest h. variable-is false e l before rest h ∙ d .does .refuses rest h }
 
-    pub kept-on : {l n : ℕ} {before now : Mem} {r : Step} → Did class limit l n steady (resolve name span >>= λ place. get-place limit place name span) before now r → Did class limit l n steady (get-variable limit name span) before now r
+    pub kept-on : {l n : ℕ} {before now : Mem} {r : Step} → Did class limit l n steady (resolve name span >>= λ place. get-place limit place name span) before
+        now r → Did class limit l n steady (get-variable limit name span) before now r
     kept-on {r = r} d = record { does = kept-as r d }

@@ -84,7 +84,10 @@ pub ends-by : (t code : List ℕ) (l : ℕ) (r : Bool) → codeFrom t l < codeEn
 unfolding view ctxAt chunkAt
 ends-by t code l r h e =
     let q : codeFrom t l + (codeEnd t - 1 - codeFrom t l) ≡ codeEnd t - 1 = omega arith in
-    record { is = λ spans rest. row-ends (λ i. getD code (codeFrom t l + i) 0) (codeEnd t - codeFrom t l) (codeEnd t - 1 - codeFrom t l) (omega arith) ∙ ap (λ (k : ℕ). eqb (getD code k 0) 36) q ∙ sym e }
+    record {
+      is = λ spans rest. row-ends (λ i. getD code (codeFrom t l + i) 0) (codeEnd t - codeFrom t l) (codeEnd t - 1 - codeFrom t l) (omega arith) ∙ ap
+          (λ (k : ℕ). eqb (getD code k 0) 36) q ∙ sym e;
+    }
 
 -- ## A return with no value
 
@@ -124,9 +127,19 @@ module _ (limit l n : ℕ) (t code spans : List ℕ) (b : Bool) (w : Ending t co
     ahead = ahead-none fit;
   })
 
-  returns-as : {class : ℕ} {now : Mem} (r : Step) → b ≡ false → Did class limit l n steady (compile-return limit none NO-SPAN) (mem t code spans) now r → DidAs class limit l n steady (implicit-return limit) (mem t code spans) now r
-  returns-as (Next v) e d = (record { comes = λ rest h. implicit-is limit (view (mem t code spans) l rest) false (w .is spans rest ∙ e) ∙ d .does .0 .comes rest h; agrees = d .does .0 .agrees; ahead = d .does .0 .ahead }, d .does .1)
+  returns-as : {class : ℕ} {now : Mem} (r : Step) → b ≡ false → Did class limit l n steady (compile-return limit none NO-SPAN) (mem t code spans) now r → DidAs
+      class limit l n steady (implicit-return limit) (mem t code spans) now r
+  returns-as (Next v) e d = (
+    record {
+      comes = λ rest h. implicit-is limit (view (mem t code spans) l rest) false (w .is spans rest ∙ e) ∙ d .does .0 .comes rest
+          h;
+      agrees = d .does .0 .agrees;
+      ahead = d .does .0 .ahead;
+    },
+    d .does .1,
+  )
   returns-as (Stop x) e d = record { refuses = λ rest h. implicit-is limit (view (mem t code spans) l rest) false (w .is spans rest ∙ e) ∙ d .does .refuses rest h }
 
-  pub returns-now : {class : ℕ} {now : Mem} {r : Step} → b ≡ false → Did class limit l n steady (compile-return limit none NO-SPAN) (mem t code spans) now r → Did class limit l n steady (implicit-return limit) (mem t code spans) now r
+  pub returns-now : {class : ℕ} {now : Mem} {r : Step} → b ≡ false → Did class limit l n steady (compile-return limit none NO-SPAN) (mem t code spans) now r →
+      Did class limit l n steady (implicit-return limit) (mem t code spans) now r
   returns-now {r = r} e d = record { does = returns-as r e d }

@@ -33,15 +33,19 @@ use Rattle.steps.proofs.Jumps.{ahead-none}
 -- the depth moves, by whatever turn says how
 moved-gave : (e : Turn) (m : Compile Unit) (l d : ℕ) (t t′ : List ℕ) → ((x : ℕ) → e .class x ≡ x) → ((x : Rest) → e .rest x ≡ x)
     → ((x : Compiler) → m x ≡ ok tt (with-ctx x (with-scope-depth (x .ctx) (e .depth (x .ctx .scope-depth)))))
-    → Moved t t′ l d → d ≡ e .depth (getD t (l * level-words + depth-place) 0) → {class limit : ℕ} (code spans : List ℕ) → Fit (mem t code spans) l limit → Gave class limit l e m tt (mem t code spans) (mem t′ code spans)
+    → Moved t t′ l d → d ≡ e .depth (getD t (l * level-words + depth-place) 0) → {class limit : ℕ} (code spans : List ℕ) → Fit (mem t code spans) l limit → Gave
+    class limit l e m tt (mem t code spans) (mem t′ code spans)
 unfolding view ctxAt
 moved-gave e m l d t t′ ec er is w q {class} {limit} code spans fit =
     let low = fit .low in
     let kp = w .kept in
     record {
-      comes = λ rest _. is (view (mem t code spans) l rest) ∙ ap (ok tt) (sym (view-scope t code spans t′ l _ (fit .wf) low kp (w .does ∙ q) rest)) ∙ ap (λ (x : Rest). ok tt (view (mem t′ code spans) l x)) (sym (er rest));
-      agrees = λ rest h. subst (λ (c : ℕ). Agrees c (mem t′ code spans) (e .rest rest)) (sym (ec class)) (subst (λ (x : Rest). Agrees class (mem t′ code spans) x) (sym (er rest)) (still-agrees (kp .above _ (omega arith)) h));
-      ahead = ahead-named e t code spans t′ l limit fit (w .wf) (w .does ∙ q) (λ o a b. kp .above _ (omega arith)) (λ k o a b c. kept-off _ _ t t′ _ kp (λ x y. omega arith)) (λ i a. kp .above _ (omega arith));
+      comes = λ rest _. is (view (mem t code spans) l rest) ∙ ap (ok tt) (sym (view-scope t code spans t′ l _ (fit .wf) low kp (w .does ∙ q) rest)) ∙ ap
+          (λ (x : Rest). ok tt (view (mem t′ code spans) l x)) (sym (er rest));
+      agrees = λ rest h. subst (λ (c : ℕ). Agrees c (mem t′ code spans) (e .rest rest)) (sym (ec class))
+          (subst (λ (x : Rest). Agrees class (mem t′ code spans) x) (sym (er rest)) (still-agrees (kp .above _ (omega arith)) h));
+      ahead = ahead-named e t code spans t′ l limit fit (w .wf) (w .does ∙ q) (λ o a b. kp .above _ (omega arith))
+          (λ k o a b c. kept-off _ _ t t′ _ kp (λ x y. omega arith)) (λ i a. kp .above _ (omega arith));
     }
 
 pub scope-begun : (l d : ℕ) (t t′ : List ℕ) → Moved t t′ l d → d ≡ getD t (l * level-words + depth-place) 0 + 1 → Changed l deeper begin-scope t t′
@@ -51,7 +55,8 @@ scope-begun l d t t′ w q = record { gives = λ code spans fit. moved-gave deep
 abbrev pub lower : Compile Unit
 lower = update-ctx λ c. with-scope-depth c (c .scope-depth - 1)
 
-pub lowered : (l d : ℕ) (t t′ : List ℕ) → Moved t t′ l d → d ≡ getD t (l * level-words + depth-place) 0 - 1 → {class limit : ℕ} (code spans : List ℕ) → Fit (mem t code spans) l limit → Gave class limit l shallower lower tt (mem t code spans) (mem t′ code spans)
+pub lowered : (l d : ℕ) (t t′ : List ℕ) → Moved t t′ l d → d ≡ getD t (l * level-words + depth-place) 0 - 1 → {class limit : ℕ} (code spans : List ℕ) → Fit
+    (mem t code spans) l limit → Gave class limit l shallower lower tt (mem t code spans) (mem t′ code spans)
 unfolding update-ctx
 lowered l d t t′ w q code spans fit = moved-gave shallower lower l d t t′ (λ x. refl) (λ x. refl) (λ x. refl) w q code spans fit
 
@@ -63,9 +68,11 @@ global-asked l t r e = record { says = λ code spans. record { says = λ rest _.
 
 module _ (name : ℕ) (span : Span) (x : Compiler) where
   declare-is : (a b : Bool) → declared (x .ctx .scope-depth) name (x .ctx .locals) ≡ a → ltb (length (x .ctx .locals)) 256 ≡ b
-      → declare-local name span x ≡ go-on (need (not a) (AlreadyDefined span name) x) (λ _. need b (TooManyLocals span) >> (update-ctx λ c. with-locals c (record { name = name; depth = c .scope-depth; is-initialized = false; is-captured = false } ∷ c .locals)))
+      → declare-local name span x ≡ go-on (need (not a) (AlreadyDefined span name) x)
+      (λ _. need b (TooManyLocals span) >> (update-ctx λ c. with-locals c (record { name = name; depth = c .scope-depth; is-initialized = false; is-captured = false } ∷ c .locals)))
   unfolding declare-local _>>=_ _>>_ the go-on
-  declare-is a b p q = ap₂ (λ (a b : Bool). go-on (need (not a) (AlreadyDefined span name) x) (λ _. need b (TooManyLocals span) >> (update-ctx λ c. with-locals c (record { name = name; depth = c .scope-depth; is-initialized = false; is-captured = false } ∷ c .locals)))) p q
+  declare-is a b p q = ap₂ (λ (a b : Bool). go-on (need (not a) (AlreadyDefined span name) x)
+      (λ _. need b (TooManyLocals span) >> (update-ctx λ c. with-locals c (record { name = name; depth = c .scope-depth; is-initialized = false; is-captured = false } ∷ c .locals)))) p q
 
   pub declare-again : declared (x .ctx .scope-depth) name (x .ctx .locals) ≡ true → declare-local name span x ≡ err (AlreadyDefined span name)
   unfolding need go-on
@@ -75,7 +82,8 @@ module _ (name : ℕ) (span : Span) (x : Compiler) where
   unfolding need go-on _>>_
   declare-full p h = declare-is false false p (le-ltb _ _ h)
 
-  pub declare-new : declared (x .ctx .scope-depth) name (x .ctx .locals) ≡ false → length (x .ctx .locals) < 256 → declare-local name span x ≡ ok tt (with-ctx x (with-locals (x .ctx) (record { name = name; depth = x .ctx .scope-depth; is-initialized = false; is-captured = false } ∷ x .ctx .locals)))
+  pub declare-new : declared (x .ctx .scope-depth) name (x .ctx .locals) ≡ false → length (x .ctx .locals) < 256 → declare-local name span x ≡ ok tt
+      (with-ctx x (with-locals (x .ctx) (record { name = name; depth = x .ctx .scope-depth; is-initialized = false; is-captured = false } ∷ x .ctx .locals)))
   unfolding need go-on _>>_ update-ctx
   declare-new p h = declare-is false true p (lt-ltb _ _ h)
 
@@ -89,13 +97,17 @@ module _ (l n name : ℕ) (span : Span) (t t′ : List ℕ) (r : Declared) (w : 
 
   pub declared-full : r ≡ decl.Full → Tried l n steady (declare-local name span) t t′ (Stop (TooManyLocals span))
   unfolding view ctxAt
-  declared-full q = record { gives = λ code spans fit. stop _ (record { refuses = λ rest _. declare-full name span (view (mem t code spans) l rest) (does-as decl.Full q .0) (does-as decl.Full q .1) }) }
+  declared-full q = record {
+    gives = λ code spans fit. stop _
+        (record { refuses = λ rest _. declare-full name span (view (mem t code spans) l rest) (does-as decl.Full q .0) (does-as decl.Full q .1) });
+  }
 
   pub declared-new : r ≡ decl.Done → Tried l n steady (declare-local name span) t t′ (Next n)
   unfolding view ctxAt
   declared-new q = record {
     gives = λ {class} {limit} code spans fit. next (record {
-      comes = λ rest _. declare-new name span (view (mem t code spans) l rest) (does-as decl.Done q .0) (does-as decl.Done q .1) ∙ ap (ok tt) (sym (view-locals t code spans t′ l upvalues-place _ (fit .wf) (fit .low) (w .kept) (omega arith) (does-as decl.Done q .2) rest));
+      comes = λ rest _. declare-new name span (view (mem t code spans) l rest) (does-as decl.Done q .0) (does-as decl.Done q .1) ∙ ap (ok tt)
+          (sym (view-locals t code spans t′ l upvalues-place _ (fit .wf) (fit .low) (w .kept) (omega arith) (does-as decl.Done q .2) rest));
       agrees = λ rest h. let low = fit .low in still-agrees (w .kept .above _ (omega arith)) h;
       ahead = ahead-kept t code spans t′ l limit 0 upvalues-place fit (w .wf) (record { below = λ i a. w .kept .below i (omega arith); above = w .kept .above }) (omega arith);
     });
@@ -126,7 +138,8 @@ module _ (limit : ℕ) (span : Span) (x : Compiler) where
   pop-none e = pops-is [] e
 
   module _ (a : Local) (ls : List Local) (e : x .ctx .locals ≡ a ∷ ls) where
-    pop-by : (b : Bool) → ltb (x .ctx .scope-depth) (a .depth) ≡ b → pops limit span x ≡ (if b then (emit-op limit (dropping a) span >> (update-ctx (λ c. with-locals c ls) >> pop-locals limit ls span)) else done) x
+    pop-by : (b : Bool) → ltb (x .ctx .scope-depth) (a .depth) ≡ b → pops limit span x ≡
+        (if b then (emit-op limit (dropping a) span >> (update-ctx (λ c. with-locals c ls) >> pop-locals limit ls span)) else done) x
     unfolding pop-locals _>>=_ the go-on
     pop-by b q = pops-is (a ∷ ls) e ∙ ap (λ (b : Bool). (if b then (emit-op limit (dropping a) span >> (update-ctx (λ c. with-locals c ls) >> pop-locals limit ls span)) else done) x) q
 
@@ -160,7 +173,8 @@ module _ (l limit : ℕ) (span : Span) (t code spans : List ℕ) (fit : Fit (mem
   module _ (some : getD t (l * level-words + local-count-place) 0 ≡ 0 → ⊥) where
     peel : localsOf t l ≡ newest ∷ stack (λ i. localOf (getD t (l * level-words + i) 0)) (getD t (l * level-words + local-count-place) 0 - 1)
     unfolding stack
-    peel = let e : getD t (l * level-words + local-count-place) 0 ≡ suc (getD t (l * level-words + local-count-place) 0 - 1) = omega arith in ap (stack (λ i. localOf (getD t (l * level-words + i) 0))) e
+    peel = let e : getD t (l * level-words + local-count-place) 0 ≡ suc (getD t (l * level-words + local-count-place) 0 - 1) = omega arith in ap
+        (stack (λ i. localOf (getD t (l * level-words + i) 0))) e
 
     pub popped-stop : newest .depth ≤ getD t (l * level-words + depth-place) 0 → PoppedAt limit l span (mem t code spans) (mem t code spans) popped.Stop
     unfolding view ctxAt
@@ -172,13 +186,16 @@ module _ (l limit : ℕ) (span : Span) (t code spans : List ℕ) (fit : Fit (mem
       };
     }
 
-    module _ (deep : getD t (l * level-words + depth-place) 0 < newest .depth) (byte : ℕ) (is : byte ≡ dropping newest) (t₁ code₁ spans₁ : List ℕ) (r : Emitted) (w : Wrote t code spans t₁ code₁ spans₁ l limit byte span r) where
+    module _ (deep : getD t (l * level-words + depth-place) 0 < newest .depth) (byte : ℕ) (is : byte ≡ dropping newest) (t₁ code₁ spans₁ : List ℕ) (r : Emitted)
+        (w : Wrote t code spans t₁ code₁ spans₁ l limit byte span r) where
       pub popped-full : (now : Mem) → r ≡ emitted.Full → PoppedAt limit l span (mem t code spans) now popped.Full
       unfolding view ctxAt emit-op
       popped-full now q = record {
         does = λ class. record {
           refuses = λ rest h. pop-more limit span (view (mem t code spans) l rest) newest _ peel deep
-              ∙ ap (λ (b : ℕ). (emit-u8 limit b span >> (update-ctx (λ c. with-locals c (stack (λ i. localOf (getD t (l * level-words + i) 0)) (getD t (l * level-words + local-count-place) 0 - 1))) >> pop-locals limit (stack (λ i. localOf (getD t (l * level-words + i) 0)) (getD t (l * level-words + local-count-place) 0 - 1)) span)) (view (mem t code spans) l rest)) (sym is)
+              ∙ ap (λ (b : ℕ). (emit-u8 limit b span >> (update-ctx
+              (λ c. with-locals c (stack (λ i. localOf (getD t (l * level-words + i) 0)) (getD t (l * level-words + local-count-place) 0 - 1))) >>
+              pop-locals limit (stack (λ i. localOf (getD t (l * level-words + i) 0)) (getD t (l * level-words + local-count-place) 0 - 1)) span)) (view (mem t code spans) l rest)) (sym is)
               ∙ refused-seq (byte-full l limit byte span t code spans t₁ code₁ spans₁ r fit w {class = class} q) _ .refuses rest h;
         };
       }
@@ -194,15 +211,18 @@ module _ (l limit : ℕ) (span : Span) (t code spans : List ℕ) (fit : Fit (mem
         count = at local-count-place (omega arith)
 
         same-newest : localOf (getD t₁ (l * level-words + (getD t₁ (l * level-words + local-count-place) 0 - 1)) 0) ≡ newest
-        same-newest = let few = fit .wf .fewLocals l (fit .low) in ap (λ (k : ℕ). localOf (getD t₁ (l * level-words + (k - 1)) 0)) count ∙ ap localOf (at (getD t (l * level-words + local-count-place) 0 - 1) (omega arith))
+        same-newest = let few = fit .wf .fewLocals l (fit .low) in ap (λ (k : ℕ). localOf (getD t₁ (l * level-words + (k - 1)) 0)) count ∙ ap localOf
+            (at (getD t (l * level-words + local-count-place) 0 - 1) (omega arith))
 
         split : localsOf t l ≡ newest ∷ localsOf t₂ l
         split = sym (locals-same t t₁ l (fit .wf .fewLocals l (fit .low)) (λ o h. at o (omega arith))) ∙ d .does ∙ ap (λ (a : Local). a ∷ localsOf t₂ l) same-newest
 
         dropped-view : (rest : Rest) → with-ctx (view (mem t₁ code₁ spans₁) l rest) (with-locals (view (mem t₁ code₁ spans₁) l rest .ctx) (localsOf t₂ l)) ≡ view (mem t₂ code₁ spans₁) l rest
-        dropped-view rest = sym (view-locals t₁ code₁ spans₁ t₂ l upvalues-place _ (w .wf) (fit .low) (record { below = λ i a. d .kept .below i (omega arith); above = d .kept .above }) (omega arith) refl rest)
+        dropped-view rest = sym (view-locals t₁ code₁ spans₁ t₂ l upvalues-place _ (w .wf) (fit .low)
+            (record { below = λ i a. d .kept .below i (omega arith); above = d .kept .above }) (omega arith) refl rest)
 
-        after : (rest : Rest) → (update-ctx (λ c. with-locals c (localsOf t₂ l)) >> pop-locals limit (localsOf t₂ l) span) (view (mem t₁ code₁ spans₁) l rest) ≡ pops limit span (view (mem t₂ code₁ spans₁) l rest)
+        after : (rest : Rest) → (update-ctx (λ c. with-locals c (localsOf t₂ l)) >> pop-locals limit (localsOf t₂ l) span) (view (mem t₁ code₁ spans₁) l rest) ≡
+            pops limit span (view (mem t₂ code₁ spans₁) l rest)
         unfolding _>>_ update-ctx go-on _>>=_ the view ctxAt
         after rest = ap (pop-locals limit (localsOf t₂ l) span) (dropped-view rest)
 
@@ -210,7 +230,8 @@ module _ (l limit : ℕ) (span : Span) (t code spans : List ℕ) (fit : Fit (mem
         unfolding view ctxAt emit-op
         popped-more q =
             let low = fit .low in
-            let gb : (class : ℕ) → Gave class limit l steady (emit-u8 limit byte span) tt (mem t code spans) (mem t₁ code₁ spans₁) = λ class. byte-gave l limit byte span t code spans t₁ code₁ spans₁ r fit w q in
+            let gb : (class : ℕ) → Gave class limit l steady (emit-u8 limit byte span) tt (mem t code spans) (mem t₁ code₁ spans₁) = λ class. byte-gave l limit
+            byte span t code spans t₁ code₁ spans₁ r fit w q in
             let fit₁ : Fit (mem t₁ code₁ spans₁) l limit = record { low = low; wf = w .wf; coded = w .coded } in
             record {
               does = (
@@ -237,7 +258,8 @@ passing-none p fit = record { same = λ rest h. refl; agrees = λ rest h. h; ahe
 pub passing-then : {limit l : ℕ} {p : Compile Unit} {a b c : Mem} → Passing limit l p a b → Passing limit l p b c → Passing limit l p a c
 passing-then x y = record { same = λ rest h. x .same rest h ∙ y .same rest (x .agrees rest h); agrees = λ rest h. y .agrees rest (x .agrees rest h); ahead = ahead-then (x .ahead) (y .ahead) }
 
-module _ (l limit d : ℕ) (span : Span) (t code spans t₁ : List ℕ) (fit : Fit (mem t code spans) l limit) (w : Moved t t₁ l d) (q : d ≡ getD t (l * level-words + depth-place) 0 - 1) (mid : Mem) (p : Passing limit l (pops limit span) (mem t₁ code spans) mid) where
+module _ (l limit d : ℕ) (span : Span) (t code spans t₁ : List ℕ) (fit : Fit (mem t code spans) l limit) (w : Moved t t₁ l d)
+    (q : d ≡ getD t (l * level-words + depth-place) 0 - 1) (mid : Mem) (p : Passing limit l (pops limit span) (mem t₁ code spans) mid) where
   pub ended : (now : Mem) → PoppedAt limit l span mid now popped.Stop → {class : ℕ} → Gave class limit l shallower (end-scope limit span) tt (mem t code spans) now
   unfolding end-scope
   ended now h {class} =
@@ -262,7 +284,8 @@ pub entered : (l name arity kind : ℕ) (t t′ : List ℕ) → l + 1 < levels �
 unfolding begin-ctx view depth-at
 entered l name arity kind t t′ low w = record {
   fit = λ {limit} code spans fit. record { low = omega arith; wf = w .wf; coded = w .coded code spans limit (fit .coded) };
-  comes = λ code spans rest. let c = w .fresh code spans in let ps = w .around code spans in ap (ok tt) (sym (λ i. record { ctx = c i; parents = ps i; class-ctx = rest .classes; functions = rest .functions }));
+  comes = λ code spans rest. let c = w .fresh code spans in let ps = w .around code spans in ap (ok tt)
+      (sym (λ i. record { ctx = c i; parents = ps i; class-ctx = rest .classes; functions = rest .functions }));
   deep = λ code spans. scope-of t′ code spans (suc l) _ (w .fresh code spans);
   kept = w .kept;
 }
@@ -303,10 +326,14 @@ left-up l t t′ low wf w =
           });
       comes = λ code spans rest.
           let c : ctxAt t code spans l (codeFrom t (suc l)) (runsFrom t (suc l)) ≡ ctxAt t′ code spans l (codeEnd t′) (runsEnd t′) =
-          sym (ap₂ (ctxAt t′ code spans l) (w .code) (w .runs) ∙ ctx-same t code spans t′ code spans l (codeFrom t (suc l)) (runsFrom t (suc l)) wf (omega arith) (λ o h. at l o (omega arith) (omega arith)) (λ i h. refl) (λ i h. refl)) in
-          let ps : parentsOf t code spans l ≡ parentsOf t′ code spans l = sym (parents-named t t′ l wf (omega arith) (λ k o a b. at k o (omega arith) (omega arith)) (at l code-from-place (omega arith) (omega arith)) (at l runs-from-place (omega arith) (omega arith)) code spans) in
+          sym (ap₂ (ctxAt t′ code spans l) (w .code) (w .runs) ∙ ctx-same t code spans t′ code spans l (codeFrom t (suc l)) (runsFrom t (suc l)) wf
+          (omega arith) (λ o h. at l o (omega arith) (omega arith)) (λ i h. refl) (λ i h. refl)) in
+          let ps : parentsOf t code spans l ≡ parentsOf t′ code spans l = sym
+          (parents-named t t′ l wf (omega arith) (λ k o a b. at k o (omega arith) (omega arith)) (at l code-from-place (omega arith) (omega arith))
+          (at l runs-from-place (omega arith) (omega arith)) code spans) in
           leave-is l t code spans rest
-          ∙ ap (ok (length (rest .functions), upvaluesOf t (suc l))) (λ i. record { ctx = c i; parents = ps i; class-ctx = rest .classes; functions = finished (mem t code spans) (suc l) rest .functions })
+          ∙ ap (ok (length (rest .functions), upvaluesOf t (suc l)))
+          (λ i. record { ctx = c i; parents = ps i; class-ctx = rest .classes; functions = finished (mem t code spans) (suc l) rest .functions })
           ∙ ap (λ (k : ℕ). ok (length (rest .functions), upvaluesOf t (suc l)) (view (mem t′ code spans) k (finished (mem t code spans) (suc l) rest))) (sym q);
       kept = w .kept;
     }

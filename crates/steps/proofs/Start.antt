@@ -117,7 +117,10 @@ module _ (t : List ℕ) (blank : Blank t) where
   depth = zero depth-place (λ e. omega arith) (blank .empty 0 (omega arith) .depth)
 
   name : getD t₉ name-place 0 ≡ 3
-  name = getD-set-other t₈ _ name-place 0 0 (λ e. omega arith) ∙ getD-set-other t₇ _ name-place 0 0 (λ e. omega arith) ∙ getD-set-other t₆ _ name-place 0 0 (λ e. omega arith) ∙ getD-set-other t₅ _ name-place 0 0 (λ e. omega arith) ∙ getD-set-other t₄ _ name-place 0 0 (λ e. omega arith) ∙ getD-set-other t₃ _ name-place 0 0 (λ e. omega arith) ∙ getD-set-other t₂ _ name-place 0 0 (λ e. omega arith) ∙ getD-set-other t₁ _ name-place 0 0 (λ e. omega arith) ∙ getD-set-same t name-place 3 0 (omega (arith, blank .wf .size))
+  name = getD-set-other t₈ _ name-place 0 0 (λ e. omega arith) ∙ getD-set-other t₇ _ name-place 0 0 (λ e. omega arith) ∙ getD-set-other t₆ _ name-place 0 0
+      (λ e. omega arith) ∙ getD-set-other t₅ _ name-place 0 0 (λ e. omega arith) ∙ getD-set-other t₄ _ name-place 0 0 (λ e. omega arith) ∙ getD-set-other t₃ _
+      name-place 0 0 (λ e. omega arith) ∙ getD-set-other t₂ _ name-place 0 0 (λ e. omega arith) ∙ getD-set-other t₁ _ name-place 0 0 (λ e. omega arith) ∙
+      getD-set-same t name-place 3 0 (omega (arith, blank .wf .size))
 
   code-from : getD t₉ code-from-place 0 ≡ 0
   code-from = zero₂ code-from-place (getD-set-same t₁ code-from-place 0 0 (omega (arith, wf₁ .size)))
@@ -176,7 +179,15 @@ module _ (t : List ℕ) (blank : Blank t) where
         let os = empty-row (λ i. getD code (codeFrom t₉ 0 + i) 0) (codeEnd t₉ - codeFrom t₉ 0) (omega (arith, code-end)) in
         let rs = empty-row (λ i. runAt spans (runsFrom t₉ 0 + i)) (runsEnd t₉ - runsFrom t₉ 0) (omega (arith, runs-end)) in
         λ i. record {
-          ctx = record { name = name i; arity = arity i; type = type-of (type i); chunk = record { ops = os i; constants = ks i; spans = rs i }; locals = ls i; upvalues = us i; scope-depth = depth i };
+          ctx = record {
+            name = name i;
+            arity = arity i;
+            type = type-of (type i);
+            chunk = record { ops = os i; constants = ks i; spans = rs i };
+            locals = ls i;
+            upvalues = us i;
+            scope-depth = depth i;
+          };
           parents = [];
           class-ctx = [];
           functions = [];

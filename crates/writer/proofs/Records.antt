@@ -36,7 +36,8 @@ module _ (t code spans : List ℕ) (l : ℕ) where
   -- what `put_function` puts, in its order
   abbrev pub put-in-order : List ℕ
   put-in-order =
-      head-bytes (getD t (l * level-words + name-place) 0) (getD t (l * level-words + arity-place) 0) (getD t (l * level-words + upvalue-count-place) 0) (getD t (l * level-words + constant-count-place) 0) (runsEnd t - runsFrom t l) (codeEnd t - codeFrom t l)
+      head-bytes (getD t (l * level-words + name-place) 0) (getD t (l * level-words + arity-place) 0) (getD t (l * level-words + upvalue-count-place) 0)
+      (getD t (l * level-words + constant-count-place) 0) (runsEnd t - runsFrom t l) (codeEnd t - codeFrom t l)
       ++ ((join constant-bytes (stretch (constant-at t) (l * level-words + constants-place) (getD t (l * level-words + constant-count-place) 0))
       ++ join run-bytes (stretch (runAt spans) (runsFrom t l) (runsEnd t - runsFrom t l)))
       ++ ((0x43 ∷ 0x44 ∷ []) ++ stretch (byte-at code) (codeFrom t l) (codeEnd t - codeFrom t l)))

@@ -38,15 +38,34 @@ add-w c = search needs
 first-requires : tie.Need-first-requires
 first-requires c κs = omega (arith, few (c .before .before .before))
 
+-- ## Places
+
+abbrev start-of-slice-known2 : tie.After-slice-known2 → tie.Start
+start-of-slice-known2 c = c .before .before
+
+abbrev start-of-then1 : tie.Then1 → tie.Start
+start-of-then1 c = start-of-slice-known2 (c .before .before .before)
+
+abbrev start-of-first-arg : tie.After-first-arg → tie.Start
+start-of-first-arg c = c .before .before .before
+
+abbrev start-of-then2 : tie.Then2 → tie.Start
+start-of-then2 c = start-of-first-arg (c .before .before .before)
+
+abbrev start-of-else2 : tie.Else2 → tie.Start
+start-of-else2 c = start-of-first-arg (c .before .before .before)
+
+-- ## Needs
+
 cast-t18 : tie.Need-cast-t18
-cast-t18 c = omega (arith, few (c .before .before .before .before .before))
+cast-t18 c = omega (arith, few (start-of-then1 c))
 
 same-length : tie.Need-same-length
 same-length c = search needs
 
 returns : tie.Need-returns
 returns c =
-    let s = c .before .before .before .before .before in
+    let s = start-of-then1 c in
     let a = s .args in
     ways.there (a .t .now) (a .level) (a .is-local) (a .index) (s .pre .2) (s .fits .index .fits) (s .pre .0) (s .pre .1) (c .before .first .result) (c .before .first .ensures) (c .if1 .taken)
 
@@ -55,9 +74,10 @@ same-length-2 c = search needs
 
 returns-2 : tie.Need-returns-2
 returns-2 c =
-    let s = c .before .before .before .before .before .before in
+    let s = start-of-then2 c in
     let a = s .args in
-    ways.full (a .t .now) (a .level) (a .is-local) (a .index) (s .pre .2) (s .fits .index .fits) (s .pre .0) (s .pre .1) (c .before .before .first .result) (c .before .before .first .ensures) (c .before .if1 .left) (c .if2 .taken)
+    ways.full (a .t .now) (a .level) (a .is-local) (a .index) (s .pre .2) (s .fits .index .fits) (s .pre .0) (s .pre .1) (c .before .before .first .result)
+    (c .before .before .first .ensures) (c .before .if1 .left) (c .if2 .taken)
 
 add-t : tie.Need-add-t
 add-t c = search needs
@@ -85,9 +105,10 @@ same-length-3 c = search needs
 
 returns-3 : tie.Need-returns-3
 returns-3 c =
-    let s = c .before .before .before .before .before .before in
+    let s = start-of-else2 c in
     let a = s .args in
-    ways.pushed (a .t .now) (a .level) (a .is-local) (a .index) (s .pre .2) (s .fits .index .fits) (s .pre .0) (s .pre .1) (c .before .before .first .result) (c .before .before .first .ensures) (c .before .if1 .left) (c .if2 .left)
+    ways.pushed (a .t .now) (a .level) (a .is-local) (a .index) (s .pre .2) (s .fits .index .fits) (s .pre .0) (s .pre .1) (c .before .before .first .result)
+    (c .before .before .first .ensures) (c .before .if1 .left) (c .if2 .left)
 
 pub add-upvalue-spec : {M : Type 1} → statement M
 add-upvalue-spec =

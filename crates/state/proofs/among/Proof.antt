@@ -98,8 +98,78 @@ mul-result c = search needs
 shared-slice-read-result : tie.Need-shared-slice-read-result
 shared-slice-read-result c = search needs
 
+-- ## Places
+
+abbrev else5-of-else6 : tie.Else6 → tie.Else5
+else5-of-else6 c = c .before .before
+
+abbrev else5-of-shared-slice-known8 : tie.After-shared-slice-known8 → tie.Else5
+else5-of-shared-slice-known8 c = else5-of-else6 (c .before .before .before)
+
+abbrev start-of-else1 : tie.Else1 → tie.Start
+start-of-else1 c = c .before .before
+
+abbrev start-of-else2 : tie.Else2 → tie.Start
+start-of-else2 c = start-of-else1 (c .before .before)
+
+abbrev start-of-else3 : tie.Else3 → tie.Start
+start-of-else3 c = start-of-else2 (c .before .before)
+
+abbrev start-of-else4 : tie.Else4 → tie.Start
+start-of-else4 c = start-of-else3 (c .before .before)
+
+abbrev start-of-else5 : tie.Else5 → tie.Start
+start-of-else5 c = start-of-else4 (c .before .before)
+
+abbrev start-of-shared-slice-known8 : tie.After-shared-slice-known8 → tie.Start
+start-of-shared-slice-known8 c = start-of-else5 (else5-of-shared-slice-known8 c)
+
+abbrev else1-of-else2 : tie.Else2 → tie.Else1
+else1-of-else2 c = c .before .before
+
+abbrev else1-of-else3 : tie.Else3 → tie.Else1
+else1-of-else3 c = else1-of-else2 (c .before .before)
+
+abbrev else1-of-else4 : tie.Else4 → tie.Else1
+else1-of-else4 c = else1-of-else3 (c .before .before)
+
+abbrev else1-of-else5 : tie.Else5 → tie.Else1
+else1-of-else5 c = else1-of-else4 (c .before .before)
+
+abbrev else1-of-shared-slice-known8 : tie.After-shared-slice-known8 → tie.Else1
+else1-of-shared-slice-known8 c = else1-of-else5 (else5-of-shared-slice-known8 c)
+
+abbrev else2-of-else3 : tie.Else3 → tie.Else2
+else2-of-else3 c = c .before .before
+
+abbrev else2-of-else4 : tie.Else4 → tie.Else2
+else2-of-else4 c = else2-of-else3 (c .before .before)
+
+abbrev else2-of-else5 : tie.Else5 → tie.Else2
+else2-of-else5 c = else2-of-else4 (c .before .before)
+
+abbrev else2-of-shared-slice-known8 : tie.After-shared-slice-known8 → tie.Else2
+else2-of-shared-slice-known8 c = else2-of-else5 (else5-of-shared-slice-known8 c)
+
+abbrev else3-of-else4 : tie.Else4 → tie.Else3
+else3-of-else4 c = c .before .before
+
+abbrev else3-of-else5 : tie.Else5 → tie.Else3
+else3-of-else5 c = else3-of-else4 (c .before .before)
+
+abbrev else3-of-shared-slice-known8 : tie.After-shared-slice-known8 → tie.Else3
+else3-of-shared-slice-known8 c = else3-of-else5 (else5-of-shared-slice-known8 c)
+
+abbrev else4-of-shared-slice-known8 : tie.After-shared-slice-known8 → tie.Else4
+else4-of-shared-slice-known8 c = else5-of-shared-slice-known8 c .before .before
+
+-- ## Needs
+
 returns-8 : tie.Need-returns-8
-returns-8 c = λ e. let a = c .before .before .before .before .before .before .before .before .before .before .before .before .before .before .before .args in without-eight (a .t .now) (a .at) (a .w) (c .before .before .before .before .before .before .before .before .before .before .before .before .before .if1 .left) (c .before .before .before .before .before .before .before .before .before .before .before .if2 .left) (c .before .before .before .before .before .before .before .before .before .if3 .left) (c .before .before .before .before .before .before .before .if4 .left) (c .before .before .before .before .before .if5 .left) (c .before .before .before .if6 .left) (c .before .if7 .left) (eqb-false _ _ e)
+returns-8 c =
+    λ e. let a = start-of-shared-slice-known8 c .args in without-eight (a .t .now) (a .at) (a .w) (else1-of-shared-slice-known8 c .if1 .left)
+    (else2-of-shared-slice-known8 c .if2 .left) (else3-of-shared-slice-known8 c .if3 .left) (else4-of-shared-slice-known8 c .if4 .left)
+    (else5-of-shared-slice-known8 c .if5 .left) (c .before .before .before .if6 .left) (c .before .if7 .left) (eqb-false _ _ e)
 
 pub among-spec : {M : Type 1} → statement M
 among-spec =

@@ -38,12 +38,37 @@ sub-i c = search needs
 loop-less : tie.Need-loop-less Inv-loop μ-loop
 loop-less c = search needs
 
+-- ## Places
+
+abbrev at-loop-of-else1 : tie.Else1 Inv-loop μ-loop → tie.At-loop Inv-loop μ-loop
+at-loop-of-else1 c = c .before
+
+abbrev at-loop-of-else3 : tie.Else3 Inv-loop μ-loop → tie.At-loop Inv-loop μ-loop
+at-loop-of-else3 c = at-loop-of-else1 (c .before .before .before)
+
+abbrev start-of-else3 : tie.Else3 Inv-loop μ-loop → tie.Start Inv-loop μ-loop
+start-of-else3 c = at-loop-of-else3 c .before
+
+abbrev start-of-at-loop : tie.At-loop Inv-loop μ-loop → tie.Start Inv-loop μ-loop
+start-of-at-loop c = c .before
+
+abbrev start-of-then2 : tie.Then2 Inv-loop μ-loop → tie.Start Inv-loop μ-loop
+start-of-then2 c = start-of-at-loop (c .before .before .before)
+
+abbrev at-loop-of-then3 : tie.Then3 Inv-loop μ-loop → tie.At-loop Inv-loop μ-loop
+at-loop-of-then3 c = at-loop-of-else1 (c .before .before .before)
+
+abbrev start-of-then3 : tie.Then3 Inv-loop μ-loop → tie.Start Inv-loop μ-loop
+start-of-then3 c = at-loop-of-then3 c .before
+
+-- ## Needs
+
 loop-again : tie.Need-loop-again Inv-loop μ-loop
 loop-again c =
-    let a = c .before .before .before .before .before .args in
-    let i = c .before .before .before .before .loop .i in
+    let a = start-of-else3 c .args in
+    let i = at-loop-of-else3 c .loop .i in
     let f : ℕ → Local = λ j. localOf (getD (a .t .now) (a .base + j) 0) in
-    (omega arith, sym (ways.clash-skip f (a .name) (a .depth) i (omega arith) (c .before .if2 .left) (c .if3 .left)) ∙ c .before .before .before .before .loop .inv .1)
+    (omega arith, sym (ways.clash-skip f (a .name) (a .depth) i (omega arith) (c .before .if2 .left) (c .if3 .left)) ∙ at-loop-of-else3 c .loop .inv .1)
 
 returns : tie.Need-returns Inv-loop μ-loop
 returns c =
@@ -52,15 +77,16 @@ returns c =
 
 returns-2 : tie.Need-returns-2 Inv-loop μ-loop
 returns-2 c =
-    let a = c .before .before .before .before .args in
-    sym (ways.clash-stop (λ j. localOf (getD (a .t .now) (a .base + j) 0)) (a .name) (a .depth) (c .before .before .before .loop .i) (omega arith) (c .if2 .taken)) ∙ c .before .before .before .loop .inv .1
+    let a = start-of-then2 c .args in
+    sym (ways.clash-stop (λ j. localOf (getD (a .t .now) (a .base + j) 0)) (a .name) (a .depth) (c .before .before .before .loop .i) (omega arith)
+    (c .if2 .taken)) ∙ c .before .before .before .loop .inv .1
 
 returns-3 : tie.Need-returns-3 Inv-loop μ-loop
 returns-3 c =
-    let a = c .before .before .before .before .before .args in
-    let i = c .before .before .before .before .loop .i in
+    let a = start-of-then3 c .args in
+    let i = at-loop-of-then3 c .loop .i in
     let pos : 0 < i = omega arith in
-    lt-ltb 0 i pos ∙ sym (ways.clash-hit (λ j. localOf (getD (a .t .now) (a .base + j) 0)) (a .name) (a .depth) i pos (c .before .if2 .left) (c .if3 .taken)) ∙ c .before .before .before .before .loop .inv .1
+    lt-ltb 0 i pos ∙ sym (ways.clash-hit (λ j. localOf (getD (a .t .now) (a .base + j) 0)) (a .name) (a .depth) i pos (c .before .if2 .left) (c .if3 .taken)) ∙ at-loop-of-then3 c .loop .inv .1
 
 pub clashing-spec : {M : Type 1} → statement M
 clashing-spec =

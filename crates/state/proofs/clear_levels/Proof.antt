@@ -19,8 +19,24 @@ abbrev μ-loop : tie.MeasureT-loop
 loop-holds : tie.Need-loop-holds Inv-loop μ-loop
 loop-holds c = (omega arith, refl, λ k h. absurd (omega arith))
 
+-- ## Places
+
+abbrev start-of-at-loop : tie.At-loop Inv-loop μ-loop → tie.Start Inv-loop μ-loop
+start-of-at-loop c = c .before .before
+
+abbrev start-of-clear-level-arg : tie.After-clear-level-arg Inv-loop μ-loop → tie.Start Inv-loop μ-loop
+start-of-clear-level-arg c = start-of-at-loop (c .before .before)
+
+abbrev at-loop-of-clear-level-arg : tie.After-clear-level-arg Inv-loop μ-loop → tie.At-loop Inv-loop μ-loop
+at-loop-of-clear-level-arg c = c .before .before
+
+abbrev at-loop-of-slice-known2 : tie.After-slice-known2 Inv-loop μ-loop → tie.At-loop Inv-loop μ-loop
+at-loop-of-slice-known2 c = at-loop-of-clear-level-arg (c .before .before .before)
+
+-- ## Needs
+
 clear-level-requires : tie.Need-clear-level-requires Inv-loop μ-loop
-clear-level-requires c κs = (omega arith, c .before .before .loop .inv .1 ∙ c .before .before .before .before .pre)
+clear-level-requires c κs = (omega arith, c .before .before .loop .inv .1 ∙ start-of-clear-level-arg c .pre)
 
 add-level : tie.Need-add-level Inv-loop μ-loop
 add-level c = search needs
@@ -29,7 +45,12 @@ loop-less : tie.Need-loop-less Inv-loop μ-loop
 loop-less c = search needs
 
 loop-again : tie.Need-loop-again Inv-loop μ-loop
-loop-again c = (omega arith, omega (arith, c .before .before .clear-level .kept .0, c .before .before .before .before .before .loop .inv .1), empty-more _ _ _ (c .before .before .before .before .before .loop .inv .2) (c .before .before .clear-level .ensures))
+loop-again c = (
+  omega arith,
+  omega (arith, c .before .before .clear-level .kept .0, at-loop-of-slice-known2 c .loop .inv .1),
+  empty-more _ _ _
+      (at-loop-of-slice-known2 c .loop .inv .2) (c .before .before .clear-level .ensures),
+)
 
 same-length : tie.Need-same-length Inv-loop μ-loop
 same-length c = search needs

@@ -30,15 +30,37 @@ mul-depth c = search needs
 slice-read-depth : tie.Need-slice-read-depth
 slice-read-depth c = search needs
 
+-- ## Places
+
+abbrev start-of-slice-known : tie.After-slice-known → tie.Start
+start-of-slice-known c = c .before
+
+abbrev start-of-clashing-arg : tie.After-clashing-arg → tie.Start
+start-of-clashing-arg c = start-of-slice-known (c .before .before .before)
+
+abbrev start-of-slice-known3 : tie.After-slice-known3 → tie.Start
+start-of-slice-known3 c = c .before .before .before
+
+abbrev start-of-then1 : tie.Then1 → tie.Start
+start-of-then1 c = start-of-slice-known3 (c .before .before .before)
+
+abbrev start-of-then2 : tie.Then2 → tie.Start
+start-of-then2 c = start-of-clashing-arg (c .before .before .before)
+
+abbrev start-of-else2 : tie.Else2 → tie.Start
+start-of-else2 c = start-of-clashing-arg (c .before .before .before)
+
+-- ## Needs
+
 clashing-requires : tie.Need-clashing-requires
-clashing-requires c κs = let s = c .before .before .before .before in omega (arith, s .pre .1 .fewLocals (s .args .level) (s .pre .0))
+clashing-requires c κs = let s = start-of-clashing-arg c in omega (arith, s .pre .1 .fewLocals (s .args .level) (s .pre .0))
 
 same-length : tie.Need-same-length
 same-length c = search needs
 
 returns : tie.Need-returns
 returns c =
-    let s = c .before .before .before .before .before .before in
+    let s = start-of-then1 c in
     let a = s .args in
     ways.already (a .t .now) (a .level) (a .name) (s .fits .name .fits) (s .pre .0) (s .pre .1) (sym (c .before .clashing .ensures) ∙ lt-ltb 0 _ (c .if1 .taken))
 
@@ -47,15 +69,15 @@ same-length-2 c = search needs
 
 returns-2 : tie.Need-returns-2
 returns-2 c =
-    let s = c .before .before .before .before .before .before .before in
+    let s = start-of-then2 c in
     let a = s .args in
     ways.full (a .t .now) (a .level) (a .name) (s .fits .name .fits) (s .pre .0) (s .pre .1) (sym (c .before .before .clashing .ensures) ∙ le-ltb 0 _ (c .before .if1 .left)) (c .if2 .taken)
 
 mul-t : tie.Need-mul-t
-mul-t c = let s = c .before .before .before .before .before .before .before in omega (arith, s .pre .1 .shallow (s .args .level) (s .pre .0))
+mul-t c = let s = start-of-else2 c in omega (arith, s .pre .1 .shallow (s .args .level) (s .pre .0))
 
 add-t : tie.Need-add-t
-add-t c = let s = c .before .before .before .before .before .before .before in omega (arith, s .pre .1 .shallow (s .args .level) (s .pre .0))
+add-t c = let s = start-of-else2 c in omega (arith, s .pre .1 .shallow (s .args .level) (s .pre .0))
 
 add-t-2 : tie.Need-add-t-2
 add-t-2 c = search needs
@@ -83,7 +105,7 @@ same-length-3 c = search needs
 
 returns-3 : tie.Need-returns-3
 returns-3 c =
-    let s = c .before .before .before .before .before .before .before in
+    let s = start-of-else2 c in
     let a = s .args in
     ways.pushed (a .t .now) (a .level) (a .name) (s .fits .name .fits) (s .pre .0) (s .pre .1) (sym (c .before .before .clashing .ensures) ∙ le-ltb 0 _ (c .before .if1 .left)) (c .if2 .left)
 

@@ -41,29 +41,42 @@ mul-w c = omega (arith, few (c .before .before))
 slice-read-w : tie.Need-slice-read-w
 slice-read-w c = omega (arith, few (c .before .before .before))
 
+-- ## Places
+
+abbrev start-of-slice-known : tie.After-slice-known → tie.Start
+start-of-slice-known c = c .before
+
+abbrev start-of-then2 : tie.Then2 → tie.Start
+start-of-then2 c = start-of-slice-known (c .before .before .before)
+
+abbrev start-of-else2 : tie.Else2 → tie.Start
+start-of-else2 c = start-of-slice-known (c .before .before .before)
+
+-- ## Needs
+
 add-t : tie.Need-add-t
 add-t c =
-    let a = c .before .before .before .before .args in
+    let a = start-of-then2 c .args in
     omega (arith, c .before .slice-known2 .given (a .level * level-words + (getD (a .t .now) (a .level * level-words + local-count-place) 0 - 1)))
 
 mul-t : tie.Need-mul-t
-mul-t c = omega (arith, few (c .before .before .before .before))
+mul-t c = omega (arith, few (start-of-then2 c))
 
 slice-write-t : tie.Need-slice-write-t
-slice-write-t c = omega (arith, few (c .before .before .before .before))
+slice-write-t c = omega (arith, few (start-of-then2 c))
 
 same-length : tie.Need-same-length
 same-length c = search needs
 
 returns-2 : tie.Need-returns-2
 returns-2 c =
-    let s = c .before .before .before .before in
+    let s = start-of-then2 c in
     let a = s .args in
     ways.define-now (a .t .now) (a .level) (s .pre .0) (s .pre .1) (getD (a .t .now) (a .level * level-words + local-count-place) 0 - 1) (omega arith) (c .if2 .taken)
 
 returns-3 : tie.Need-returns-3
 returns-3 c =
-    let s = c .before .before .before .before in
+    let s = start-of-else2 c in
     let a = s .args in
     ways.define-again (a .t .now) (a .level) (s .pre .0) (s .pre .1) (getD (a .t .now) (a .level * level-words + local-count-place) 0 - 1) (omega arith) (c .if2 .left)
 

@@ -12,9 +12,46 @@ use Rattle.state.proofs.emit_u8.Tie as tie
 slice-read-n : tie.Need-slice-read-n
 slice-read-n c = search needs
 
+-- ## Places
+
+abbrev start-of-slice-known2 : tie.After-slice-known2 → tie.Start
+start-of-slice-known2 c = c .before .before
+
+abbrev start-of-then1 : tie.Then1 → tie.Start
+start-of-then1 c = start-of-slice-known2 (c .before .before .before)
+
+abbrev else1-of-slice-known6 : tie.After-slice-known6 → tie.Else1
+else1-of-slice-known6 c = c .before .before
+
+abbrev else1-of-then2 : tie.Then2 → tie.Else1
+else1-of-then2 c = else1-of-slice-known6 (c .before .before .before)
+
+abbrev start-of-else1 : tie.Else1 → tie.Start
+start-of-else1 c = start-of-slice-known2 (c .before .before .before)
+
+abbrev start-of-then2 : tie.Then2 → tie.Start
+start-of-then2 c = start-of-else1 (else1-of-then2 c)
+
+abbrev else1-of-can-grow-arg : tie.After-can-grow-arg → tie.Else1
+else1-of-can-grow-arg c = c .before .before .before
+
+abbrev else1-of-slice-known7 : tie.After-slice-known7 → tie.Else1
+else1-of-slice-known7 c = else1-of-can-grow-arg (c .before .before .before)
+
+abbrev start-of-slice-known7 : tie.After-slice-known7 → tie.Start
+start-of-slice-known7 c = start-of-else1 (else1-of-slice-known7 c)
+
+abbrev else1-of-else2 : tie.Else2 → tie.Else1
+else1-of-else2 c = else1-of-slice-known6 (c .before .before .before)
+
+abbrev start-of-else2 : tie.Else2 → tie.Start
+start-of-else2 c = start-of-else1 (else1-of-else2 c)
+
+-- ## Needs
+
 returns : tie.Need-returns
 returns c =
-    let s = c .before .before .before .before .before in
+    let s = start-of-then1 c in
     let a = s .args in
     ways.full (a .t .now) (a .code .now) (a .spans .now) (a .level) (a .limit) (a .byte) (a .span) (s .pre .0) (s .pre .1) (s .pre .2) (c .if1 .taken)
 
@@ -47,7 +84,7 @@ can-grow-requires c κs = search needs
 
 sub-at : tie.Need-sub-at
 sub-at c =
-    let s = c .before .before .before .before .before .before .before .before .before .before in
+    let s = start-of-then2 c in
     let a = s .args in
     omega (arith, ways.grew (a .spans .now) (runsFrom (a .t .now) (a .level)) (runsEnd (a .t .now)) (a .span) (sym (c .before .can-grow .ensures) ∙ c .if2 .taken))
 
@@ -65,7 +102,7 @@ slice-read-spans c = search needs
 
 add-spans : tie.Need-add-spans
 add-spans c =
-    let s = c .before .before .before .before .before .before .before .before .before .before .before in
+    let s = start-of-slice-known7 c in
     let a = s .args in
     omega (arith, ways.small (a .spans .now) (runsFrom (a .t .now) (a .level)) (runsEnd (a .t .now)) (a .span) (sym (c .before .before .can-grow .ensures) ∙ c .before .if2 .taken))
 
@@ -86,9 +123,10 @@ same-length-3 c = search needs
 
 returns-2 : tie.Need-returns-2
 returns-2 c =
-    let s = c .before .before .before .before .before .before .before .before .before .before .before in
+    let s = start-of-slice-known7 c in
     let a = s .args in
-    ways.grown (a .t .now) (a .code .now) (a .spans .now) (a .level) (a .limit) (a .byte) (a .span) (s .pre .0) (s .pre .1) (s .pre .2) (c .before .before .before .before .before .before .if1 .left) (sym (c .before .before .can-grow .ensures) ∙ c .before .if2 .taken)
+    ways.grown (a .t .now) (a .code .now) (a .spans .now) (a .level) (a .limit) (a .byte) (a .span) (s .pre .0) (s .pre .1) (s .pre .2)
+    (else1-of-slice-known7 c .if1 .left) (sym (c .before .before .can-grow .ensures) ∙ c .before .if2 .taken)
 
 mul-spans-3 : tie.Need-mul-spans-3
 mul-spans-3 c = search needs
@@ -140,9 +178,10 @@ same-length-6 c = search needs
 
 returns-3 : tie.Need-returns-3
 returns-3 c =
-    let s = c .before .before .before .before .before .before .before .before .before .before in
+    let s = start-of-else2 c in
     let a = s .args in
-    ways.fresh (a .t .now) (a .code .now) (a .spans .now) (a .level) (a .limit) (a .byte) (a .span) (s .pre .0) (s .pre .1) (s .pre .2) (c .before .before .before .before .before .if1 .left) (sym (c .before .can-grow .ensures) ∙ c .if2 .left)
+    ways.fresh (a .t .now) (a .code .now) (a .spans .now) (a .level) (a .limit) (a .byte) (a .span) (s .pre .0) (s .pre .1) (s .pre .2)
+    (else1-of-else2 c .if1 .left) (sym (c .before .can-grow .ensures) ∙ c .if2 .left)
 
 pub emit-u8-spec : {M : Type 1} → statement M
 emit-u8-spec =

@@ -31,8 +31,23 @@ add-i c = search needs
 loop-less : tie.Need-loop-less Inv-loop μ-loop
 loop-less c = search needs
 
+-- ## Places
+
+abbrev start-of-at-loop : tie.At-loop Inv-loop μ-loop → tie.Start Inv-loop μ-loop
+start-of-at-loop c = c .before .before
+
+abbrev start-of-else2 : tie.Else2 Inv-loop μ-loop → tie.Start Inv-loop μ-loop
+start-of-else2 c = start-of-at-loop (c .before .before .before)
+
+-- ## Needs
+
 loop-again : tie.Need-loop-again Inv-loop μ-loop
-loop-again c = let a = c .before .before .before .before .before .args in (omega arith, without-more (a .t .now) (a .base) (c .before .before .before .loop .i) 8 (a .w) (c .before .before .before .loop .inv .1) (c .before .among .ensures (c .if2 .left)))
+loop-again c =
+    let a = start-of-else2 c .args in (
+      omega arith,
+      without-more (a .t .now) (a .base) (c .before .before .before .loop .i) 8 (a .w)
+          (c .before .before .before .loop .inv .1) (c .before .among .ensures (c .if2 .left)),
+    )
 
 returns : tie.Need-returns Inv-loop μ-loop
 returns c = c .before .loop .inv

@@ -26,8 +26,18 @@ move-scope-requires c κs = search needs
 same-length : tie.Need-same-length
 same-length c = search needs
 
+-- ## Places
+
+abbrev start-of-move-scope-arg : tie.After-move-scope-arg → tie.Start
+start-of-move-scope-arg c = c .before .before .before
+
+abbrev start-of-slice-known3 : tie.After-slice-known3 → tie.Start
+start-of-slice-known3 c = start-of-move-scope-arg (c .before .before .before)
+
+-- ## Needs
+
 returns : tie.Need-returns
-returns c = let a = c .before .before .before .before .before .before .args in ways.scope-begun (a .level) _ _ _ (c .before .before .move-scope .ensures) refl
+returns c = let a = start-of-slice-known3 c .args in ways.scope-begun (a .level) _ _ _ (c .before .before .move-scope .ensures) refl
 
 pub begin-scope-spec : {M : Type 1} → statement M
 begin-scope-spec =

@@ -29,8 +29,18 @@ sub-result c = search needs
 shared-slice-read-result : tie.Need-shared-slice-read-result
 shared-slice-read-result c = search needs
 
+-- ## Places
+
+abbrev start-of-shared-slice-known : tie.After-shared-slice-known → tie.Start
+start-of-shared-slice-known c = c .before
+
+abbrev start-of-shared-slice-known3 : tie.After-shared-slice-known3 → tie.Start
+start-of-shared-slice-known3 c = start-of-shared-slice-known (c .before .before .before)
+
+-- ## Needs
+
 returns-2 : tie.Need-returns-2
-returns-2 c = let a = c .before .before .before .before .args in ways.ends-by (a .t .now) (a .code .now) (a .level) _ (c .before .if1 .left) refl
+returns-2 c = let a = start-of-shared-slice-known3 c .args in ways.ends-by (a .t .now) (a .code .now) (a .level) _ (c .before .if1 .left) refl
 
 pub ends-in-return-spec : {M : Type 1} → statement M
 ends-in-return-spec =

@@ -37,7 +37,9 @@ sub-distance-3 c = let k = c .before .before .pre .1 in omega arith
 
 returns : tie.Need-returns
 unfolding code-len
-returns c = λ class. stop _ (ways.far (c .before .before .before .args .level) (c .before .before .before .args .place) _ (c .before .before .before .args .span) _ _ _ (c .before .before .before .pre .0) (c .before .before .before .pre .1) refl (c .if1 .taken))
+returns c =
+    λ class. stop _ (ways.far (c .before .before .before .args .level) (c .before .before .before .args .place) _ (c .before .before .before .args .span) _ _ _
+    (c .before .before .before .pre .0) (c .before .before .before .pre .1) refl (c .if1 .taken))
 
 add-at : tie.Need-add-at
 unfolding code-len
@@ -59,14 +61,17 @@ add-code c = let k = c .before .before .before .pre .1 in omega arith
 
 slice-write-code-2 : tie.Need-slice-write-code-2
 unfolding code-len
-slice-write-code-2 c = let k = c .before .before .before .pre .1 in simp length-set (omega (arith, c .before .before .before .pre .0 .coded .within, c .before .before .before .pre .0 .coded .roomCode))
+slice-write-code-2 c =
+    let k = c .before .before .before .pre .1 in simp length-set (omega (arith, c .before .before .before .pre .0 .coded .within, c .before .before .before .pre .0 .coded .roomCode))
 
 same-length : tie.Need-same-length
 same-length c = search needs
 
 returns-2 : tie.Need-returns-2
 unfolding code-len
-returns-2 c = λ class. next (ways.patched (c .before .before .before .args .level) (c .before .before .before .args .place) _ (c .before .before .before .args .span) _ _ _ (c .before .before .before .pre .0) (c .before .before .before .pre .1) refl (c .if1 .left))
+returns-2 c =
+    λ class. next (ways.patched (c .before .before .before .args .level) (c .before .before .before .args .place) _ (c .before .before .before .args .span) _ _
+    _ (c .before .before .before .pre .0) (c .before .before .before .pre .1) refl (c .if1 .left))
 
 pub patch-jump-spec : {M : Type 1} → statement M
 patch-jump-spec =
