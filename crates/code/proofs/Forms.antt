@@ -2,15 +2,16 @@
 use mathlib.Core.Path.{_≡_, refl, sym, _∙_, ap}
 use mathlib.Core.Bool.{Bool, true, false}
 use mathlib.Core.Option.{Option, none, some}
-use mathlib.Core.Logic.{⊎-elim}
 use mathlib.Core.List.{List, [], _∷_}
 use Prim.Native.Nat.{ℕ, zero, suc, _+_, _-_, _*_, _<_, _≤_}
 use native.Mathlib.Omega.{arith}
-use native.Mathlib.Nat.{add-zero, eq-or-lt-of-le}
+use native.Mathlib.Nat.{add-zero}
+use native.Mathlib.Decide.{decLt}
 use lib.Dec.{T, ltb, eqb, eqb→eq, ltb→lt}
 use lib.ListN.{length, getD, take, drop, List·getD-eq-default}
-use lib.Seq.{getD-drop, getD-take}
+use lib.Seq.{getD-drop}
 use borrow.Author.Tests.{ne-eqb}
+use Rattle.op.proofs.Ranges.{below}
 use Rattle.code.specs.Forms.{computes, form, form-of, by-form, width-by, width}
 use Rattle.rules.specs.Base.{if_then_else_, all-below, lookup}
 use Rattle.rules.specs.Op.{Operands, Plain, Byte, Captured, Value, Text, Invoke, Ahead, Back, Closure, operands, operands-of}
@@ -25,17 +26,6 @@ forms =
     2 ∷ 2 ∷ 4 ∷ 4 ∷ 4 ∷ 0 ∷ 0 ∷ 0 ∷ 0 ∷ 0 ∷
     0 ∷ 0 ∷ 0 ∷ 0 ∷ 0 ∷ 0 ∷ 0 ∷ 0 ∷ 6 ∷ 6 ∷
     7 ∷ 1 ∷ 5 ∷ 5 ∷ 8 ∷ 0 ∷ 0 ∷ 4 ∷ 0 ∷ 4 ∷ []
-
--- what is true of every number below a bound is true of each
-pub below : (count : ℕ) (p : ℕ → Bool) → T (all-below count p) → (i : ℕ) → i < count → T (p i)
-unfolding all-below
-below zero p t i l = absurd (omega arith)
-below (suc n) p t i l =
-    ⊎-elim (λ (q : i ≡ n). rw q (split (p n) t .0)) (λ (q : i < n). below n p (split (p n) t .1) i q) (eq-or-lt-of-le (omega arith))
-  where
-    split : (b : Bool) → T (if b then all-below n p else false) → T b × T (all-below n p)
-    split true t = (tt, t)
-    split false t = absurd t
 
 pub form-known : (op : ℕ) → op < 40 → getD forms op 0 ≡ form-of op
 unfolding Op.computes forms form form-of
@@ -78,58 +68,62 @@ by-form-is (some Ahead) = refl
 by-form-is (some Back) = refl
 by-form-is (some Closure) = refl
 
-module _ (k : Kind) where
-  pub width-0 : (f : ℕ) → f ≡ 0 → 1 ≡ width-by f k
-  unfolding computes
-  width-0 f e = rw e refl
+-- ## Widths: those of the rules' table, where a CLOSURE finds a function
 
-  pub width-2 : (f : ℕ) → (f ≡ 0 → ⊥) → f < 5 → 2 ≡ width-by f k
-  unfolding computes
-  width-2 zero n h = absurd (n refl)
-  width-2 (suc zero) n h = refl
-  width-2 (suc (suc zero)) n h = refl
-  width-2 (suc (suc (suc zero))) n h = refl
-  width-2 (suc (suc (suc (suc zero)))) n h = refl
-  width-2 (suc (suc (suc (suc (suc f))))) n h = absurd (omega arith)
+-- CLOSURE alone has such operands
+closure-only : (op : ℕ) → form-of op ≡ 8 → op ≡ Op.CLOSURE
+unfolding Op.computes form form-of
+closure-only op e = by-place (decLt op 40)
+  where
+    by-place : Dec (op < 40) → op ≡ Op.CLOSURE
+    by-place (yes h) = eqb→eq _ _ (rw e at (below 40 (λ i. if eqb (form-of i) 8 then eqb i Op.CLOSURE else true) tt op h))
+    by-place (no h) = let u : 9 ≡ form-of op = form-unknown op (omega arith) in absurd (omega (arith, u, e))
 
-  pub width-3 : (f : ℕ) → 5 ≤ f → f < 8 → 3 ≡ width-by f k
-  unfolding computes
-  width-3 zero l h = absurd (omega arith)
-  width-3 (suc zero) l h = absurd (omega arith)
-  width-3 (suc (suc zero)) l h = absurd (omega arith)
-  width-3 (suc (suc (suc zero))) l h = absurd (omega arith)
-  width-3 (suc (suc (suc (suc zero)))) l h = absurd (omega arith)
-  width-3 (suc (suc (suc (suc (suc zero))))) l h = refl
-  width-3 (suc (suc (suc (suc (suc (suc zero)))))) l h = refl
-  width-3 (suc (suc (suc (suc (suc (suc (suc zero))))))) l h = refl
-  width-3 (suc (suc (suc (suc (suc (suc (suc (suc f)))))))) l h = absurd (omega arith)
+fixed : (o : Option Operands) (k : Kind) → (form o ≡ 8 → ⊥) → Op.width-of o 0 ≡ width-by (form o) k
+unfolding computes form Op.width-of
+fixed none k n = refl
+fixed (some Plain) k n = refl
+fixed (some Byte) k n = refl
+fixed (some Captured) k n = refl
+fixed (some Value) k n = refl
+fixed (some Text) k n = refl
+fixed (some Invoke) k n = refl
+fixed (some Ahead) k n = refl
+fixed (some Back) k n = refl
+fixed (some Closure) k n = absurd (n refl)
 
-  pub width-9 : (f : ℕ) → 8 ≤ f → (f ≡ 8 → ⊥) → 0 ≡ width-by f k
-  unfolding computes
-  width-9 zero l h = absurd (omega arith)
-  width-9 (suc zero) l h = absurd (omega arith)
-  width-9 (suc (suc zero)) l h = absurd (omega arith)
-  width-9 (suc (suc (suc zero))) l h = absurd (omega arith)
-  width-9 (suc (suc (suc (suc zero)))) l h = absurd (omega arith)
-  width-9 (suc (suc (suc (suc (suc zero))))) l h = absurd (omega arith)
-  width-9 (suc (suc (suc (suc (suc (suc zero)))))) l h = absurd (omega arith)
-  width-9 (suc (suc (suc (suc (suc (suc (suc zero))))))) l h = absurd (omega arith)
-  width-9 (suc (suc (suc (suc (suc (suc (suc (suc zero)))))))) l h = absurd (h refl)
-  width-9 (suc (suc (suc (suc (suc (suc (suc (suc (suc f))))))))) l h = refl
+closure-form : form-of Op.CLOSURE ≡ 8
+unfolding Op.computes form form-of
+closure-form = refl
 
-pub width-closure-none : (f k : ℕ) → f ≡ 8 → k < 3 → 0 ≡ width-by f (kind-of k)
+missed : (k : ℕ) → k < 3 → 0 ≡ width-by 8 (kind-of k)
 unfolding computes kind-of
-width-closure-none f zero e h = rw e refl
-width-closure-none f (suc zero) e h = rw e refl
-width-closure-none f (suc (suc zero)) e h = rw e refl
-width-closure-none f (suc (suc (suc k))) e h = absurd (omega arith)
+missed zero h = refl
+missed (suc zero) h = refl
+missed (suc (suc zero)) h = refl
+missed (suc (suc (suc k))) h = absurd (omega arith)
 
-closure-width : (n : ℕ) → 2 + 2 * n ≡ width-by 8 (kind-of (suc (suc (suc n))))
-unfolding computes kind-of
-closure-width n = omega arith
+found : (n : ℕ) → Op.width Op.CLOSURE n ≡ width-by 8 (kind-of (suc (suc (suc n))))
+unfolding computes Op.computes kind-of
+found n = omega arith
 
-pub width-closure : (f k n : ℕ) → f ≡ 8 → k ≡ suc (suc (suc n)) → 2 + 2 * n ≡ width-by f (kind-of k)
-width-closure f k n e m = rw (e, m) (closure-width n)
+-- at a place of a code, where its first operand finds the word `k` of the table
+module _ (code table : List ℕ) (at op : ℕ) (is-op : op ≡ getD code at 0) where
+  abbrev its : ℕ
+  its = width (kinds-in table) (getD code at 0) (drop (at + 1) code)
+
+  pub width-fixed : (op ≡ Op.CLOSURE → ⊥) → (r : ℕ) → r ≡ Op.width op 0 → r ≡ its
+  unfolding width form-of Op.width
+  width-fixed n r e = rw (e, ← is-op) (fixed (operands-of op) _ (λ (c : form-of op ≡ 8). n (closure-only op c)))
+
+  module _ (k : ℕ) (is-kind : kind-of k ≡ kinds-in table (getD (drop (at + 1) code) 0 0)) (c : op ≡ Op.CLOSURE) where
+    pub width-missed : k < 3 → 0 ≡ its
+    unfolding width
+    width-missed h = rw (← is-op, ← is-kind, c, closure-form) (missed k h)
+
+    pub width-found : (n r : ℕ) → k ≡ suc (suc (suc n)) → r ≡ Op.width op n → r ≡ its
+    unfolding width
+    width-found n r m e = rw (e, ← is-op, ← is-kind, c, closure-form, m) (found n)
 
 pub kind-found : (code table : List ℕ) (at : ℕ) (place : ℕ) → place ≡ getD code (at + 1) 0
     → kind-of (getD table place 0) ≡ kinds-in table (getD (drop (at + 1) code) 0 0)
@@ -140,9 +134,3 @@ pub kind-beyond : (code table : List ℕ) (at : ℕ) → length code ≤ at + 1
     → kind-of (getD table 0 0) ≡ kinds-in table (getD (drop (at + 1) code) 0 0)
 unfolding kinds-in
 kind-beyond code table at h = rw (getD-drop, add-zero, List·getD-eq-default code 0 h) refl
-
-pub width-is : (code table : List ℕ) (at f k r : ℕ) → f ≡ form-of (getD code at 0)
-    → kind-of k ≡ kinds-in table (getD (drop (at + 1) code) 0 0) → r ≡ width-by f (kind-of k)
-    → r ≡ width (kinds-in table) (getD code at 0) (drop (at + 1) code)
-unfolding width
-width-is code table at f k r ef ek er = rw (er, ek, ef) refl

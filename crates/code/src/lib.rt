@@ -1,7 +1,5 @@
 // The code of one function of an image: whether it divides into instructions whose operands are as they should, whose jumps land on
 // instructions, and among which each function of the constants is named by one CLOSURE.
-// A constant, as operands see it, is one word of a table of 256: 0 there is none, 1 a number, 2 a string, 3 + n a function that captures n
-// variables.
 
 ghost use mathlib.Core.Path.{_≡_};
 ghost use mathlib.Core.Bool.{Bool, true, false};
@@ -11,68 +9,121 @@ ghost use lib.ListN.{length, getD, take, drop};
 ghost use Rattle.rules.specs.Base.{if_then_else_, all, all-below};
 ghost use Rattle.rules.specs.Division.{pairs-fit, operands-fit, is-function};
 ghost use Rattle.rules.specs.Division as Division;
-ghost use Rattle.code.specs.Forms.{form-of, width-by};
+ghost use Rattle.code.specs.Forms.{form-of};
 ghost use Rattle.code.specs.Forms as Forms;
 ghost use Rattle.code.specs.Table.{kind-of, kinds-in, division, instruction-at, from, instructions, is-some, judged, Filled, Near, start-at, all-land, Closing, Counted, judged-code};
+use op::Op;
 
 pub enum Verdict {
     Yes(usize),
     No,
 }
 
-// What follows an opcode: 0 nothing, 1 a byte, 2 a captured variable, 3 a constant that is no function, 4 a string, 5 a string and a byte,
-// 6 a distance ahead, 7 a distance back, 8 a function and a pair for each of its captured variables.
+// A constant, as operands see it, is one word of a table of 256: the rules' `Kind`.
+pub struct Kind {
+    pub word: u32,
+}
+
+impl Kind {
+    // there is no such constant
+    pub const MISSING: u32 = 0;
+
+    pub const NUMBER: u32 = 1;
+
+    pub const STRING: u32 = 2;
+
+    // and how many variables it captures is added
+    pub const FUNCTION: u32 = 3;
+}
+
+// What follows an opcode: the rules' `Operands`, by their names.
+pub struct Form {
+    pub number: u8,
+}
+
+impl Form {
+    // nothing
+    pub const PLAIN: u8 = 0;
+
+    // a slot or a count
+    pub const BYTE: u8 = 1;
+
+    // a captured variable's place
+    pub const CAPTURED: u8 = 2;
+
+    // the place of a constant that is no function
+    pub const VALUE: u8 = 3;
+
+    // the place of a string
+    pub const TEXT: u8 = 4;
+
+    // the place of a string, and a count
+    pub const INVOKE: u8 = 5;
+
+    // a distance ahead
+    pub const AHEAD: u8 = 6;
+
+    // a distance back
+    pub const BACK: u8 = 7;
+
+    // the place of a function, and a pair for each of its captured variables
+    pub const CLOSURE: u8 = 8;
+
+    // of a byte that is no opcode
+    pub const NONE: u8 = 9;
+}
+
+// The form of each opcode, in the order of their numbers.
 const FORMS: [u8; 40] = [
-    3,
-    0,
-    0,
-    0,
-    0,
-    1,
-    1,
-    4,
-    4,
-    4,
-    2,
-    2,
-    4,
-    4,
-    4,
-    0,
-    0,
-    0,
-    0,
-    0,
-    0,
-    0,
-    0,
-    0,
-    0,
-    0,
-    0,
-    0,
-    6,
-    6,
-    7,
-    1,
-    5,
-    5,
-    8,
-    0,
-    0,
-    4,
-    0,
-    4,
+    Form::VALUE, // CONSTANT
+    Form::PLAIN, // NIL
+    Form::PLAIN, // TRUE
+    Form::PLAIN, // FALSE
+    Form::PLAIN, // POP
+    Form::BYTE, // GET_LOCAL
+    Form::BYTE, // SET_LOCAL
+    Form::TEXT, // GET_GLOBAL
+    Form::TEXT, // DEFINE_GLOBAL
+    Form::TEXT, // SET_GLOBAL
+    Form::CAPTURED, // GET_UPVALUE
+    Form::CAPTURED, // SET_UPVALUE
+    Form::TEXT, // GET_PROPERTY
+    Form::TEXT, // SET_PROPERTY
+    Form::TEXT, // GET_SUPER
+    Form::PLAIN, // EQUAL
+    Form::PLAIN, // NOT_EQUAL
+    Form::PLAIN, // GREATER
+    Form::PLAIN, // GREATER_EQUAL
+    Form::PLAIN, // LESS
+    Form::PLAIN, // LESS_EQUAL
+    Form::PLAIN, // ADD
+    Form::PLAIN, // SUBTRACT
+    Form::PLAIN, // MULTIPLY
+    Form::PLAIN, // DIVIDE
+    Form::PLAIN, // NOT
+    Form::PLAIN, // NEGATE
+    Form::PLAIN, // PRINT
+    Form::AHEAD, // JUMP
+    Form::AHEAD, // JUMP_IF_FALSE
+    Form::BACK, // LOOP
+    Form::BYTE, // CALL
+    Form::INVOKE, // INVOKE
+    Form::INVOKE, // SUPER_INVOKE
+    Form::CLOSURE, // CLOSURE
+    Form::PLAIN, // CLOSE_UPVALUE
+    Form::PLAIN, // RETURN
+    Form::TEXT, // CLASS
+    Form::PLAIN, // INHERIT
+    Form::TEXT, // METHOD
 ];
 
-// Of an opcode that is none: 9.
 fn form_of(op: u8) -> u8
     ensures { λ r. ⌜ r ≡ form-of op ⌝ }
 {
-    if op < 40 {
+    if op <= Op::METHOD {
         return FORMS[op as usize];
     }
-    9
+    Form::NONE
 }
 
 fn wide(b: u8) -> usize
@@ -87,28 +138,6 @@ fn wide32(b: u32) -> usize
     b as usize
 }
 
-// How many bytes an instruction of a form has whose first operand finds `kind`; 0 where there is no such instruction.
-fn width(form: u8, kind: u32) -> usize
-    ensures { λ r. ⌜ r ≡ width-by form (kind-of kind) ⌝ }
-{
-    if form == 0 {
-        return 1;
-    }
-    if form < 5 {
-        return 2;
-    }
-    if form < 8 {
-        return 3;
-    }
-    if form == 8 {
-        if kind < 3 {
-            return 0;
-        }
-        return 2 + 2 * wide32(kind - 3);
-    }
-    0
-}
-
 // What the first operand of the instruction at `at` finds in the table.
 fn kind_at(code: &[u8], at: usize, kinds: &[u32; 256]) -> u32
     requires { ⌜ at < length (now code) ⌝ }
@@ -121,11 +150,20 @@ fn kind_at(code: &[u8], at: usize, kinds: &[u32; 256]) -> u32
     kinds[0]
 }
 
+// How many bytes the instruction at `at` has; 0 where there is no such instruction: a byte that is no opcode, or a CLOSURE of no function.
 fn width_at(code: &[u8], at: usize, kinds: &[u32; 256]) -> usize
     requires { ⌜ at < length (now code) ⌝ }
     ensures { λ r. ⌜ r ≡ Forms.width (kinds-in (now (kinds .entry))) (getD (now (code .entry)) at 0) (drop (at + 1) (now (code .entry))) ⌝ }
 {
-    width(form_of(code[at]), kind_at(code, at, kinds))
+    let op = code[at];
+    if op != Op::CLOSURE {
+        return Op::width(op, 0);
+    }
+    let kind = kind_at(code, at, kinds);
+    if kind < Kind::FUNCTION {
+        return 0;
+    }
+    Op::width(op, kind - Kind::FUNCTION)
 }
 
 // `n` pairs from `at` on, within the code: each opens with 1, or with 0 and then has an index below `upvalues`.
@@ -160,30 +198,30 @@ fn fits(code: &[u8], at: usize, kinds: &[u32; 256], upvalues: usize) -> bool
     ensures { λ r. ⌜ r ≡ operands-fit (kinds-in (now (kinds .entry))) upvalues (instruction-at (kinds-in (now (kinds .entry))) (now (code .entry)) at) ⌝ }
 {
     let form = form_of(code[at]);
-    if form < 2 {
+    if form < Form::CAPTURED {
         return true;
     }
     let place = wide(code[at + 1]);
-    if form == 2 {
+    if form == Form::CAPTURED {
         return place < upvalues;
     }
     let kind = kinds[place];
-    if form == 3 {
-        if kind == 0 {
+    if form == Form::VALUE {
+        if kind == Kind::MISSING {
             return false;
         }
-        return kind < 3;
+        return kind < Kind::FUNCTION;
     }
-    if form < 6 {
-        return kind == 2;
+    if form < Form::AHEAD {
+        return kind == Kind::STRING;
     }
-    if form < 8 {
+    if form < Form::CLOSURE {
         return true;
     }
-    if kind < 3 {
+    if kind < Kind::FUNCTION {
         return false;
     }
-    pairs(code, at + 2, wide32(kind - 3), upvalues)
+    pairs(code, at + 2, wide32(kind - Kind::FUNCTION), upvalues)
 }
 
 // How many instructions, where the code divides into such whose operands are as they should.
@@ -262,15 +300,15 @@ fn lands(code: &[u8], at: usize, kinds: &[u32; 256], ring: &[u8; 131072]) -> boo
     ensures { λ r. ⌜ r ≡ Division.lands (instructions (from (kinds-in (now (kinds .entry))) (now (code .entry)) 0 0)) (length (now (code .entry))) (instruction-at (kinds-in (now (kinds .entry))) (now (code .entry)) at) ⌝ }
 {
     let form = form_of(code[at]);
-    if form < 6 {
+    if form < Form::AHEAD {
         return true;
     }
-    if form > 7 {
+    if form > Form::BACK {
         return true;
     }
     let far = wide(code[at + 1]) + 256 * wide(code[at + 2]);
     let next = at + 3;
-    if form == 6 {
+    if form == Form::AHEAD {
         let to = next + far;
         if to == code.len() {
             return true;
@@ -327,7 +365,7 @@ fn closures(code: &[u8], kinds: &[u32; 256], named: &mut [u64; 256])
             at += 1;
         } else {
             let w = width_at(code, at, kinds);
-            if form_of(code[at]) == 8 {
+            if form_of(code[at]) == Form::CLOSURE {
                 let place = wide(code[at + 1]);
                 let before = named[place];
                 named[place] = before + 1;
@@ -349,7 +387,7 @@ fn all_once(kinds: &[u32; 256], named: &[u64; 256]) -> bool
     while i < 256 {
         let kind = kinds[i];
         let times = named[i];
-        if kind < 3 {
+        if kind < Kind::FUNCTION {
             i += 1;
         } else {
             if times != 1 {
