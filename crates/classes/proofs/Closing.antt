@@ -29,11 +29,13 @@ module _ {class limit l next-at : ℕ} (count : ℕ) (span : Span) where
   pub drop-none : {before : Mem} → count ≡ 0 → Fit before l limit → Did class limit l next-at steady (drops limit count span) before before (Next next-at)
   drop-none h fit = otherwise _ _ _ (no-count count h) (next (nothing fit))
 
-  pub drop-one : {before now : Mem} {r : Step} → (count ≡ 0 → ⊥) → Did class limit l next-at steady (emit-op limit op.POP span) before now r → Did class limit l next-at steady (drops limit count span) before now r
+  pub drop-one : {before now : Mem} {r : Step} → (count ≡ 0 → ⊥) → Did class limit l next-at steady (emit-op limit op.POP span) before now r → Did class limit l
+      next-at steady (drops limit count span) before now r
   drop-one h d = chosen _ _ _ (a-count count h) d
 
 module _ {class limit l : ℕ} (tree : List ℕ) (at to : ℕ) (span : Span) {n : ℕ} {before : Mem} where
-  pub close-stop : {now : Mem} {r : Step} {x : Refusal} → Did class limit l n steady (drops limit (word16 tree (at + 13)) span) before now r → r ≡ Stop x → ClassClosed class limit l tree at to span before now r
+  pub close-stop : {now : Mem} {r : Step} {x : Refusal} → Did class limit l n steady (drops limit (word16 tree (at + 13)) span) before now r → r ≡ Stop x →
+      ClassClosed class limit l tree at to span before now r
   unfolding close-class
   close-stop a q = record { did = λ d has o mid look one. halt _ a q }
 
@@ -42,7 +44,8 @@ module _ {class limit l : ℕ} (tree : List ℕ) (at to : ℕ) (span : Span) {n 
   unfolding close-class end-superclass
   close-with {now = now} {r′ = r′} h a q b = record {
     did = λ d has o mid look one.
-        subst (λ (o : Option Superclass). Did class limit l to (closing (is-some o)) (close-class limit o (ltb 0 (word16 tree (at + 13))) span) before now r′) (sym (with-super tree at d look one h .is))
+        subst (λ (o : Option Superclass). Did class limit l to (closing (is-some o)) (close-class limit o (ltb 0 (word16 tree (at + 13))) span) before now r′)
+        (sym (with-super tree at d look one h .is))
         (then-on _ a q b);
   }
 
@@ -51,6 +54,7 @@ module _ {class limit l : ℕ} (tree : List ℕ) (at to : ℕ) (span : Span) {n 
   unfolding close-class end-superclass
   close-without {now} h a q = record {
     did = λ d has o mid look one.
-        subst (λ (o : Option Superclass). Did class limit l to (closing (is-some o)) (close-class limit o (ltb 0 (word16 tree (at + 13))) span) before now (Next to)) (sym (without-super tree at d look one h .is))
+        subst (λ (o : Option Superclass). Did class limit l to (closing (is-some o)) (close-class limit o (ltb 0 (word16 tree (at + 13))) span) before now
+        (Next to)) (sym (without-super tree at d look one h .is))
         (then-on _ a q (next (nothing (went a q .ahead .fit))));
   }

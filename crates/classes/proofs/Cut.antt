@@ -53,7 +53,8 @@ class-cut limit span name super []ᵐ s =
     (cut-bare (compile-superclass limit name super span) (end-superclass limit super) pop-class-ctx) s
 class-cut limit span name super (method sp f ms) s =
     cut-three (emit-op-constant limit op.CLASS (CS name) span) (define-name limit name span) (push-class-ctx (is-some super)) _ _ _
-    (cut-full (compile-superclass limit name super span) (get-variable limit name span) (compile-methods limit (method sp f ms)) (emit-op limit op.POP span) (end-superclass limit super) pop-class-ctx) s
+    (cut-full (compile-superclass limit name super span) (get-variable limit name span) (compile-methods limit (method sp f ms)) (emit-op limit op.POP span)
+    (end-superclass limit super) pop-class-ctx) s
 
 -- the same, grouped as `popped` has it
 pub class-then-pop : (limit : ℕ) (span : Span) (name : ℕ) (super : Option Superclass) (methods : Methods) (s : Compiler)

@@ -123,19 +123,22 @@ module _ {class limit l : ℕ} (tree : List ℕ) (at : ℕ) (span : Span) (name 
         subst (λ (j : ℕ). Did class limit l mid (opening (is-some o)) (open-class limit j o (ltb 0 (word16 tree (at + 13))) span) before now r) p (f d has o mid look one);
   }
 
-  pub class-stop : {now : Mem} {r : Step} {n : ℕ} {x : Refusal} → Did class limit l n steady (emit-op-constant limit op.CLASS (CS name) span) before now r → r ≡ Stop x → ClassOpened class limit l tree at span before now r
+  pub class-stop : {now : Mem} {r : Step} {n : ℕ} {x : Refusal} → Did class limit l n steady (emit-op-constant limit op.CLASS (CS name) span) before now r → r ≡
+      Stop x → ClassOpened class limit l tree at span before now r
   unfolding open-class
   class-stop a q = open-by (λ d has o mid look one. halt _ a q)
 
   module _ {mid : Mem} {r : Step} {n v : ℕ} (a : Did class limit l n steady (emit-op-constant limit op.CLASS (CS name) span) before mid r) (q : r ≡ Next v) where
-    pub class-stop-2 : {now : Mem} {r′ : Step} {n′ : ℕ} {x : Refusal} → Did class limit l n′ steady (define-name limit name span) mid now r′ → r′ ≡ Stop x → ClassOpened class limit l tree at span before now r′
+    pub class-stop-2 : {now : Mem} {r′ : Step} {n′ : ℕ} {x : Refusal} → Did class limit l n′ steady (define-name limit name span) mid now r′ → r′ ≡ Stop x →
+        ClassOpened class limit l tree at span before now r′
     unfolding open-class
     class-stop-2 b h = open-by (λ d has o mid look one. turn (λ d. refl) (λ c. refl) (λ x. refl) (λ h. h) (then-on _ a q (halt _ b h)))
 
     module _ {late : Mem} {r′ : Step} {n′ v′ : ℕ} (b : Did class limit l n′ steady (define-name limit name span) mid late r′) (h : r′ ≡ Next v′) where
       open-on : {now : Mem} {r″ : Step}
           → ((d : ℕ) (has : Bool) (o : Option Superclass) (k : ℕ) → lookup (word8 tree (at + 12)) flags ≡ some has → maybe has (read-superclass tree (word16 tree 2) d) (at + 15) ≡ got o k
-          → Did (inner (is-some o)) limit l k (scoping (is-some o)) (compile-superclass limit name o span >> (if ltb 0 (word16 tree (at + 13)) then get-variable limit name span else done)) late now r″)
+          → Did (inner (is-some o)) limit l k (scoping (is-some o))
+          (compile-superclass limit name o span >> (if ltb 0 (word16 tree (at + 13)) then get-variable limit name span else done)) late now r″)
           → ClassOpened class limit l tree at span before now r″
       unfolding open-class
       open-on f = open-by (λ d has o k look one.
@@ -160,11 +163,13 @@ module _ {class limit l : ℕ} (tree : List ℕ) (at : ℕ) (span : Span) (name 
 
 -- ## What the next step needs
 
-pub opened-fit : {limit l name v : ℕ} (tree : List ℕ) (at : ℕ) {span : Span} {before now : Mem} {r : Step} → ClassHead tree at → SuperOpened limit l name tree at span before now r → r ≡ Next v → Fit now l limit
+pub opened-fit : {limit l name v : ℕ} (tree : List ℕ) (at : ℕ) {span : Span} {before now : Mem} {r : Step} → ClassHead tree at → SuperOpened limit l name tree
+    at span before now r → r ≡ Next v → Fit now l limit
 opened-fit tree at h c q = went (c .did (h .depth) (h .has) (h .super) (h .mid) (h .look) (h .one)) q .ahead .fit
 
 -- what holds of the depth holds after a step that begins and ends no scope
-pub depth-on : (P : ℕ → Type 0) {class limit l n v : ℕ} {m : Compile Unit} {t code spans t′ code′ spans′ : List ℕ} {r : Step} → Did class limit l n steady m (mem t code spans) (mem t′ code′ spans′) r → r ≡ Next v
+pub depth-on : (P : ℕ → Type 0) {class limit l n v : ℕ} {m : Compile Unit} {t code spans t′ code′ spans′ : List ℕ} {r : Step} → Did class limit l n steady m
+    (mem t code spans) (mem t′ code′ spans′) r → r ≡ Next v
     → P (getD t (l * level-words + depth-place) 0) → P (getD t′ (l * level-words + depth-place) 0)
 unfolding depth-at
 depth-on P d q h = subst P (sym (went d q .ahead .deep)) h

@@ -28,7 +28,8 @@ use Rattle.classes.proofs.Cut.{class-then-pop, closes, free-closing, cl
 like-refused : {class l : ℕ} {m m′ : Compile Unit} {before : Mem} {x : Refusal} → ((s : Compiler) → m′ s ≡ m s) → Refused class l m before x → Refused class l m′ before x
 like-refused h y = record { refuses = λ rest q. h _ ∙ y .refuses rest q }
 
-like-grew : {class limit l at n : ℕ} {m m′ : Compile Unit} {before now : Mem} {out out′ : List ℕ} → ((s : Compiler) → m′ s ≡ m s) → Grew class limit l at n m before out now out′ → Grew class limit l at n m′ before out now out′
+like-grew : {class limit l at n : ℕ} {m m′ : Compile Unit} {before now : Mem} {out out′ : List ℕ} → ((s : Compiler) → m′ s ≡ m s) → Grew class limit l at n m
+    before out now out′ → Grew class limit l at n m′ before out now out′
 like-grew h y = record {
   made = y .made;
   gave = record { comes = λ rest q. h _ ∙ y .gave .comes rest q; agrees = y .gave .agrees; ahead = y .gave .ahead };
@@ -40,7 +41,8 @@ whole : (limit name count : ℕ) (super : Option Superclass) (methods : Methods)
     → compile-stmt limit (StmtClass span name super methods) s
     ≡ ((open-class limit name super (ltb 0 count) span >> (compile-methods limit methods >> close-class limit super (ltb 0 count) span)) >> pop-class-ctx) s
 whole limit name count super methods span e s =
-    subst (λ (b : Bool). compile-stmt limit (StmtClass span name super methods) s ≡ ((open-class limit name super b span >> (compile-methods limit methods >> close-class limit super b span)) >> pop-class-ctx) s)
+    subst (λ (b : Bool). compile-stmt limit (StmtClass span name super methods) s ≡
+    ((open-class limit name super b span >> (compile-methods limit methods >> close-class limit super b span)) >> pop-class-ctx) s)
     e (class-then-pop limit span name super methods s)
 
 module _ {class limit l : ℕ} (tree : List ℕ) (at : ℕ) (span : Span) (d : ℕ) {has : Bool} {super : Option Superclass} {mid n : ℕ} {methods : Methods} (one : Reader (Span × Fun))
@@ -48,18 +50,21 @@ module _ {class limit l : ℕ} (tree : List ℕ) (at : ℕ) (span : Span) (d : �
     (row : read-methods (word16 tree (at + 13)) one mid ≡ got methods n) {before : Mem} where
   pub open-refused : {now : Mem} {r : Step} {x : Refusal} → ClassOpened class limit l tree at span before now r → r ≡ Stop x
       → Refused class l (compile-stmt limit (StmtClass span (word16 tree (at + 10)) super methods)) before x
-  open-refused o q = like-refused (whole limit (word16 tree (at + 10)) (word16 tree (at + 13)) super methods span (some-count one _ mid row)) (refused-seq (refused-seq (stuck (o .did d has super mid look head) q) _) _)
+  open-refused o q = like-refused (whole limit (word16 tree (at + 10)) (word16 tree (at + 13)) super methods span (some-count one _ mid row))
+      (refused-seq (refused-seq (stuck (o .did d has super mid look head) q) _) _)
 
   module _ {begun : Mem} {r : Step} {first : ℕ} (o : ClassOpened class limit l tree at span before begun r) (q : r ≡ Next first) where
     pub methods-refused : {x : Refusal} → Refused (inner (is-some super)) l (compile-methods limit methods) begun x
         → Refused class l (compile-stmt limit (StmtClass span (word16 tree (at + 10)) super methods)) before x
-    methods-refused y = like-refused (whole limit (word16 tree (at + 10)) (word16 tree (at + 13)) super methods span (some-count one _ mid row)) (refused-seq (gave-refused-seq (went (o .did d has super mid look head) q) _ (refused-seq y _)) _)
+    methods-refused y = like-refused (whole limit (word16 tree (at + 10)) (word16 tree (at + 13)) super methods span (some-count one _ mid row))
+        (refused-seq (gave-refused-seq (went (o .did d has super mid look head) q) _ (refused-seq y _)) _)
 
     module _ {out out′ : List ℕ} {late now : Mem} {r′ : Step} (y : Run (inner (is-some super)) limit l mid n steady (compile-methods limit methods) tt begun out late out′)
         (c : ClassClosed (inner (is-some super)) limit l tree at n span late now r′) where
       pub close-refused : {x : Refusal} → r′ ≡ Stop x → Refused class l (compile-stmt limit (StmtClass span (word16 tree (at + 10)) super methods)) before x
       close-refused z =
-          like-refused (whole limit (word16 tree (at + 10)) (word16 tree (at + 13)) super methods span (some-count one _ mid row)) (refused-seq (gave-refused-seq (went (o .did d has super mid look head) q) _ (run-refused-seq y _ (stuck (c .did d has super mid look head) z))) _)
+          like-refused (whole limit (word16 tree (at + 10)) (word16 tree (at + 13)) super methods span (some-count one _ mid row))
+          (refused-seq (gave-refused-seq (went (o .did d has super mid look head) q) _ (run-refused-seq y _ (stuck (c .did d has super mid look head) z))) _)
 
       pub class-done : {v : ℕ} → at ≤ mid → r′ ≡ Next v → Grew class limit l at n (compile-stmt limit (StmtClass span (word16 tree (at + 10)) super methods)) before out now out′
       class-done h z =

@@ -28,7 +28,8 @@ use Rattle.closures.proofs.Records.{fit-same, view-same}
 -- ## A closure
 
 -- a constant by its word
-constant-as : {class limit l n : ℕ} (span : Span) {before now : Mem} {r : Step} {a b : Constant} → a ≡ b → Did class limit l n steady (emit-constant limit a span) before now r → Did class limit l n steady (emit-constant limit b span) before now r
+constant-as : {class limit l n : ℕ} (span : Span) {before now : Mem} {r : Step} {a b : Constant} → a ≡ b → Did class limit l n steady
+    (emit-constant limit a span) before now r → Did class limit l n steady (emit-constant limit b span) before now r
 constant-as {class} {limit} {l} {n} span {before} {now} {r} q d = subst (λ (k : Constant). Did class limit l n steady (emit-constant limit k span) before now r) q d
 
 -- the upvalues of the level above are as they were after a step
@@ -37,17 +38,20 @@ above-same {l} {before = before} {now = now} low fit a =
     upvalues-same (t-of before) (t-of now) (l + 1) (fit .wf .fewUpvalues (l + 1) low) (λ o h g. a .over refl _ (omega arith) (omega arith))
 
 module _ (class limit l n number : ℕ) (span : Span) (us : List Upvalue) where
-  pub closure-first : {k : ℕ} {before now : Mem} {r : Step} {x : Refusal} → Did class limit l k steady (emit-op limit op.CLOSURE span) before now r → r ≡ Stop x → Did class limit l n steady (emit-closure limit number us span) before now r
+  pub closure-first : {k : ℕ} {before now : Mem} {r : Step} {x : Refusal} → Did class limit l k steady (emit-op limit op.CLOSURE span) before now r → r ≡ Stop x
+      → Did class limit l n steady (emit-closure limit number us span) before now r
   unfolding emit-closure emit-op
   closure-first d q = halt _ d q
 
   module _ {k v : ℕ} {before mid : Mem} {r : Step} (d : Did class limit l k steady (emit-op limit op.CLOSURE span) before mid r) (q : r ≡ Next v) (w : ℕ) (is : constantOf w ≡ CF number) where
-    pub closure-second : {j : ℕ} {now : Mem} {r′ : Step} {x : Refusal} → Did class limit l j steady (emit-constant limit (constantOf w) span) mid now r′ → r′ ≡ Stop x → Did class limit l n steady (emit-closure limit number us span) before now r′
+    pub closure-second : {j : ℕ} {now : Mem} {r′ : Step} {x : Refusal} → Did class limit l j steady (emit-constant limit (constantOf w) span) mid now r′ → r′ ≡
+        Stop x → Did class limit l n steady (emit-closure limit number us span) before now r′
     unfolding emit-closure emit-op
     closure-second d′ q′ = then-on _ d q (halt _ (constant-as span is d′) q′)
 
     pub closure-last : {j u : ℕ} {late now : Mem} {r′ r″ : Step} → l + 1 < levels → Fit before l limit → us ≡ upvaluesOf (t-of before) (l + 1)
-        → Did class limit l j steady (emit-constant limit (constantOf w) span) mid late r′ → r′ ≡ Next u → Did class limit l n steady (emit-upvalues limit (upvaluesOf (t-of late) (l + 1)) span) late now r″
+        → Did class limit l j steady (emit-constant limit (constantOf w) span) mid late r′ → r′ ≡ Next u → Did class limit l n steady
+        (emit-upvalues limit (upvaluesOf (t-of late) (l + 1)) span) late now r″
         → Did class limit l n steady (emit-closure limit number us span) before now r″
     unfolding emit-closure emit-op
     closure-last low fit e d′ q′ f =
@@ -135,18 +139,21 @@ module _ (class limit l : ℕ) (span : Span) (before : Mem) where
         up-to : codeFrom (t-of before) (suc l) ≤ codeEnd t₄
         unfolding code-len
         up-to =
-            let h = no-shorter (codeEnd t₃) (codeEnd t₄) (codeFrom t₃ l) (codeFrom t₄ l) (fit-after .coded .top) (e .ahead .fit .coded .top) (e .ahead .head code-from-place (omega arith) (omega arith)) (e .ahead .up) in
+            let h = no-shorter (codeEnd t₃) (codeEnd t₄) (codeFrom t₃ l) (codeFrom t₄ l) (fit-after .coded .top) (e .ahead .fit .coded .top)
+            (e .ahead .head code-from-place (omega arith) (omega arith)) (e .ahead .up) in
             omega (arith, c .code, f .kept (suc l * level-words + code-from-place) (omega arith), g .ahead .head code-from-place (omega arith) (omega arith))
 
         -- of the level itself
         under-own : (o : ℕ) → depth-place ≤ o → o ≤ type-place → getD t₄ (l * level-words + o) 0 ≡ getD t₃ (l * level-words + o) 0
         unfolding depth-at
         under-own o a b =
-            ⊎-elim (λ (q : depth-place ≡ o). subst (λ (j : ℕ). getD t₄ (l * level-words + j) 0 ≡ getD t₃ (l * level-words + j) 0) q (e .ahead .deep)) (λ (q : depth-place < o). e .ahead .head o (omega arith) b) (eq-or-lt-of-le a)
+            ⊎-elim (λ (q : depth-place ≡ o). subst (λ (j : ℕ). getD t₄ (l * level-words + j) 0 ≡ getD t₃ (l * level-words + j) 0) q (e .ahead .deep))
+            (λ (q : depth-place < o). e .ahead .head o (omega arith) b) (eq-or-lt-of-le a)
 
         under-last : (k o : ℕ) → k ≤ l → depth-place ≤ o → o ≤ type-place → getD t₄ (k * level-words + o) 0 ≡ getD t₃ (k * level-words + o) 0
         under-last k o h a b =
-            ⊎-elim (λ (q : k ≡ l). subst (λ (j : ℕ). getD t₄ (j * level-words + o) 0 ≡ getD t₃ (j * level-words + o) 0) (sym q) (under-own o a b)) (λ (q : k < l). e .ahead .under k o q a b) (eq-or-lt-of-le h)
+            ⊎-elim (λ (q : k ≡ l). subst (λ (j : ℕ). getD t₄ (j * level-words + o) 0 ≡ getD t₃ (j * level-words + o) 0) (sym q) (under-own o a b))
+            (λ (q : k < l). e .ahead .under k o q a b) (eq-or-lt-of-le h)
 
         under-all : (k o : ℕ) → k ≤ l → depth-place ≤ o → o ≤ type-place → getD t₄ (k * level-words + o) 0 ≡ getD (t-of before) (k * level-words + o) 0
         under-all k o h a b = under-last k o h a b ∙ word-after k o (omega arith) (omega arith) ∙ g .ahead .under k o (omega arith) a b
@@ -177,7 +184,8 @@ module _ (class limit l : ℕ) (span : Span) (before : Mem) where
       last-as n t₄ code₄ spans₄ (Next v) d = (complete (d .0), d .1)
       last-as n t₄ code₄ spans₄ (Stop x) d = λ rest h. comes-to rest h ∙ d .refuses (more (done ∷ []) rest) (agrees-after rest h)
 
-      pub closed-last : {n : ℕ} {t₄ code₄ spans₄ : List ℕ} {r : Step} → Did class limit l n steady (emit-closure limit number (upvaluesOf t₃ (suc l)) span) (mem t₃ code₁ spans₁) (mem t₄ code₄ spans₄) r
+      pub closed-last : {n : ℕ} {t₄ code₄ spans₄ : List ℕ} {r : Step} → Did class limit l n steady (emit-closure limit number (upvaluesOf t₃ (suc l)) span)
+          (mem t₃ code₁ spans₁) (mem t₄ code₄ spans₄) r
           → FunctionClosed class limit l n span before out (mem t₄ code₄ spans₄) out′ r
       closed-last {n} {t₄} {code₄} {spans₄} {r} d = record { does = last-as n t₄ code₄ spans₄ r (d .does) }
 
@@ -192,7 +200,8 @@ module _ (limit l : ℕ) (span : Span) (before : Mem) where
     pub fit-after-at : {class : ℕ} → l + 1 < levels → Gave class limit (l + 1) steady (implicit-return limit) tt before (mem t₁ code₁ spans₁) → Filed (l + 1) t₁ code₁ spans₁ out t₂ out′
         → LevelLeft t₂ t₃ (l + 1) → Fit (mem t₃ code₁ spans₁) l limit
     fit-after-at {class} =
-        subst (λ (j : ℕ). j < levels → Gave class limit j steady (implicit-return limit) tt before (mem t₁ code₁ spans₁) → Filed j t₁ code₁ spans₁ out t₂ out′ → LevelLeft t₂ t₃ j → Fit (mem t₃ code₁ spans₁) l limit)
+        subst (λ (j : ℕ). j < levels → Gave class limit j steady (implicit-return limit) tt before (mem t₁ code₁ spans₁) → Filed j t₁ code₁ spans₁ out t₂ out′ →
+        LevelLeft t₂ t₃ j → Fit (mem t₃ code₁ spans₁) l limit)
         (sym (add-one l)) (λ low g f c. fit-after class limit l span before t₁ code₁ spans₁ out t₂ out′ t₃ low g f c)
 
     pub closed-last-at : {class n : ℕ} {t₄ code₄ spans₄ : List ℕ} {r : Step} (number : ℕ) → number ≡ getD t₁ image-at 0 → l + 1 < levels
@@ -201,5 +210,6 @@ module _ (limit l : ℕ) (span : Span) (before : Mem) where
         → FunctionClosed class limit l n span before out (mem t₄ code₄ spans₄) out′ r
     closed-last-at {class} {n} {t₄} {code₄} {spans₄} {r} number is =
         subst (λ (j : ℕ). j < levels → Gave class limit j steady (implicit-return limit) tt before (mem t₁ code₁ spans₁) → Filed j t₁ code₁ spans₁ out t₂ out′ → LevelLeft t₂ t₃ j
-        → Did class limit l n steady (emit-closure limit number (upvaluesOf t₃ j) span) (mem t₃ code₁ spans₁) (mem t₄ code₄ spans₄) r → FunctionClosed class limit l n span before out (mem t₄ code₄ spans₄) out′ r)
+        → Did class limit l n steady (emit-closure limit number (upvaluesOf t₃ j) span) (mem t₃ code₁ spans₁) (mem t₄ code₄ spans₄) r → FunctionClosed class
+        limit l n span before out (mem t₄ code₄ spans₄) out′ r)
         (sym (add-one l)) (λ low g f c d. closed-last class limit l span before t₁ code₁ spans₁ out t₂ out′ t₃ low g f c number is d)

@@ -101,7 +101,8 @@ module _ {l n : ℕ} {m : Compile Unit} {t t′ : List ℕ} {r : Step} (d : Name
   named-stop q = subst (λ (s : Step). NamedAs l n m t t′ s) q (d .does)
 
 -- an answer that stopped
-pub named-stopped : {l n : ℕ} {m : Compile Unit} {t t′ : List ℕ} {r : Step} {x : Refusal} → r ≡ Stop x → ((code spans : List ℕ) (rest : Rest) → m (view (mem t code spans) l rest) ≡ err x) → Named l n m t t′ r
+pub named-stopped : {l n : ℕ} {m : Compile Unit} {t t′ : List ℕ} {r : Step} {x : Refusal} → r ≡ Stop x →
+    ((code spans : List ℕ) (rest : Rest) → m (view (mem t code spans) l rest) ≡ err x) → Named l n m t t′ r
 named-stopped {l} {n} {m} {t} {t′} q h = record { does = subst (λ (s : Step). NamedAs l n m t t′ s) (sym q) h }
 
 -- ## One parameter after the other
@@ -149,7 +150,8 @@ module _ (tree : List ℕ) (l : ℕ) (span : Span) where
           record {
             does = (
               record {
-                comes = λ code spans rest. o .same code spans rest ∙ ap (λ (z : List ℕ). declare-params z span (view (mem t′ code spans) l rest)) (e .0) ∙ params-none span (view (mem t′ code spans) l rest);
+                comes = λ code spans rest. o .same code spans rest ∙ ap (λ (z : List ℕ). declare-params z span (view (mem t′ code spans) l rest)) (e .0) ∙
+                    params-none span (view (mem t′ code spans) l rest);
                 kept = w .kept;
                 wf = w .wf;
               },

@@ -36,7 +36,8 @@ module _ (type : FunctionType) (name : ℕ) (params : List ℕ) (span : Span) (x
   open-many h = rw (lt-leb (length params) 255 h)
 
   open-few : length params ≤ 255
-      → open-function type name params span x ≡ (begin-ctx (new-ctx name (length params) type (x .ctx .scope-depth + 1)) >> (declare-local (slot-zero type name) span >> (define-local >> declare-params params span))) x
+      → open-function type name params span x ≡ (begin-ctx (new-ctx name (length params) type (x .ctx .scope-depth + 1)) >>
+      (declare-local (slot-zero type name) span >> (define-local >> declare-params params span))) x
   unfolding open-function need _>>_ _>>=_ the go-on
   open-few h = rw (le-leb (length params) 255 h)
 
@@ -55,7 +56,8 @@ no-more a b h = omega arith
 module _ (l name arity kind : ℕ) (t t′ : List ℕ) (low : l + 1 < levels) (b : Began t t′ l name arity kind) where
   no-code : codeEnd t′ ≤ codeFrom t′ (suc l)
   unfolding ctxAt chunkAt
-  no-code = no-more (codeEnd t′) (codeFrom t′ (suc l)) (sym (length-row (λ i. getD [] (codeFrom t′ (suc l) + i) 0) (codeEnd t′ - codeFrom t′ (suc l))) ∙ ap (λ (c : CompilerCtx). length (c .chunk .ops)) (b .fresh [] []))
+  no-code = no-more (codeEnd t′) (codeFrom t′ (suc l)) (sym (length-row (λ i. getD [] (codeFrom t′ (suc l) + i) 0) (codeEnd t′ - codeFrom t′ (suc l))) ∙ ap
+      (λ (c : CompilerCtx). length (c .chunk .ops)) (b .fresh [] []))
 
   no-runs : runsEnd t′ ≤ runsFrom t′ (suc l)
   unfolding ctxAt chunkAt
@@ -79,7 +81,8 @@ module _ (l kind name : ℕ) (params : List ℕ) (span : Span) (t t₁ : List �
 
   pub opened-stop : (n : ℕ) {k : ℕ} {t₂ : List ℕ} {r : Step} {x : Refusal} → Named (suc l) k first t₁ t₂ r → r ≡ Stop x → FunctionOpenedAs l n whole t t₂ r
   opened-stop n {t₂ = t₂} d q =
-      subst (λ (s : Step). FunctionOpenedAs l n whole t t₂ s) (sym q) (λ code spans rest. begun-is code spans rest ∙ seq-err first (view (mem t₁ code spans) (suc l) rest) _ (named-stop d q code spans rest))
+      subst (λ (s : Step). FunctionOpenedAs l n whole t t₂ s) (sym q)
+      (λ code spans rest. begun-is code spans rest ∙ seq-err first (view (mem t₁ code spans) (suc l) rest) _ (named-stop d q code spans rest))
 
   module _ {t₂ : List ℕ} (f : Locally (suc l) first t₁ t₂) where
     then-is : (code spans : List ℕ) (rest : Rest) → whole (view (mem t code spans) l rest) ≡ declare-params params span (view (mem t₂ code spans) (suc l) rest)

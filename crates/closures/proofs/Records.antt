@@ -69,7 +69,8 @@ six w n e = omega arith
 less-six : (r w n : ℕ) → r ≡ 6 + w + n → r - 6 ≡ w + n
 less-six r w n e = omega arith
 
-module _ (l : ℕ) (t code spans out out′ : List ℕ) (r : ℕ) (c : Closed t code spans l) (p : Put out out′ (6 + getD t (image-at + 1) 0) (function-bytes (finish (ctxAt t code spans l (codeEnd t) (runsEnd t)))) r) where
+module _ (l : ℕ) (t code spans out out′ : List ℕ) (r : ℕ) (c : Closed t code spans l)
+    (p : Put out out′ (6 + getD t (image-at + 1) 0) (function-bytes (finish (ctxAt t code spans l (codeEnd t) (runsEnd t)))) r) where
   abbrev longer : List ℕ
   longer = set t (image-at + 1) (r - 6)
 

@@ -279,7 +279,8 @@ module _ (tree : List ℕ) (names : ℕ) (fault : Refusal) (s : Span) (at : ℕ)
       same-place (u64 tree fault (at + 1)) _ _ (λ bits n. need-place (leb bits max-bits) fault _ bits n) ∙
       ap (λ (k : ℕ). place (number tree fault k)) j
 
-  pub literal-string : (kind : ℕ) → below tree 5 fault at ≡ got kind (at + 1) → kind < 5 → 3 ≤ kind → (kind ≡ 3 → ⊥) → {m : ℕ} → at + 1 ≡ m → place (literal-fields tree names fault s at) ≡ place (name tree names fault m)
+  pub literal-string : (kind : ℕ) → below tree 5 fault at ≡ got kind (at + 1) → kind < 5 → 3 ≤ kind → (kind ≡ 3 → ⊥) → {m : ℕ} → at + 1 ≡ m → place
+      (literal-fields tree names fault s at) ≡ place (name tree names fault m)
   unfolding literal-fields _>>=_ lookup literal-kinds literal-of
   literal-string kind e h g f i =
       let j : kind ≡ 4 = omega arith in

@@ -172,8 +172,10 @@ module _ (tree : List ℕ) (start funs : ℕ) where
       (λ d m. chain (read-stmt tree names depth funs m) _ (λ n. row (e-place tree names depth) (v / 4) n)
       (λ y k. made (maybe (eqb (v / 4) 1) (read-expr tree names depth) k) _ ∙ maybe-count (read-expr tree names depth) (v / 4) k c) ∙
       ap (λ x. and-then x (λ n. row (e-place tree names depth) (v / 4) n)) (sym (row-one (stmt-place tree names depth funs false) m))) ∙
-      ap (λ x. and-then x (λ n. and-then (row (stmt-place tree names depth funs false) 1 n) (λ n. row (e-place tree names depth) (v / 4) n))) (maybe-count (read-expr tree names depth) (v / 2 % 2) n b)) ∙
-      ap (λ x. and-then x (λ n. and-then (row (e-place tree names depth) (v / 2 % 2) n) (λ n. and-then (row (stmt-place tree names depth funs false) 1 n) (λ n. row (e-place tree names depth) (v / 4) n))))
+      ap (λ x. and-then x (λ n. and-then (row (stmt-place tree names depth funs false) 1 n) (λ n. row (e-place tree names depth) (v / 4) n)))
+      (maybe-count (read-expr tree names depth) (v / 2 % 2) n b)) ∙
+      ap (λ x. and-then x (λ n. and-then (row (e-place tree names depth) (v / 2 % 2) n)
+      (λ n. and-then (row (stmt-place tree names depth funs false) 1 n) (λ n. row (e-place tree names depth) (v / 4) n))))
       (maybe-stmt-count (read-stmt tree names depth funs) (v % 2) at a)
 
   pub for-is : {v at : ℕ} → v < 8 → below tree 8 (TreeForm start) (start + 10) ≡ got v at

@@ -18,8 +18,24 @@ enum-known-count c = search needs
 enum-told : tie.Need-enum-told
 enum-told c = search needs
 
+-- ## Places
+
+abbrev start-of-shared-slice-known : tie.After-shared-slice-known → tie.Start
+start-of-shared-slice-known c = c .before
+
+abbrev start-of-enum-told : tie.After-enum-told → tie.Start
+start-of-enum-told c = start-of-shared-slice-known (c .before .before .before)
+
+abbrev start-of-count-at : tie.After-count-at → tie.Start
+start-of-count-at c = c .before .before
+
+abbrev start-of-known-told : tie.After-known-told → tie.Start
+start-of-known-told c = start-of-count-at (c .before .before .before)
+
+-- ## Needs
+
 returns : tie.Need-returns
-returns c = callee-bad (c .before .before .count-at .ensures .no (c .enum-told .given .1) (TreeForm (c .before .before .before .before .args .start)))
+returns c = callee-bad (c .before .before .count-at .ensures .no (c .enum-told .given .1) (TreeForm (start-of-enum-told c .args .start)))
 
 add-t5 : tie.Need-add-t5
 add-t5 c = search needs
@@ -28,7 +44,7 @@ add-t7 : tie.Need-add-t7
 add-t7 c = omega (arith, c .before .before .before .count-at .ensures .small _ (c .before .count .given .1))
 
 returns-2 : tie.Need-returns-2
-returns-2 c = callee-at (c .before .before .before .count-at .ensures .is _ (c .before .count .given .1) (TreeForm (c .before .before .before .before .before .args .start))) (omega arith)
+returns-2 c = callee-at (c .before .before .before .count-at .ensures .is _ (c .before .count .given .1) (TreeForm (start-of-known-told c .args .start))) (omega arith)
 
 pub called-spec : {M : Type 1} → statement M
 called-spec =

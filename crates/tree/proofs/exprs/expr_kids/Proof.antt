@@ -35,10 +35,12 @@ returns-2 : tie.Need-returns-2
 returns-2 c = calls (c .before .before .before .args .tree .now) (c .before .before .before .args .names) (c .before .before .before .args .start) (c .called .ensures) (c .before .match .keys2)
 
 returns-3 : tie.Need-returns-3
-returns-3 c = operated-two (c .before .before .before .args .tree .now) (c .before .before .before .args .names) (c .before .before .before .args .start) (c .operated .ensures) (c .before .match .keys3)
+returns-3 c =
+    operated-two (c .before .before .before .args .tree .now) (c .before .before .before .args .names) (c .before .before .before .args .start) (c .operated .ensures) (c .before .match .keys3)
 
 returns-4 : tie.Need-returns-4
-returns-4 c = operated-one (c .before .before .before .args .tree .now) (c .before .before .before .args .names) (c .before .before .before .args .start) (c .operated2 .ensures) (c .before .match .keys4)
+returns-4 c =
+    operated-one (c .before .before .before .args .tree .now) (c .before .before .before .args .names) (c .before .before .before .args .start) (c .operated2 .ensures) (c .before .match .keys4)
 
 returns-5 : tie.Need-returns-5
 returns-5 c = named-two (c .before .before .before .args .tree .now) (c .before .before .before .args .names) (c .before .before .before .args .start) (c .named2 .ensures) (c .before .match .keys5)
@@ -50,7 +52,10 @@ returns-7 : tie.Need-returns-7
 returns-7 c = named-var (c .before .before .before .args .tree .now) (c .before .before .before .args .names) (c .before .before .before .args .start) (c .named4 .ensures) (c .before .match .keys7)
 
 returns-8 : tie.Need-returns-8
-returns-8 c = literal-left (c .before .before .before .args .tree .now) (c .before .before .before .args .names) (c .before .before .before .args .start) (c .literal .ensures) (c .before .match .rest .0 .0 .0 .0 .0 .0 .1) (c .before .match .rest .0 .0 .0 .0 .0 .1) (c .before .match .rest .0 .0 .0 .0 .1) (c .before .match .rest .0 .0 .0 .1) (c .before .match .rest .0 .0 .1) (c .before .match .rest .0 .1) (c .before .match .rest .1)
+returns-8 c =
+    literal-left (c .before .before .before .args .tree .now) (c .before .before .before .args .names) (c .before .before .before .args .start)
+    (c .literal .ensures) (c .before .match .rest .0 .0 .0 .0 .0 .0 .1) (c .before .match .rest .0 .0 .0 .0 .0 .1) (c .before .match .rest .0 .0 .0 .0 .1)
+    (c .before .match .rest .0 .0 .0 .1) (c .before .match .rest .0 .0 .1) (c .before .match .rest .0 .1) (c .before .match .rest .1)
 
 pub expr-kids-spec : {M : Type 1} → statement M
 expr-kids-spec =

@@ -19,19 +19,41 @@ returns c = sym (known-cut expr-marks (c .before .before .before .args .tree .no
 mark-at-requires : tie.Need-mark-at-requires
 mark-at-requires c κs = there (c .before .has .ensures) (c .if1 .left)
 
+-- ## Places
+
+abbrev start-of-has : tie.After-has → tie.Start
+start-of-has c = c .before .before
+
+abbrev start-of-at-match-keys1 : tie.At-match-keys1 → tie.Start
+start-of-at-match-keys1 c = start-of-has (c .before .before .before)
+
+abbrev start-of-at-match-keys2 : tie.At-match-keys2 → tie.Start
+start-of-at-match-keys2 c = start-of-has (c .before .before .before)
+
+abbrev start-of-at-match-rest : tie.At-match-rest → tie.Start
+start-of-at-match-rest c = start-of-has (c .before .before .before)
+
+-- ## Needs
+
 returns-2 : tie.Need-returns-2
 unfolding all lookup expr-marks is-some
-returns-2 c = sym (known-is expr-marks (c .before .before .before .before .before .args .tree .now) (c .before .before .before .before .before .args .at) (there (c .before .before .before .has .ensures) (c .before .before .if1 .left)) (c .before .mark-at .ensures)
+returns-2 c =
+    sym (known-is expr-marks (start-of-at-match-keys1 c .args .tree .now) (start-of-at-match-keys1 c .args .at)
+    (there (c .before .before .before .has .ensures) (c .before .before .if1 .left)) (c .before .mark-at .ensures)
     (inside expr-marks (0x4541 ∷ 0x4543 ∷ 0x4547 ∷ 0x4549 ∷ 0x454C ∷ 0x4550 ∷ 0x4553 ∷ 0x4555 ∷ []) (c .before .mark-at .result) refl (c .match .keys1)))
 
 returns-3 : tie.Need-returns-3
 unfolding all lookup expr-marks is-some
-returns-3 c = sym (known-is expr-marks (c .before .before .before .before .before .args .tree .now) (c .before .before .before .before .before .args .at) (there (c .before .before .before .has .ensures) (c .before .before .if1 .left)) (c .before .mark-at .ensures)
+returns-3 c =
+    sym (known-is expr-marks (start-of-at-match-keys2 c .args .tree .now) (start-of-at-match-keys2 c .args .at)
+    (there (c .before .before .before .has .ensures) (c .before .before .if1 .left)) (c .before .mark-at .ensures)
     (inside expr-marks (0x4556 ∷ []) (c .before .mark-at .result) refl (c .match .keys2)))
 
 returns-4 : tie.Need-returns-4
 unfolding all expr-marks
-returns-4 c = sym (known-not expr-marks (c .before .before .before .before .before .args .tree .now) (c .before .before .before .before .before .args .at) (there (c .before .before .before .has .ensures) (c .before .before .if1 .left)) (c .before .mark-at .ensures)
+returns-4 c =
+    sym (known-not expr-marks (start-of-at-match-rest c .args .tree .now) (start-of-at-match-rest c .args .at)
+    (there (c .before .before .before .has .ensures) (c .before .before .if1 .left)) (c .before .mark-at .ensures)
     (outside (0x4556 ∷ 0x4541 ∷ 0x4543 ∷ 0x4547 ∷ 0x4549 ∷ 0x454C ∷ 0x4550 ∷ 0x4553 ∷ 0x4555 ∷ []) expr-marks (c .before .mark-at .result) refl (⊎-elim (c .match .rest .1) (c .match .rest .0 .1))))
 
 pub expr-mark-spec : {M : Type 1} → statement M

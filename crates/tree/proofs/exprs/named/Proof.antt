@@ -18,14 +18,27 @@ enum-told c = search needs
 enum-told-2 : tie.Need-enum-told-2
 enum-told-2 c = search needs
 
+-- ## Places
+
+abbrev start-of-shared-slice-known : tie.After-shared-slice-known → tie.Start
+start-of-shared-slice-known c = c .before
+
+abbrev start-of-enum-told2 : tie.After-enum-told2 → tie.Start
+start-of-enum-told2 c = start-of-shared-slice-known (c .before .before .before)
+
+abbrev start-of-enum-told : tie.After-enum-told → tie.Start
+start-of-enum-told c = start-of-shared-slice-known (c .before .before .before)
+
+-- ## Needs
+
 returns : tie.Need-returns
-returns c = announced-bad (c .before .before .before .before .args .kids) (c .before .before .name-at .ensures .no (c .enum-told2 .given .1) (TreeForm (c .before .before .before .before .args .start)))
+returns c = announced-bad (start-of-enum-told2 c .args .kids) (c .before .before .name-at .ensures .no (c .enum-told2 .given .1) (TreeForm (start-of-enum-told2 c .args .start)))
 
 add-t6 : tie.Need-add-t6
 add-t6 c = search needs
 
 returns-2 : tie.Need-returns-2
-returns-2 c = announced-at (c .before .before .before .before .args .kids) (c .before .before .name-at .ensures .is _ (c .enum-told .given .1) (TreeForm (c .before .before .before .before .args .start))) (omega arith)
+returns-2 c = announced-at (start-of-enum-told c .args .kids) (c .before .before .name-at .ensures .is _ (c .enum-told .given .1) (TreeForm (start-of-enum-told c .args .start))) (omega arith)
 
 pub named-spec : {M : Type 1} → statement M
 named-spec =

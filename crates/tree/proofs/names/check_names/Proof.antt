@@ -13,7 +13,8 @@ use Rattle.tree.proofs.names.check_names.Statement.{statement}
 use Rattle.tree.proofs.names.check_names.Tie as tie
 
 abbrev Inv-loop : tie.InvT-loop
-Inv-loop tree count at left₀ last₀ next₀ left last next = (place (read-names tree left (last-name tree last next) next) ≡ place (read-names tree count none at)) × (LastFits tree last next × (0 < next))
+Inv-loop tree count at left₀ last₀ next₀ left last next =
+    (place (read-names tree left (last-name tree last next) next) ≡ place (read-names tree count none at)) × (LastFits tree last next × (0 < next))
 
 abbrev μ-loop : tie.MeasureT-loop
 μ-loop tree count at left₀ last₀ next₀ left last next = left
@@ -31,8 +32,40 @@ enum-known-step c = search needs
 enum-told : tie.Need-enum-told Inv-loop μ-loop
 enum-told c = search needs
 
+-- ## Places
+
+abbrev start-of-in-loop : tie.In-loop Inv-loop μ-loop → tie.Start Inv-loop μ-loop
+start-of-in-loop c = c .before .before .before
+
+abbrev start-of-enum-told : tie.After-enum-told Inv-loop μ-loop → tie.Start Inv-loop μ-loop
+start-of-enum-told c = start-of-in-loop (c .before .before .before)
+
+abbrev at-loop-of-in-loop : tie.In-loop Inv-loop μ-loop → tie.At-loop Inv-loop μ-loop
+at-loop-of-in-loop c = c .before
+
+abbrev at-loop-of-enum-told : tie.After-enum-told Inv-loop μ-loop → tie.At-loop Inv-loop μ-loop
+at-loop-of-enum-told c = at-loop-of-in-loop (c .before .before .before)
+
+abbrev in-loop-of-check-name : tie.After-check-name Inv-loop μ-loop → tie.In-loop Inv-loop μ-loop
+in-loop-of-check-name c = c .before
+
+abbrev in-loop-of-known-told : tie.After-known-told Inv-loop μ-loop → tie.In-loop Inv-loop μ-loop
+in-loop-of-known-told c = in-loop-of-check-name (c .before .before .before)
+
+abbrev start-of-known-told : tie.After-known-told Inv-loop μ-loop → tie.Start Inv-loop μ-loop
+start-of-known-told c = in-loop-of-known-told c .before .before .before
+
+abbrev at-loop-of-known-told : tie.After-known-told Inv-loop μ-loop → tie.At-loop Inv-loop μ-loop
+at-loop-of-known-told c = in-loop-of-known-told c .before
+
+-- ## Needs
+
 returns : tie.Need-returns Inv-loop μ-loop
-returns c = c .enum-told .given .1 ∙ sym (names-stop (c .before .before .before .before .before .before .args .tree .now) (c .before .before .before .before .loop .left) (last-name (c .before .before .before .before .before .before .args .tree .now) (c .before .before .before .before .loop .last) (c .before .before .before .before .loop .next)) (c .before .before .before .before .loop .next) (c .before .before .before .loop-test .taken) (was-bad _ (c .before .before .check-name .ensures .whole) (c .enum-told .given .1))) ∙ c .before .before .before .before .loop .inv .0
+returns c =
+    c .enum-told .given .1 ∙ sym (names-stop (start-of-enum-told c .args .tree .now) (at-loop-of-enum-told c .loop .left)
+    (last-name (start-of-enum-told c .args .tree .now) (at-loop-of-enum-told c .loop .last) (at-loop-of-enum-told c .loop .next))
+    (at-loop-of-enum-told c .loop .next) (c .before .before .before .loop-test .taken)
+    (was-bad _ (c .before .before .check-name .ensures .whole) (c .enum-told .given .1))) ∙ at-loop-of-enum-told c .loop .inv .0
 
 sub-left : tie.Need-sub-left Inv-loop μ-loop
 sub-left c = search needs
@@ -41,10 +74,27 @@ loop-less : tie.Need-loop-less Inv-loop μ-loop
 loop-less c = search needs
 
 loop-again : tie.Need-loop-again Inv-loop μ-loop
-loop-again c = (ap (λ (l : Option (List ℕ)). place (read-names (c .before .before .before .before .before .before .before .args .tree .now) (c .before .before .before .before .before .loop .left - 1) l (c .before .step .given .0 .0))) (last-some (c .before .before .before .before .before .before .before .args .tree .now) (c .before .before .before .before .before .loop .next) _ (c .before .before .before .before .before .loop .inv .1 .1)) ∙ names-go (c .before .before .before .before .before .before .before .args .tree .now) (c .before .before .before .before .before .loop .left) (last-name (c .before .before .before .before .before .before .before .args .tree .now) (c .before .before .before .before .before .loop .last) (c .before .before .before .before .before .loop .next)) (c .before .before .before .before .before .loop .next) (c .before .before .before .before .loop-test .taken) (c .before .before .before .check-name .ensures .is _ (c .before .step .given .1)) ∙ c .before .before .before .before .before .loop .inv .0, (record { start = λ h. c .before .before .before .check-name .ensures .start _ (c .before .step .given .1); bound = c .before .before .before .check-name .ensures .bound _ (c .before .step .given .1) }, omega (arith, c .before .before .before .check-name .ensures .start _ (c .before .step .given .1))))
+loop-again c = (
+  ap (λ (l : Option (List ℕ)). place (read-names (start-of-known-told c .args .tree .now) (at-loop-of-known-told c .loop .left - 1) l
+      (c .before .step .given .0 .0))) (last-some (start-of-known-told c .args .tree .now) (at-loop-of-known-told c .loop .next) _
+      (at-loop-of-known-told c .loop .inv .1 .1)) ∙ names-go (start-of-known-told c .args .tree .now) (at-loop-of-known-told c .loop .left)
+      (last-name (start-of-known-told c .args .tree .now) (at-loop-of-known-told c .loop .last) (at-loop-of-known-told c .loop .next))
+      (at-loop-of-known-told c .loop .next) (in-loop-of-known-told c .loop-test .taken)
+      (c .before .before .before .check-name .ensures .is _ (c .before .step .given .1)) ∙ at-loop-of-known-told c .loop .inv .0,
+  (
+    record {
+      start = λ h. c .before .before .before .check-name .ensures .start _ (c .before .step .given .1);
+      bound =
+          c .before .before .before .check-name .ensures .bound _ (c .before .step .given .1);
+    },
+    omega (arith, c .before .before .before .check-name .ensures .start _ (c .before .step .given .1)),
+  ),
+)
 
 returns-2 : tie.Need-returns-2 Inv-loop μ-loop
-returns-2 c = sym (names-none (c .before .before .before .args .tree .now) (c .before .loop .left) (last-name (c .before .before .before .args .tree .now) (c .before .loop .last) (c .before .loop .next)) (c .before .loop .next) (c .loop-test .left)) ∙ c .before .loop .inv .0
+returns-2 c =
+    sym (names-none (c .before .before .before .args .tree .now) (c .before .loop .left)
+    (last-name (c .before .before .before .args .tree .now) (c .before .loop .last) (c .before .loop .next)) (c .before .loop .next) (c .loop-test .left)) ∙ c .before .loop .inv .0
 
 pub check-names-spec : {M : Type 1} → statement M
 check-names-spec =

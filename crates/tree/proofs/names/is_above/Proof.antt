@@ -7,7 +7,9 @@ use Rattle.tree.proofs.names.is_above.Statement.{statement}
 use Rattle.tree.proofs.names.is_above.Tie as tie
 
 returns : tie.Need-returns
-returns c = sym (above-none (c .before .before .before .args .tree .now) (c .before .before .before .args .end) (c .before .before .before .args .text .now) (c .before .before .before .args .last) (c .if1 .taken))
+returns c =
+    sym (above-none (c .before .before .before .args .tree .now) (c .before .before .before .args .end) (c .before .before .before .args .text .now)
+    (c .before .before .before .args .last) (c .if1 .taken))
 
 add-from : tie.Need-add-from
 add-from c = omega (arith, c .before .before .before .pre .start (omega (arith, c .if1 .left)), c .before .before .before .pre .bound)
@@ -24,8 +26,20 @@ part-comes-before-end c = search needs
 comes-before-requires : tie.Need-comes-before-requires
 comes-before-requires c κs = search needs
 
+-- ## Places
+
+abbrev start-of-shared-slice-known2 : tie.After-shared-slice-known2 → tie.Start
+start-of-shared-slice-known2 c = c .before .before
+
+abbrev start-of-comes-before : tie.After-comes-before → tie.Start
+start-of-comes-before c = start-of-shared-slice-known2 (c .before .before .before)
+
+-- ## Needs
+
 returns-2 : tie.Need-returns-2
-returns-2 c = c .comes-before .ensures ∙ sym (above-some (c .before .before .before .before .before .args .tree .now) (c .before .before .before .before .before .args .end) (c .before .before .before .before .before .args .text .now) (c .before .before .before .before .before .args .last) (c .before .before .if1 .left))
+returns-2 c =
+    c .comes-before .ensures ∙ sym (above-some (start-of-comes-before c .args .tree .now) (start-of-comes-before c .args .end)
+    (start-of-comes-before c .args .text .now) (start-of-comes-before c .args .last) (c .before .before .if1 .left))
 
 pub is-above-spec : {M : Type 1} → statement M
 is-above-spec =

@@ -22,11 +22,28 @@ cast-n c = search needs
 add-if2 : tie.Need-add-if2
 add-if2 c = search needs
 
+-- ## Places
+
+abbrev start-of-has : tie.After-has → tie.Start
+start-of-has c = c .before .before
+
+abbrev start-of-then2 : tie.Then2 → tie.Start
+start-of-then2 c = start-of-has (c .before .before .before)
+
+abbrev start-of-else2 : tie.Else2 → tie.Start
+start-of-else2 c = start-of-has (c .before .before .before)
+
+-- ## Needs
+
 returns-2 : tie.Need-returns-2
-returns-2 c = name-big (c .before .before .before .before .before .args .tree .now) (c .before .before .before .before .before .args .names) (c .before .before .before .before .before .args .at) (there (c .before .before .before .has .ensures) (c .before .before .if1 .left)) (omega (arith, c .before .u16-at .ensures, c .if2 .taken))
+returns-2 c =
+    name-big (start-of-then2 c .args .tree .now) (start-of-then2 c .args .names) (start-of-then2 c .args .at)
+    (there (c .before .before .before .has .ensures) (c .before .before .if1 .left)) (omega (arith, c .before .u16-at .ensures, c .if2 .taken))
 
 returns-3 : tie.Need-returns-3
-returns-3 c = told (ap Is (c .before .u16-at .ensures)) (name-is (c .before .before .before .before .before .args .tree .now) (c .before .before .before .before .before .args .names) (c .before .before .before .before .before .args .at) (there (c .before .before .before .has .ensures) (c .before .before .if1 .left)) (omega (arith, c .before .u16-at .ensures, c .if2 .left)))
+returns-3 c =
+    told (ap Is (c .before .u16-at .ensures)) (name-is (start-of-else2 c .args .tree .now) (start-of-else2 c .args .names) (start-of-else2 c .args .at)
+    (there (c .before .before .before .has .ensures) (c .before .before .if1 .left)) (omega (arith, c .before .u16-at .ensures, c .if2 .left)))
 
 pub name-at-spec : {M : Type 1} → statement M
 name-at-spec =

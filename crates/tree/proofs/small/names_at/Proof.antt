@@ -27,9 +27,32 @@ enum-told c = search needs
 enum-told-2 : tie.Need-enum-told-2 Inv-loop μ-loop
 enum-told-2 c = search needs
 
+-- ## Places
+
+abbrev at-loop-of-in-loop : tie.In-loop Inv-loop μ-loop → tie.At-loop Inv-loop μ-loop
+at-loop-of-in-loop c = c .before
+
+abbrev at-loop-of-enum-told2 : tie.After-enum-told2 Inv-loop μ-loop → tie.At-loop Inv-loop μ-loop
+at-loop-of-enum-told2 c = at-loop-of-in-loop (c .before .before .before)
+
+abbrev start-of-enum-told2 : tie.After-enum-told2 Inv-loop μ-loop → tie.Start Inv-loop μ-loop
+start-of-enum-told2 c = at-loop-of-enum-told2 c .before .before
+
+abbrev at-loop-of-enum-told : tie.After-enum-told Inv-loop μ-loop → tie.At-loop Inv-loop μ-loop
+at-loop-of-enum-told c = at-loop-of-in-loop (c .before .before .before)
+
+abbrev start-of-enum-told : tie.After-enum-told Inv-loop μ-loop → tie.Start Inv-loop μ-loop
+start-of-enum-told c = at-loop-of-enum-told c .before .before
+
+-- ## Needs
+
 returns : tie.Need-returns Inv-loop μ-loop
 unfolding place
-returns c = sym (row-stops (λ n. place (name (c .before .before .before .before .before .before .args .tree .now) (c .before .before .before .before .before .before .args .names) (TreeForm (c .before .before .before .before .before .before .args .start)) n)) (c .before .before .before .before .loop .left) (c .before .before .before .before .loop .next) (c .before .before .before .loop-test .taken) (ap place (c .before .before .name-at .ensures .no (c .enum-told2 .given .1) (TreeForm (c .before .before .before .before .before .before .args .start))))) ∙ c .before .before .before .before .loop .inv
+returns c =
+    sym (row-stops (λ n. place (name (start-of-enum-told2 c .args .tree .now) (start-of-enum-told2 c .args .names)
+    (TreeForm (start-of-enum-told2 c .args .start)) n)) (at-loop-of-enum-told2 c .loop .left) (at-loop-of-enum-told2 c .loop .next)
+    (c .before .before .before .loop-test .taken) (ap place
+    (c .before .before .name-at .ensures .no (c .enum-told2 .given .1) (TreeForm (start-of-enum-told2 c .args .start))))) ∙ at-loop-of-enum-told2 c .loop .inv
 
 add-next : tie.Need-add-next Inv-loop μ-loop
 add-next c = omega (arith, c .before .before .name-at .ensures .bound _ (c .enum-told .given .1))
@@ -42,10 +65,15 @@ loop-less c = search needs
 
 loop-again : tie.Need-loop-again Inv-loop μ-loop
 unfolding place
-loop-again c = sym (row-goes (λ n. place (name (c .before .before .before .before .before .before .args .tree .now) (c .before .before .before .before .before .before .args .names) (TreeForm (c .before .before .before .before .before .before .args .start)) n)) (c .before .before .before .before .loop .left) (c .before .before .before .before .loop .next) (c .before .before .before .loop-test .taken) (ap place (c .before .before .name-at .ensures .is _ (c .enum-told .given .1) (TreeForm (c .before .before .before .before .before .before .args .start))))) ∙ c .before .before .before .before .loop .inv
+loop-again c =
+    sym (row-goes (λ n. place (name (start-of-enum-told c .args .tree .now) (start-of-enum-told c .args .names) (TreeForm (start-of-enum-told c .args .start))
+    n)) (at-loop-of-enum-told c .loop .left) (at-loop-of-enum-told c .loop .next) (c .before .before .before .loop-test .taken)
+    (ap place (c .before .before .name-at .ensures .is _ (c .enum-told .given .1) (TreeForm (start-of-enum-told c .args .start))))) ∙ at-loop-of-enum-told c .loop .inv
 
 returns-2 : tie.Need-returns-2 Inv-loop μ-loop
-returns-2 c = sym (row-none (λ n. place (name (c .before .before .before .args .tree .now) (c .before .before .before .args .names) (TreeForm (c .before .before .before .args .start)) n)) (c .before .loop .left) (c .before .loop .next) (c .loop-test .left)) ∙ c .before .loop .inv
+returns-2 c =
+    sym (row-none (λ n. place (name (c .before .before .before .args .tree .now) (c .before .before .before .args .names)
+    (TreeForm (c .before .before .before .args .start)) n)) (c .before .loop .left) (c .before .loop .next) (c .loop-test .left)) ∙ c .before .loop .inv
 
 pub names-at-spec : {M : Type 1} → statement M
 names-at-spec =

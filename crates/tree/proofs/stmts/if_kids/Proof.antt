@@ -18,8 +18,29 @@ enum-known-has-else c = search needs
 enum-told : tie.Need-enum-told
 enum-told c = search needs
 
+-- ## Places
+
+abbrev start-of-byte-at : tie.After-byte-at → tie.Start
+start-of-byte-at c = c .before .before
+
+abbrev start-of-enum-told : tie.After-enum-told → tie.Start
+start-of-enum-told c = start-of-byte-at (c .before .before)
+
+abbrev byte-at-of-at-match-keys1 : tie.At-match-keys1 → tie.After-byte-at
+byte-at-of-at-match-keys1 c = c .before
+
+abbrev byte-at-of-planned : tie.After-planned → tie.After-byte-at
+byte-at-of-planned c = byte-at-of-at-match-keys1 (c .before .before .before)
+
+abbrev start-of-planned : tie.After-planned → tie.Start
+start-of-planned c = byte-at-of-planned c .before .before
+
+-- ## Needs
+
 returns : tie.Need-returns
-returns c = if-no (c .before .before .before .before .args .tree .now) (c .before .before .before .before .args .start) (c .before .before .before .before .args .funs) (c .before .before .byte-at .ensures .no (c .enum-told .given .1) (TreeForm (c .before .before .before .before .args .start)))
+returns c =
+    if-no (start-of-enum-told c .args .tree .now) (start-of-enum-told c .args .start) (start-of-enum-told c .args .funs)
+    (c .before .before .byte-at .ensures .no (c .enum-told .given .1) (TreeForm (start-of-enum-told c .args .start)))
 
 add-planned : tie.Need-add-planned
 add-planned c = search needs
@@ -31,7 +52,10 @@ planned-requires : tie.Need-planned-requires
 planned-requires c κs = search needs
 
 returns-2 : tie.Need-returns-2
-returns-2 c = if-is (c .before .before .before .before .before .before .args .tree .now) (c .before .before .before .before .before .before .args .start) (c .before .before .before .before .before .before .args .funs) (c .before .before .before .before .byte-at .ensures .small _ (c .before .before .has-else .given .1)) (moved (c .before .before .before .before .byte-at .ensures .is _ (c .before .before .has-else .given .1) (TreeForm (c .before .before .before .before .before .before .args .start))) (omega arith)) (c .planned .ensures)
+returns-2 c =
+    if-is (start-of-planned c .args .tree .now) (start-of-planned c .args .start) (start-of-planned c .args .funs)
+    (byte-at-of-planned c .byte-at .ensures .small _ (c .before .before .has-else .given .1))
+    (moved (byte-at-of-planned c .byte-at .ensures .is _ (c .before .before .has-else .given .1) (TreeForm (start-of-planned c .args .start))) (omega arith)) (c .planned .ensures)
 
 pub if-kids-spec : {M : Type 1} → statement M
 if-kids-spec =
