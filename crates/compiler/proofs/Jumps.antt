@@ -18,7 +18,8 @@ module _ {class limit l : ℕ} where
   stopped-to {m} {before} {now} q h = record { does = subst (λ (s : Step). OpenedAs class limit l steady m before now s) (sym q) h }
 
   -- the last step, and then the place
-  place-as : (place : ℕ) {m : Compile Unit} {mid now : Mem} → place + 2 ≤ code-len mid l → (r : Step) → Did class limit l place steady m mid now r → OpenedAs class limit l steady (m >> return place) mid now r
+  place-as : (place : ℕ) {m : Compile Unit} {mid now : Mem} → place + 2 ≤ code-len mid l → (r : Step) → Did class limit l place steady m mid now r
+      → OpenedAs class limit l steady (m >> return place) mid now r
   place-as place {m} {mid} {now} h (Next v) d =
       let g = d .does .0 in (
         subst (λ (k : ℕ). Gave class limit l steady (m >> return place) k mid now) (sym (d .does .1)) (gave-seq g (return place) (returned place (g .ahead .fit))),
@@ -26,10 +27,12 @@ module _ {class limit l : ℕ} where
       )
   place-as place h (Stop x) d = refused-seq (d .does) (return place)
 
-  place-last : (place : ℕ) {m : Compile Unit} {mid now : Mem} {r : Step} → place + 2 ≤ code-len mid l → Did class limit l place steady m mid now r → Opened class limit l steady (m >> return place) mid now r
+  place-last : (place : ℕ) {m : Compile Unit} {mid now : Mem} {r : Step} → place + 2 ≤ code-len mid l → Did class limit l place steady m mid now r
+      → Opened class limit l steady (m >> return place) mid now r
   place-last place {r = r} h d = record { does = place-as place h r d }
 
-  pub open-stop : (span : Span) {before now : Mem} {r : Step} {x : Refusal} → Opened class limit l steady (emit-jump limit op.JUMP-IF-FALSE span) before now r → r ≡ Stop x → Opened class limit l steady (open-jump limit span) before now r
+  pub open-stop : (span : Span) {before now : Mem} {r : Step} {x : Refusal} → Opened class limit l steady (emit-jump limit op.JUMP-IF-FALSE span) before now r → r ≡ Stop x
+      → Opened class limit l steady (open-jump limit span) before now r
   unfolding open-jump
   open-stop span a q = stopped-to q (refused-bind (stuck-to a q) _)
 
@@ -39,7 +42,8 @@ module _ {class limit l : ℕ} where
   open-done span {j = j} a q d = opened-bind (went-to a q) _ (place-last j (placed a q) d)
 
   module _ (place : ℕ) (span : Span) where
-    pub turn-stop : {before now : Mem} {r : Step} {x : Refusal} → Opened class limit l steady (emit-jump limit op.JUMP span) before now r → r ≡ Stop x → Opened class limit l steady (turn-jump limit place span) before now r
+    pub turn-stop : {before now : Mem} {r : Step} {x : Refusal} → Opened class limit l steady (emit-jump limit op.JUMP span) before now r → r ≡ Stop x
+        → Opened class limit l steady (turn-jump limit place span) before now r
     unfolding turn-jump
     turn-stop a q = stopped-to q (refused-bind (stuck-to a q) _)
 
@@ -61,6 +65,7 @@ module _ {B : Type 0} (k : ℕ → Compile B) where
   unfolding open-jump _>>=_ _>>_
   open-cut limit span s = cut-and k (emit-jump limit op.JUMP-IF-FALSE span s) (emit-op limit op.POP span)
 
-  pub turn-cut : (limit place : ℕ) (span : Span) (s : Compiler) → (emit-jump limit op.JUMP span >>= λ j. patch-jump place span >> (emit-op limit op.POP span >> k j)) s ≡ (turn-jump limit place span >>= k) s
+  pub turn-cut : (limit place : ℕ) (span : Span) (s : Compiler)
+      → (emit-jump limit op.JUMP span >>= λ j. patch-jump place span >> (emit-op limit op.POP span >> k j)) s ≡ (turn-jump limit place span >>= k) s
   unfolding turn-jump _>>=_ _>>_
   turn-cut limit place span s = cut-later k (emit-jump limit op.JUMP span s) (patch-jump place span) (emit-op limit op.POP span)

@@ -96,7 +96,8 @@ is-or n h e = same-some (ap (λ (k : ℕ). lookup k infix-ops) (sym e) ∙ h)
 
 -- ## The two halves make the whole
 
-pub infix-cut : (limit : ℕ) (o : OpInfix) (rt : Compile Unit) (span : Span) (s : Compiler) → compile-infix limit o rt span s ≡ (before-right limit o span >>= λ place. rt >> after-right limit o place span) s
+pub infix-cut : (limit : ℕ) (o : OpInfix) (rt : Compile Unit) (span : Span) (s : Compiler)
+    → compile-infix limit o rt span s ≡ (before-right limit o span >>= λ place. rt >> after-right limit o place span) s
 unfolding compile-infix before-right after-right _>>=_ _>>_ return go-on
 infix-cut limit Add rt span s = refl
 infix-cut limit Subtract rt span s = refl
@@ -109,19 +110,22 @@ infix-cut limit GreaterEqual rt span s = refl
 infix-cut limit Equal rt span s = refl
 infix-cut limit NotEqual rt span s = refl
 infix-cut limit LogicAnd rt span s = cut-and (λ place. rt >> patch-jump place span) (emit-jump limit op.JUMP-IF-FALSE span s) (emit-op limit op.POP span)
-infix-cut limit LogicOr rt span s = cut-or (λ place. rt >> patch-jump place span) (emit-jump limit op.JUMP-IF-FALSE span s) (emit-jump limit op.JUMP span) (λ i. patch-jump i span) (emit-op limit op.POP span)
+infix-cut limit LogicOr rt span s = cut-or (λ place. rt >> patch-jump place span) (emit-jump limit op.JUMP-IF-FALSE span s) (emit-jump limit op.JUMP span) (λ i. patch-jump i span)
+    (emit-op limit op.POP span)
 
 -- ## Before the right side
 
 module _ {class limit l n : ℕ} where
-  begun-by : (span : Span) {o o′ : OpInfix} {before now : Mem} {r : Step} → o ≡ o′ → BegunBy class limit l n (before-right limit o span) before now r → BegunBy class limit l n (before-right limit o′ span) before now r
+  begun-by : (span : Span) {o o′ : OpInfix} {before now : Mem} {r : Step} → o ≡ o′ → BegunBy class limit l n (before-right limit o span) before now r
+      → BegunBy class limit l n (before-right limit o′ span) before now r
   begun-by span {before = before} {now = now} {r = r} e d = subst (λ (x : OpInfix). BegunBy class limit l n (before-right limit x span) before now r) e d
 
   stopped-by : {m : Compile ℕ} {before now : Mem} {r : Step} {x : Refusal} → r ≡ Stop x → Refused class l m before x → BegunBy class limit l n m before now r
   stopped-by {m} {before} {now} q h = record { does = subst (λ (s : Step). BegunAs class limit l n m before now s) (sym q) h }
 
   -- the last step, and then the place
-  last-as : (place : ℕ) {m : Compile Unit} {mid now : Mem} → place + 2 ≤ code-len mid l → (r : Step) → Did class limit l place steady m mid now r → BegunBy class limit l n (m >> return place) mid now r
+  last-as : (place : ℕ) {m : Compile Unit} {mid now : Mem} → place + 2 ≤ code-len mid l → (r : Step) → Did class limit l place steady m mid now r
+      → BegunBy class limit l n (m >> return place) mid now r
   last-as place {m} {mid} {now} h (Next v) d =
       let g = d .does .0 in
       record {
@@ -132,11 +136,13 @@ module _ {class limit l n : ℕ} where
       }
   last-as place h (Stop x) d = record { does = refused-seq (d .does) (return place) }
 
-  bind-as : {A : Type 0} {m : Compile A} {v : A} {before mid now : Mem} → Gave class limit l steady m v before mid → (next : A → Compile ℕ) → (r : Step) → BegunBy class limit l n (next v) mid now r → BegunBy class limit l n (m >>= next) before now r
+  bind-as : {A : Type 0} {m : Compile A} {v : A} {before mid now : Mem} → Gave class limit l steady m v before mid → (next : A → Compile ℕ) → (r : Step) → BegunBy class limit l n (next v) mid now r
+      → BegunBy class limit l n (m >>= next) before now r
   bind-as g next (Next v) d = record { does = (gave-bind g next (d .does .0), d .does .1) }
   bind-as g next (Stop x) d = record { does = gave-refused g next (d .does) }
 
-  seq-as : {A : Type 0} {m : Compile A} {v : A} {before mid now : Mem} → Gave class limit l steady m v before mid → (next : Compile ℕ) → (r : Step) → BegunBy class limit l n next mid now r → BegunBy class limit l n (m >> next) before now r
+  seq-as : {A : Type 0} {m : Compile A} {v : A} {before mid now : Mem} → Gave class limit l steady m v before mid → (next : Compile ℕ) → (r : Step) → BegunBy class limit l n next mid now r
+      → BegunBy class limit l n (m >> next) before now r
   seq-as g next (Next v) d = record { does = (gave-seq g next (d .does .0), d .does .1) }
   seq-as g next (Stop x) d = record { does = gave-refused-seq g next (d .does) }
 
@@ -148,7 +154,8 @@ module _ {class limit l n : ℕ} where
     };
   }
 
-  pub begun-stop : (span : Span) {before now : Mem} {r : Step} {x : Refusal} → 10 ≤ n → Opened class limit l steady (emit-jump limit op.JUMP-IF-FALSE span) before now r → r ≡ Stop x → Begun class limit l n span before now r
+  pub begun-stop : (span : Span) {before now : Mem} {r : Step} {x : Refusal} → 10 ≤ n → Opened class limit l steady (emit-jump limit op.JUMP-IF-FALSE span) before now r → r ≡ Stop x
+      → Begun class limit l n span before now r
   unfolding before-right
   begun-stop span b a q = record {
     did = λ o h.
@@ -166,17 +173,21 @@ module _ {class limit l n : ℕ} where
   or-as : (span : Span) {before now : Mem} {r : Step} → 10 ≤ n → (n ≡ 10 → ⊥) → BegunBy class limit l n (before-right limit LogicOr span) before now r → Begun class limit l n span before now r
   or-as span b z d = record { did = λ o h. ⊎-elim (λ e. absurd (z e)) (λ e. begun-by span (is-or n h e) d) (eleven n h b) }
 
-  pub begun-or-stop : (span : Span) {before mid now : Mem} {r r′ : Step} {j : ℕ} {x : Refusal} → 10 ≤ n → (n ≡ 10 → ⊥) → Opened class limit l steady (emit-jump limit op.JUMP-IF-FALSE span) before mid r → r ≡ Next j
+  pub begun-or-stop : (span : Span) {before mid now : Mem} {r r′ : Step} {j : ℕ} {x : Refusal} → 10 ≤ n → (n ≡ 10 → ⊥)
+      → Opened class limit l steady (emit-jump limit op.JUMP-IF-FALSE span) before mid r → r ≡ Next j
       → Opened class limit l steady (emit-jump limit op.JUMP span) mid now r′ → r′ ≡ Stop x → Begun class limit l n span before now r′
   unfolding before-right
   begun-or-stop span {r′ = r′} b z a q d q′ = or-as span b z (bind-as (went-to a q) _ r′ (stopped-by q′ (refused-bind (stuck-to d q′) _)))
 
-  pub begun-or-stop-2 : (span : Span) {before mid late now : Mem} {r r′ r″ : Step} {i j k : ℕ} {x : Refusal} → 10 ≤ n → (n ≡ 10 → ⊥) → Opened class limit l steady (emit-jump limit op.JUMP-IF-FALSE span) before mid r → r ≡ Next i
-      → Opened class limit l steady (emit-jump limit op.JUMP span) mid late r′ → r′ ≡ Next j → Did class limit l k steady (patch-jump i span) late now r″ → r″ ≡ Stop x → Begun class limit l n span before now r″
+  pub begun-or-stop-2 : (span : Span) {before mid late now : Mem} {r r′ r″ : Step} {i j k : ℕ} {x : Refusal} → 10 ≤ n → (n ≡ 10 → ⊥)
+      → Opened class limit l steady (emit-jump limit op.JUMP-IF-FALSE span) before mid r → r ≡ Next i
+      → Opened class limit l steady (emit-jump limit op.JUMP span) mid late r′ → r′ ≡ Next j → Did class limit l k steady (patch-jump i span) late now r″ → r″ ≡ Stop x
+      → Begun class limit l n span before now r″
   unfolding before-right
   begun-or-stop-2 span {r″ = r″} b z a q d q′ f q″ = or-as span b z (bind-as (went-to a q) _ r″ (bind-as (went-to d q′) _ r″ (stopped-by q″ (refused-seq (stuck f q″) _))))
 
-  pub begun-or : (span : Span) {before mid late last now : Mem} {r r′ r″ r‴ : Step} {i j k v : ℕ} → 10 ≤ n → (n ≡ 10 → ⊥) → Opened class limit l steady (emit-jump limit op.JUMP-IF-FALSE span) before mid r → r ≡ Next i
+  pub begun-or : (span : Span) {before mid late last now : Mem} {r r′ r″ r‴ : Step} {i j k v : ℕ} → 10 ≤ n → (n ≡ 10 → ⊥)
+      → Opened class limit l steady (emit-jump limit op.JUMP-IF-FALSE span) before mid r → r ≡ Next i
       → Opened class limit l steady (emit-jump limit op.JUMP span) mid late r′ → r′ ≡ Next j → Did class limit l k steady (patch-jump i span) late last r″ → r″ ≡ Next v
       → Did class limit l j steady (emit-op limit op.POP span) last now r‴ → Begun class limit l n span before now r‴
   unfolding before-right
@@ -185,10 +196,12 @@ module _ {class limit l n : ℕ} where
 
   -- ## After it
 
-  pub closed-plain : (place next : ℕ) (span : Span) {before now : Mem} {r : Step} (byte : ℕ) → InfixOp n byte → Did class limit l next steady (emit-op limit byte span) before now r → Closed class limit l n place next span before now r
+  pub closed-plain : (place next : ℕ) (span : Span) {before now : Mem} {r : Step} (byte : ℕ) → InfixOp n byte → Did class limit l next steady (emit-op limit byte span) before now r
+      → Closed class limit l n place next span before now r
   closed-plain place next span byte i d = record { did = λ o h. by-name (sym (i .is o h limit place span)) d }
 
-  pub closed-jump : (place next : ℕ) (span : Span) {before now : Mem} {r : Step} → 10 ≤ n → Did class limit l next steady (patch-jump place span) before now r → Closed class limit l n place next span before now r
+  pub closed-jump : (place next : ℕ) (span : Span) {before now : Mem} {r : Step} → 10 ≤ n → Did class limit l next steady (patch-jump place span) before now r
+      → Closed class limit l n place next span before now r
   unfolding after-right
   closed-jump place next span {before} {now} {r} b d = record {
     did = λ o h.
