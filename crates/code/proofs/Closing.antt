@@ -53,7 +53,7 @@ more named p q P h same other true e =
 more named p q P h same other false e =
     let n = eqb-false q p e in rw (getD-set-other named p q (getD named p 0 + 1) 0 n) (other n)
 
-zeros : (n p : ℕ) → _≡_ {A = ℕ} (getD (replicate n 0) p 0) 0
+pub zeros : (n p : ℕ) → _≡_ {A = ℕ} (getD (replicate n 0) p 0) 0
 zeros zero p = refl
 zeros (suc n) zero = refl
 zeros (suc n) (suc p) = zeros n p

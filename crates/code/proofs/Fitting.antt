@@ -84,7 +84,7 @@ text-is (suc zero) = refl
 text-is (suc (suc zero)) = refl
 text-is (suc (suc (suc k))) = let n : suc (suc (suc k)) ≡ 2 → ⊥ = λ e. omega arith in ne-eqb (suc (suc (suc k))) 2 n
 
-function-no : (k : ℕ) → k < 3 → is-function (kind-of k) ≡ false
+pub function-no : (k : ℕ) → k < 3 → is-function (kind-of k) ≡ false
 unfolding kind-of is-function
 function-no zero h = refl
 function-no (suc zero) h = refl

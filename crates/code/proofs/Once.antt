@@ -19,8 +19,9 @@ use Rattle.code.specs.Table.{kind-of, kinds-in, from, instructions, is-s
 use Rattle.code.specs.declared.Verdict.{Verdict}
 use Rattle.code.specs.declared.Verdict.the-variants.{Yes, No}
 use Rattle.code.proofs.Steps.{no-true}
+use Rattle.code.proofs.Fitting.{function-no}
 
-either-false : (b : Bool) → (if b then false else false) ≡ false
+pub either-false : (b : Bool) → (if b then false else false) ≡ false
 either-false true = refl
 either-false false = refl
 
@@ -48,13 +49,6 @@ all-begin p = refl
 pub all-end : (p : ℕ → Bool) (i : ℕ) → i ≡ 256 → all-below i p ≡ true → true ≡ all-below 256 p
 all-end p i e a = sym (rw e at a)
 
-no-function : (k : ℕ) → k < 3 → is-function (kind-of k) ≡ false
-unfolding kind-of is-function
-no-function zero h = refl
-no-function (suc zero) h = refl
-no-function (suc (suc zero)) h = refl
-no-function (suc (suc (suc k))) h = absurd (omega arith)
-
 a-function : (k : ℕ) → 3 ≤ k → is-function (kind-of k) ≡ true
 unfolding kind-of is-function
 a-function zero h = absurd (omega arith)
@@ -68,7 +62,7 @@ module _ (table named : List ℕ) where
 
   pub once-none : (i : ℕ) → getD table i 0 < 3 → once-in i ≡ true
   unfolding kinds-in
-  once-none i h = rw (no-function (getD table i 0) h) refl
+  once-none i h = rw (function-no (getD table i 0) h) refl
 
   pub once-yes : (i : ℕ) → 3 ≤ getD table i 0 → getD named i 0 ≡ 1 → once-in i ≡ true
   unfolding kinds-in

@@ -126,25 +126,13 @@ fn form_of(op: u8) -> u8
     Form::NONE
 }
 
-fn wide(b: u8) -> usize
-    ensures { λ r. ⌜ r ≡ b ⌝ }
-{
-    b as usize
-}
-
-fn wide32(b: u32) -> usize
-    ensures { λ r. ⌜ r ≡ b ⌝ }
-{
-    b as usize
-}
-
 // What the first operand of the instruction at `at` finds in the table.
 fn kind_at(code: &[u8], at: usize, kinds: &[u32; 256]) -> u32
     requires { ⌜ at < length (now code) ⌝ }
     ensures { λ r. ⌜ kind-of r ≡ kinds-in (now (kinds .entry)) (getD (drop (at + 1) (now (code .entry))) 0 0) ⌝ }
 {
     if at + 1 < code.len() {
-        let place = wide(code[at + 1]);
+        let place = fields::wide(code[at + 1]);
         return kinds[place];
     }
     kinds[0]
@@ -175,7 +163,7 @@ fn pairs(code: &[u8], at: usize, n: usize, upvalues: usize) -> bool
     while i < n {
         let a = at + 2 * i;
         let open_by = code[a];
-        let index = wide(code[a + 1]);
+        let index = fields::wide(code[a + 1]);
         if open_by > 1 {
             return false;
         }
@@ -201,7 +189,7 @@ fn fits(code: &[u8], at: usize, kinds: &[u32; 256], upvalues: usize) -> bool
     if form < Form::CAPTURED {
         return true;
     }
-    let place = wide(code[at + 1]);
+    let place = fields::wide(code[at + 1]);
     if form == Form::CAPTURED {
         return place < upvalues;
     }
@@ -221,7 +209,12 @@ fn fits(code: &[u8], at: usize, kinds: &[u32; 256], upvalues: usize) -> bool
     if kind < Kind::FUNCTION {
         return false;
     }
-    pairs(code, at + 2, wide32(kind - Kind::FUNCTION), upvalues)
+    pairs(
+        code,
+        at + 2,
+        fields::wide32(kind - Kind::FUNCTION),
+        upvalues,
+    )
 }
 
 // How many instructions, where the code divides into such whose operands are as they should.
@@ -282,16 +275,6 @@ fn fill(code: &[u8], kinds: &[u32; 256], ring: &mut [u8; 131072], begin: Lead, w
     Lead { at, skip }
 }
 
-fn least(a: usize, b: usize) -> usize
-    ensures { λ r. ⌜ (r ≤ a) × (r ≤ b) ⌝ }
-    ensures { λ r. ⌜ ((p : ℕ) → p < a → p < b → p < r) ⌝ }
-{
-    if a < b {
-        return a;
-    }
-    b
-}
-
 // Whether the instruction at `at` is no jump, or lands where it may.
 fn lands(code: &[u8], at: usize, kinds: &[u32; 256], ring: &[u8; 131072]) -> bool
     requires { ⌜ at < length (now code) ⌝ }
@@ -306,7 +289,7 @@ fn lands(code: &[u8], at: usize, kinds: &[u32; 256], ring: &[u8; 131072]) -> boo
     if form > Form::BACK {
         return true;
     }
-    let far = wide(code[at + 1]) + 256 * wide(code[at + 2]);
+    let far = fields::wide(code[at + 1]) + 256 * fields::wide(code[at + 2]);
     let next = at + 3;
     if form == Form::AHEAD {
         let to = next + far;
@@ -341,7 +324,13 @@ fn jumps(code: &[u8], kinds: &[u32; 256], ring: &mut [u8; 131072]) -> bool
             skip -= 1;
             at += 1;
         } else {
-            lead = fill(code, kinds, ring, lead, least(code.len(), at + 65539));
+            lead = fill(
+                code,
+                kinds,
+                ring,
+                lead,
+                fields::least(code.len(), at + 65539),
+            );
             if !lands(code, at, kinds, ring) {
                 return false;
             }
@@ -366,7 +355,7 @@ fn closures(code: &[u8], kinds: &[u32; 256], named: &mut [u64; 256])
         } else {
             let w = width_at(code, at, kinds);
             if form_of(code[at]) == Form::CLOSURE {
-                let place = wide(code[at + 1]);
+                let place = fields::wide(code[at + 1]);
                 let before = named[place];
                 named[place] = before + 1;
                 skip = w - 1;

@@ -23,6 +23,7 @@ use Rattle.records.specs.declared.Header.{Header}
 use Rattle.records.specs.declared.Head.the-variants as head
 use Rattle.records.specs.declared.Place.the-variants as place
 use Rattle.records.specs.Told.{place-told, head-at}
+use Rattle.code.proofs.Once.{either-false}
 use Rattle.records.proofs.Many.{Fails, Gives, Nth, nth-of, many-length, place-bad, place-at}
 use Rattle.records.proofs.Records.{Headed, headed, head-fails, upvalues-headed}
 use Rattle.constants.specs.Words.{constant-of, constants-of}
@@ -158,10 +159,6 @@ module _ (functions : List ObjectFunction) (k : ℕ) (number-of : length functio
   function-above (CF n) l = refl
 
 -- ## All of them
-
-either-false : (b : Bool) → (if b then false else false) ≡ false
-either-false true = refl
-either-false false = refl
 
 and-false : (b : Bool) → (b && false) ≡ false
 and-false true = refl

@@ -10,6 +10,7 @@ ghost use Rattle.rules.specs.Chunk.{ObjectFunction};
 ghost use Rattle.rules.specs.Checker.{distinct};
 ghost use Rattle.constants.specs.Words.{constant-of, constants-of, Gathered, slot-in, Place-of};
 ghost use Rattle.constants.specs.Earlier.{earlier, is-got, upvalues-at, Counts, kind-word, Kinds};
+use code::Kind;
 use records::Head;
 use records::Place;
 use records::Word;
@@ -111,28 +112,22 @@ fn wide16(n: u16) -> u32
     n as u32
 }
 
-fn wide64(n: u64) -> usize
-    ensures { λ r. ⌜ r ≡ n ⌝ }
-{
-    n as usize
-}
-
 // The word of the table for a constant of function `k`.
 fn kind_of(s: &[u8], word: u64, k: usize, counts: &[u16]) -> u32
     requires { ⌜ Counts (now s) k (now counts) ⌝ }
     ensures { λ r. ⌜ r ≡ kind-word (earlier (now (s .entry)) k) k (constant-of word) ⌝ }
 {
     if word % 2 == 0 {
-        return 1;
+        return Kind::NUMBER;
     }
     if word % 4 == 1 {
-        return 2;
+        return Kind::STRING;
     }
-    let number = wide64(word / 4);
+    let number = fields::wide64(word / 4);
     if number < k {
-        return 3 + wide16(upvalues_of(s, number, k, counts));
+        return Kind::FUNCTION + wide16(upvalues_of(s, number, k, counts));
     }
-    0
+    Kind::MISSING
 }
 
 // The kinds of the first `n` constants of function `k`, in a table that was all 0. False where one names no earlier function, or is a function
@@ -152,14 +147,14 @@ pub fn kinds_of(
     let mut i: usize = 0;
     while i < n {
         let kind = kind_of(s, words[i], k, counts);
-        if kind == 0 {
+        if kind == Kind::MISSING {
             return false;
         }
         if i < 256 {
             kinds[i] = kind;
             i += 1;
         } else {
-            if kind > 2 {
+            if kind > Kind::STRING {
                 return false;
             }
             i += 1;

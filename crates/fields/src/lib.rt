@@ -1,6 +1,7 @@
-// The fields of the files: what stands at a place. The tree reader, the compiler and the image checker read by these.
+// The fields of the files: what stands at a place, the marks of an image's records, and numbers in wider types. The tree reader, the compiler
+// and the image checker read by these.
 ghost use mathlib.Core.Path.{_≡_};
-ghost use Prim.Native.Nat.{_+_, _≤_};
+ghost use Prim.Native.Nat.{ℕ, _+_, _<_, _≤_};
 ghost use lib.ListN.{length};
 ghost use lib.Dec.{leb};
 ghost use Rattle.fields.specs.Words.{word8, word16, word32, word64, letters, span-of};
@@ -70,4 +71,89 @@ pub fn span_at(bytes: &[u8], at: usize) -> Span
     let start = u32_at(bytes, at);
     let end = u32_at(bytes, at + 4);
     Span { start, end }
+}
+
+// The marks of an image's records, as `mark_at` reads them. The rules have the same numbers where they read the record.
+pub struct Mark {
+    pub letters: u16,
+}
+
+impl Mark {
+    // IM: `read-functions`
+    pub const IMAGE: u16 = 0x494D;
+
+    // FN: `read-function`
+    pub const FUNCTION: u16 = 0x464E;
+
+    // CN, CS, CF: `constant-marks`
+    pub const NUMBER_CONSTANT: u16 = 0x434E;
+
+    pub const STRING_CONSTANT: u16 = 0x4353;
+
+    pub const FUNCTION_CONSTANT: u16 = 0x4346;
+
+    // RU: `read-run`
+    pub const RUN: u16 = 0x5255;
+
+    // CD: behind the runs, in `read-function`
+    pub const CODE: u16 = 0x4344;
+}
+
+// A number in a wider type. A call asks its caller for nothing, where a cast in place asks that the number fits.
+pub fn wide(n: u8) -> usize
+    ensures { λ r. ⌜ (r ≡ n) × (r < 256) ⌝ }
+{
+    n as usize
+}
+
+pub fn wide16(n: u16) -> usize
+    ensures { λ r. ⌜ (r ≡ n) × (r < 65536) ⌝ }
+{
+    n as usize
+}
+
+pub fn wide32(n: u32) -> usize
+    ensures { λ r. ⌜ (r ≡ n) × (r < 4294967296) ⌝ }
+{
+    n as usize
+}
+
+pub fn wide64(n: u64) -> usize
+    ensures { λ r. ⌜ r ≡ n ⌝ }
+{
+    n as usize
+}
+
+pub fn long8(n: u8) -> u64
+    ensures { λ r. ⌜ (r ≡ n) × (r < 256) ⌝ }
+{
+    n as u64
+}
+
+pub fn long16(n: u16) -> u64
+    ensures { λ r. ⌜ (r ≡ n) × (r < 65536) ⌝ }
+{
+    n as u64
+}
+
+pub fn long32(n: u32) -> u64
+    ensures { λ r. ⌜ (r ≡ n) × (r < 4294967296) ⌝ }
+{
+    n as u64
+}
+
+pub fn long(n: usize) -> u64
+    ensures { λ r. ⌜ r ≡ n ⌝ }
+{
+    n as u64
+}
+
+pub fn least(a: usize, b: usize) -> usize
+    ensures { λ r. ⌜ (r ≤ a) × (r ≤ b) ⌝ }
+    ensures { λ r. ⌜ ((p : ℕ) → p < a → p < b → p < r) ⌝ }
+{
+    if a < b {
+        return a;
+    }
+    b
 }

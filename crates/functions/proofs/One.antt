@@ -21,6 +21,7 @@ use Rattle.code.specs.Table.{code-right, judged-code, kinds-in}
 use Rattle.code.specs.Table as Table
 use Rattle.code.specs.declared.Verdict.{Verdict}
 use Rattle.code.specs.declared.Verdict.the-variants as verdict
+use Rattle.code.proofs.Closing.{zeros}
 use Rattle.code.proofs.Below.{same-judged, few}
 use Rattle.records.specs.declared.Place.{Place}
 use Rattle.records.specs.declared.Place.the-variants as place
@@ -29,7 +30,7 @@ use Rattle.records.specs.declared.Header.{Header}
 use Rattle.records.specs.declared.Summed.{Summed}
 use Rattle.records.specs.declared.Summed.the-variants as summed
 use Rattle.records.specs.Told.{place-told, head-at, runs-told, code-told}
-use Rattle.records.proofs.Many.{Fails, fails-as, place-bad}
+use Rattle.records.proofs.Many.{Fails, same-got, fails-as, place-bad}
 use Rattle.records.proofs.Records.{Headed, headed, head-fails, Body, body-of, at-constants, at-runs, at-code, Coded, coded, whole-function, made}
 use Rattle.records.proofs.Forward.{forward-many, forward-constant, forward-run}
 use Rattle.constants.specs.Words.{constants-of, Gathered}
@@ -38,9 +39,6 @@ use Rattle.constants.proofs.Kinding.{earlier-number}
 use Rattle.functions.specs.declared.Done.{Done}
 use Rattle.functions.specs.declared.Done.the-variants as done
 use Rattle.functions.specs.Judged.{constants-fine, constants-told, Constants-right, counted, code-done, code-fine, right, function-done, Judged}
-
-same-read : {A : Type 0} {r : Read A} {a b : A} {m n : ℕ} → r ≡ got a m → r ≡ got b n → (a ≡ b) × (m ≡ n)
-same-read e f = let z = sym e ∙ f in (cc, cc)
 
 and-false : (b : Bool) → (b && false) ≡ false
 and-false true = refl
@@ -87,7 +85,7 @@ module _ (s : List ℕ) (k at n : ℕ) (words : List ℕ) where
         record {
           told = sym (ap (constants-told k) are ∙ rw (← d, ← e) refl);
           table =
-              λ cs next′ f b p h. (let q : constants-of n words ≡ cs = same-read are f .0 in
+              λ cs next′ f b p h. (let q : constants-of n words ≡ cs = same-got are f .0 in
               w .table refl p h ∙ ap (λ (l : List Constant). kind-at (earlier s k) l p) q);
         }
 
@@ -217,7 +215,7 @@ module _ (s : List ℕ) (k at : ℕ) where
       constants-by (got cs next) e b′ =
           wrong (λ f n g.
           let o = body f n g in
-          let q : cs ≡ o .cs = same-read e (o .constants-are) .0 in
+          let q : cs ≡ o .cs = same-got e (o .constants-are) .0 in
           let z : constants-fine (length before) (f .chunk .constants) ≡ false =
           ap (λ (x : ObjectFunction). constants-fine (length before) (x .chunk .constants)) (o .is) ∙ ap (λ (l : List Constant). constants-fine (length before) l) (sym q) ∙
           ap (λ (m : ℕ). constants-fine m cs) number-of ∙ unfine (constants-fine k cs) b′ in
@@ -257,8 +255,8 @@ module _ (s : List ℕ) (k at : ℕ) where
         runs-by (got rs next) e b′ =
             wrong (λ f n g.
             let o = body f n g in
-            let p = same-read (c .are) (o .constants-are) .1 in
-            let q : rs ≡ o .rs = same-read e (ap (many (h .runs) (read-run s)) p ∙ o .runs-are) .0 in
+            let p = same-got (c .are) (o .constants-are) .1 in
+            let q : rs ≡ o .rs = same-got e (ap (many (h .runs) (read-run s)) p ∙ o .runs-are) .0 in
             let z : (all run-fits (f .chunk .spans) && runs-apart (f .chunk .spans)) ≡ false =
             ap (λ (x : ObjectFunction). all run-fits (x .chunk .spans) && runs-apart (x .chunk .spans)) (o .is) ∙
             ap (λ (l : List Run). all run-fits l && runs-apart l) (sym q) ∙ unfine (all run-fits rs && runs-apart rs) b′ in
@@ -359,11 +357,6 @@ module _ (s : List ℕ) (k at : ℕ) where
                     ap (λ (m : ℕ). code-done (kinds-in kinds) m sum (h .code) s (code-told s (h .code) code-at)) v ∙ code-by (code-told s (h .code) code-at) refl;
                 grows = λ n next f. (let g = grows n next f in let w = further in (omega arith, g .1));
               }
-
-pub zeros : (n p : ℕ) → _≡_ {A = ℕ} (getD (replicate n 0) p 0) 0
-zeros zero p = refl
-zeros (suc n) zero = refl
-zeros (suc n) (suc p) = zeros n p
 
 pub blank-size : (n : ℕ) → length {A = ℕ} (replicate n 0) ≡ n
 blank-size zero = refl

@@ -111,12 +111,6 @@ fn constants_right(
     constants_many(s, at, n, k, counts, kinds)
 }
 
-fn long(n: usize) -> u64
-    ensures { λ r. ⌜ r ≡ n ⌝ }
-{
-    n as u64
-}
-
 // The code of `size` bytes whose mark is at `at`, beside runs that stand for `sum` bytes.
 fn code_right(
     s: &[u8],
@@ -134,7 +128,7 @@ fn code_right(
     let Place::At(first) = records::code_at(s, at, size) else {
         return Done::Bad;
     };
-    if sum != long(size) {
+    if sum != fields::long(size) {
         return Done::Bad;
     }
     let end = first + size;
@@ -166,7 +160,7 @@ fn function(
     let Place::At(runs_at) = constants_right(
         s,
         at + 17,
-        records::wide16(h.constants),
+        fields::wide16(h.constants),
         k,
         counts,
         words,
@@ -175,15 +169,15 @@ fn function(
     ) else {
         return Done::Bad;
     };
-    let Summed::Are(sum, code_at) = records::runs(s, runs_at, records::wide32(h.runs)) else {
+    let Summed::Are(sum, code_at) = records::runs(s, runs_at, fields::wide32(h.runs)) else {
         return Done::Bad;
     };
     code_right(
         s,
         code_at,
-        records::wide32(h.code),
+        fields::wide32(h.code),
         sum,
-        records::wide16(h.upvalues),
+        fields::wide16(h.upvalues),
         &kinds,
         ring,
     )

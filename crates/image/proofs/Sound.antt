@@ -85,7 +85,7 @@ elem-some [] i v e = absurd (let z : _≡_ {A = ℕ} 0 1 = cc in omega arith)
 elem-some (x ∷ l) zero v e = omega arith
 elem-some (x ∷ l) (suc i) v e = let h = elem-some l i v e in omega arith
 
-elem-none : {A : Type 0} (l : List A) (i : ℕ) → length l ≤ i → getElem? l i ≡ none
+pub elem-none : {A : Type 0} (l : List A) (i : ℕ) → length l ≤ i → getElem? l i ≡ none
 elem-none [] i h = refl
 elem-none (x ∷ l) zero h = absurd (omega arith)
 elem-none (x ∷ l) (suc i) h = elem-none l i (omega arith)

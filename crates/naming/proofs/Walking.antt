@@ -12,13 +12,13 @@ use Rattle.rules.specs.Reader.{Read, got, bad, many}
 use Rattle.rules.specs.Chunk.{Constant, ObjectFunction}
 use Rattle.rules.specs.ImageFile.{read-constant, read-function}
 use Rattle.rules.specs.Checker.{names, names-in-all, named-once}
-use Rattle.code.proofs.Once.{below-false, below-same, below-more-true, all-begin}
+use Rattle.code.proofs.Once.{either-false, below-false, below-same, below-more-true, all-begin}
 use Rattle.records.specs.declared.Place.{Place}
 use Rattle.records.specs.declared.Place.the-variants.{At, Bad}
 use Rattle.records.specs.declared.Head.the-variants as head
 use Rattle.records.specs.declared.Header.{Header}
 use Rattle.records.specs.Told.{place-told, head-at}
-use Rattle.records.proofs.Many.{Fails, fails-bad, place-bad, place-at, many-none, many-more, passed-none, skip-stops, skip-goes, skip-none, Nth, nth-of}
+use Rattle.records.proofs.Many.{Fails, got-bad, same-got, fails-bad, place-bad, place-at, many-none, many-more, passed-none, skip-stops, skip-goes, skip-none, Nth, nth-of}
 use Rattle.records.proofs.Records.{Constant-is, Headed, headed, head-fails, Body, body-of, at-constants}
 use Rattle.constants.specs.Words.{constant-of}
 use Rattle.constants.specs.Earlier.{functions-in, is-got, earlier}
@@ -27,12 +27,6 @@ use Rattle.constants.proofs.Kinding.{Earlier-are, earlier-are, earlier-number}
 use Rattle.functions.proofs.All.{one-more, earlier-more}
 use Rattle.naming.specs.Noted.{cap, Capped, Noted, names-one, Constants-noted, Function-noted}
 use Rattle.naming.proofs.Counting.{noted-capped, noted-then, noted-none, names-more, all-more, cap-one}
-
-got-bad : {A : Type 0} {r : Read A} {a : A} {n : ℕ} → Fails r → r ≡ got a n → ⊥
-got-bad f e = let z = sym (f .is) ∙ e in let y : _≡_ {A = ℕ} 0 1 = cc in omega arith
-
-same-got : {A : Type 0} {r : Read A} {a b : A} {m n : ℕ} → r ≡ got a m → r ≡ got b n → (a ≡ b) × (m ≡ n)
-same-got e f = let z = sym e ∙ f in (cc, cc)
 
 -- ## Constants
 
@@ -187,10 +181,6 @@ module _ (first : List ℕ) (blank : (i : ℕ) → getD first i 0 ≡ 0) where
       below-same most _ _ (λ i l. let z = blank i in
       let e : getD first i 0 + more (base + i) ≡ more (base + i) = omega arith in
       ap (λ (x : ℕ). eqb x 1) (n .counts i (omega arith) ∙ ap cap e) ∙ cap-one (more (base + i)))
-
-either-false : (b : Bool) → (if b then false else false) ≡ false
-either-false true = refl
-either-false false = refl
 
 module _ (p : ℕ → Bool) where
   -- a block that passes, and one that does not

@@ -17,12 +17,6 @@ use records::Head;
 use records::Place;
 use records::Word;
 
-fn wide64(n: u64) -> usize
-    ensures { λ r. ⌜ r ≡ n ⌝ }
-{
-    n as usize
-}
-
 // One constant.
 fn note(word: u64, base: usize, seen: &mut [u8])
     requires { ⌜ Capped (now seen) ⌝ }
@@ -31,7 +25,7 @@ fn note(word: u64, base: usize, seen: &mut [u8])
     if word % 4 != 3 {
         return;
     }
-    let number = wide64(word / 4);
+    let number = fields::wide64(word / 4);
     if number < base {
         return;
     }
@@ -71,7 +65,7 @@ fn note_function(s: &[u8], at: usize, base: usize, seen: &mut [u8]) -> Place
     let Head::Is(h) = records::head_of(s, at) else {
         return Place::Bad;
     };
-    let Place::At(runs_at) = note_constants(s, at + 17, records::wide16(h.constants), base, seen)
+    let Place::At(runs_at) = note_constants(s, at + 17, fields::wide16(h.constants), base, seen)
     else {
         return Place::Bad;
     };
@@ -162,16 +156,6 @@ fn block_once(s: &[u8], count: usize, base: usize, most: usize) -> bool
     many_once(s, count, base, most)
 }
 
-fn least(a: usize, b: usize) -> usize
-    ensures { λ r. ⌜ (r ≤ a) × (r ≤ b) ⌝ }
-    ensures { λ r. ⌜ (0 < a → 0 < b → 0 < r) ⌝ }
-{
-    if a < b {
-        return a;
-    }
-    b
-}
-
 // Whether each of `count` functions but the last is named by one constant.
 pub fn all_named_once(s: &[u8], count: usize) -> bool
     requires { ⌜ (0 < count) × (is-got (many count (read-function (now s)) 6) ≡ true) ⌝ }
@@ -180,7 +164,7 @@ pub fn all_named_once(s: &[u8], count: usize) -> bool
     let last = count - 1;
     let mut base: usize = 0;
     while base < last {
-        let most = least(65536, last - base);
+        let most = fields::least(65536, last - base);
         if !block_once(s, count, base, most) {
             return false;
         }

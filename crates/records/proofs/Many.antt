@@ -23,6 +23,13 @@ pub record Gives {A : Type 0} (r : Read A) (next : ℕ) : Type 0 where
   pub value : A
   pub is : r ≡ got value next
 
+pub got-bad : {A : Type 0} {r : Read A} {a : A} {n : ℕ} → Fails r → r ≡ got a n → ⊥
+got-bad f e = let z = sym (f .is) ∙ e in let y : _≡_ {A = ℕ} 0 1 = cc in omega arith
+
+-- a reader that gives two things gives one
+pub same-got : {A : Type 0} {r : Read A} {a b : A} {m n : ℕ} → r ≡ got a m → r ≡ got b n → (a ≡ b) × (m ≡ n)
+same-got e f = let z = sym e ∙ f in (cc, cc)
+
 pub place-bad : {A : Type 0} (r : Read A) → Bad ≡ place-told r → Fails r
 unfolding place-told
 place-bad (bad fault) e = record { fault = fault; is = refl }

@@ -9,6 +9,7 @@ ghost use Rattle.rules.specs.Chunk.{same-span};
 ghost use Rattle.rules.specs.Reader.{many};
 ghost use Rattle.rules.specs.ImageFile.{number-mark, string-mark, function-mark, constant-fields, read-constant, read-run, read-function};
 ghost use Rattle.records.specs.Told.{constant-told, place-told, head-at, runs-told, code-told};
+use fields::Mark;
 
 // A constant as one word, and the place after it.
 pub enum Word {
@@ -39,36 +40,6 @@ pub enum Summed {
     Bad,
 }
 
-pub fn wide16(n: u16) -> usize
-    ensures { λ r. ⌜ (r ≡ n) × (r < 65536) ⌝ }
-{
-    n as usize
-}
-
-pub fn wide32(n: u32) -> usize
-    ensures { λ r. ⌜ (r ≡ n) × (r < 4294967296) ⌝ }
-{
-    n as usize
-}
-
-fn long8(n: u8) -> u64
-    ensures { λ r. ⌜ (r ≡ n) × (r < 256) ⌝ }
-{
-    n as u64
-}
-
-fn long16(n: u16) -> u64
-    ensures { λ r. ⌜ (r ≡ n) × (r < 65536) ⌝ }
-{
-    n as u64
-}
-
-fn long32(n: u32) -> u64
-    ensures { λ r. ⌜ (r ≡ n) × (r < 4294967296) ⌝ }
-{
-    n as u64
-}
-
 // Behind a number's mark.
 fn number_at(s: &[u8], at: usize) -> Word
     requires { ⌜ at + 2 < 18446744073709551616 ⌝ }
@@ -92,7 +63,7 @@ fn string_at(s: &[u8], at: usize) -> Word
     if !fields::has(s, at, 4) {
         return Word::Bad;
     }
-    Word::Is(4 * long16(fields::u16_at(s, at + 2)) + 1, at + 4)
+    Word::Is(4 * fields::long16(fields::u16_at(s, at + 2)) + 1, at + 4)
 }
 
 // Behind a function's mark.
@@ -103,7 +74,7 @@ fn function_at(s: &[u8], at: usize) -> Word
     if !fields::has(s, at, 6) {
         return Word::Bad;
     }
-    Word::Is(4 * long32(fields::u32_at(s, at + 2)) + 3, at + 6)
+    Word::Is(4 * fields::long32(fields::u32_at(s, at + 2)) + 3, at + 6)
 }
 
 pub fn constant(s: &[u8], at: usize) -> Word
@@ -113,13 +84,13 @@ pub fn constant(s: &[u8], at: usize) -> Word
         return Word::Bad;
     }
     let mark = fields::mark_at(s, at);
-    if mark == 0x434E {
+    if mark == Mark::NUMBER_CONSTANT {
         return number_at(s, at);
     }
-    if mark == 0x4353 {
+    if mark == Mark::STRING_CONSTANT {
         return string_at(s, at);
     }
-    if mark == 0x4346 {
+    if mark == Mark::FUNCTION_CONSTANT {
         return function_at(s, at);
     }
     Word::Bad
@@ -147,7 +118,7 @@ pub fn head_of(s: &[u8], at: usize) -> Head
     if !fields::has(s, at, 17) {
         return Head::Bad;
     }
-    if fields::mark_at(s, at) != 0x464E {
+    if fields::mark_at(s, at) != Mark::FUNCTION {
         return Head::Bad;
     }
     let upvalues = fields::u16_at(s, at + 5);
@@ -190,12 +161,12 @@ pub fn runs(s: &[u8], begin: usize, n: usize) -> Summed
         if !fields::has(s, at, 11) {
             return Summed::Bad;
         }
-        if fields::mark_at(s, at) != 0x5255 {
+        if fields::mark_at(s, at) != Mark::RUN {
             return Summed::Bad;
         }
         let a = fields::u32_at(s, at + 2);
         let e = fields::u32_at(s, at + 6);
-        let c = long8(fields::u8_at(s, at + 10));
+        let c = fields::long8(fields::u8_at(s, at + 10));
         if c == 0 {
             return Summed::Bad;
         }
@@ -222,7 +193,7 @@ pub fn skip_runs(s: &[u8], begin: usize, n: usize) -> Place
         if !fields::has(s, at, 11) {
             return Place::Bad;
         }
-        if fields::mark_at(s, at) != 0x5255 {
+        if fields::mark_at(s, at) != Mark::RUN {
             return Place::Bad;
         }
         at += 11;
@@ -238,7 +209,7 @@ pub fn code_at(s: &[u8], at: usize, n: usize) -> Place
     if !fields::has(s, at, 2) {
         return Place::Bad;
     }
-    if fields::mark_at(s, at) != 0x4344 {
+    if fields::mark_at(s, at) != Mark::CODE {
         return Place::Bad;
     }
     if !fields::has(s, at + 2, n) {
@@ -254,13 +225,13 @@ pub fn skip_function(s: &[u8], at: usize) -> Place
     let Head::Is(h) = head_of(s, at) else {
         return Place::Bad;
     };
-    let Place::At(runs_at) = skip_constants(s, at + 17, wide16(h.constants)) else {
+    let Place::At(runs_at) = skip_constants(s, at + 17, fields::wide16(h.constants)) else {
         return Place::Bad;
     };
-    let Place::At(mark_at) = skip_runs(s, runs_at, wide32(h.runs)) else {
+    let Place::At(mark_at) = skip_runs(s, runs_at, fields::wide32(h.runs)) else {
         return Place::Bad;
     };
-    let size = wide32(h.code);
+    let size = fields::wide32(h.code);
     let Place::At(first) = code_at(s, mark_at, size) else {
         return Place::Bad;
     };

@@ -48,7 +48,7 @@ loop-again : tie.Need-loop-again Inv-loop μ-loop
 loop-again c = (omega arith, c .before .before .before .before .before .before .loop .inv .1 ∙ pair-local (c .before .before .before .before .before .before .before .before .args .code .now) (c .before .before .before .before .before .before .before .before .args .at) (c .before .before .before .before .before .before .before .before .args .n) (c .before .before .before .before .before .before .before .before .args .upvalues) (c .before .before .before .before .before .before .loop .i) (omega arith) (c .before .before .before .before .before .before .before .before .pre) (c .if2 .taken))
 
 returns-2 : tie.Need-returns-2 Inv-loop μ-loop
-returns-2 c = sym (c .before .before .before .before .before .before .before .loop .inv .1 ∙ pair-past (c .before .before .before .before .before .before .before .before .before .args .code .now) (c .before .before .before .before .before .before .before .before .before .args .at) (c .before .before .before .before .before .before .before .before .before .args .n) (c .before .before .before .before .before .before .before .before .before .args .upvalues) (c .before .before .before .before .before .before .before .loop .i) (omega arith) (c .before .before .before .before .before .before .before .before .before .pre) (omega arith) (omega (arith, c .before .before .before .wide .ensures, c .if3 .taken)))
+returns-2 c = sym (c .before .before .before .before .before .before .before .loop .inv .1 ∙ pair-past (c .before .before .before .before .before .before .before .before .before .args .code .now) (c .before .before .before .before .before .before .before .before .before .args .at) (c .before .before .before .before .before .before .before .before .before .args .n) (c .before .before .before .before .before .before .before .before .before .args .upvalues) (c .before .before .before .before .before .before .before .loop .i) (omega arith) (c .before .before .before .before .before .before .before .before .before .pre) (omega arith) (omega (arith, c .before .before .before .wide .ensures .0, c .if3 .taken)))
 
 add-i-2 : tie.Need-add-i-2 Inv-loop μ-loop
 add-i-2 c = omega arith
@@ -57,7 +57,7 @@ loop-less-2 : tie.Need-loop-less-2 Inv-loop μ-loop
 loop-less-2 c = omega arith
 
 loop-again-2 : tie.Need-loop-again-2 Inv-loop μ-loop
-loop-again-2 c = (omega arith, c .before .before .before .before .before .before .before .loop .inv .1 ∙ pair-outer (c .before .before .before .before .before .before .before .before .before .args .code .now) (c .before .before .before .before .before .before .before .before .before .args .at) (c .before .before .before .before .before .before .before .before .before .args .n) (c .before .before .before .before .before .before .before .before .before .args .upvalues) (c .before .before .before .before .before .before .before .loop .i) (omega arith) (c .before .before .before .before .before .before .before .before .before .pre) (omega arith) (omega (arith, c .before .before .before .wide .ensures, c .if3 .left)))
+loop-again-2 c = (omega arith, c .before .before .before .before .before .before .before .loop .inv .1 ∙ pair-outer (c .before .before .before .before .before .before .before .before .before .args .code .now) (c .before .before .before .before .before .before .before .before .before .args .at) (c .before .before .before .before .before .before .before .before .before .args .n) (c .before .before .before .before .before .before .before .before .before .args .upvalues) (c .before .before .before .before .before .before .before .loop .i) (omega arith) (c .before .before .before .before .before .before .before .before .before .pre) (omega arith) (omega (arith, c .before .before .before .wide .ensures .0, c .if3 .left)))
 
 returns-3 : tie.Need-returns-3 Inv-loop μ-loop
 returns-3 c = sym (c .before .loop .inv .1 ∙ pairs-done (c .before .before .before .args .code .now) (c .before .before .before .args .at) (c .before .before .before .args .n) (c .before .before .before .args .upvalues) (c .before .loop .i) (omega arith))

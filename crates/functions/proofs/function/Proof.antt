@@ -9,7 +9,8 @@ use Rattle.rules.specs.Reader.{many}
 use Rattle.rules.specs.ImageFile.{read-constant}
 use Rattle.constants.specs.Earlier.{earlier}
 use Rattle.constants.proofs.Kinding.{earlier-number}
-use Rattle.functions.proofs.One.{headless, header-within, zeros, constants-bad, constants-are, runs-bad, runs-are, function-judged}
+use Rattle.functions.proofs.One.{headless, header-within, constants-bad, constants-are, runs-bad, runs-are, function-judged}
+use Rattle.code.proofs.Closing.{zeros}
 use borrow.Author.Needs.{needs}
 use Rattle.functions.proofs.function.Statement.{statement}
 use Rattle.functions.proofs.function.Tie as tie

@@ -45,7 +45,7 @@ add-base : tie.Need-add-base Inv-loop μ-loop
 add-base c = omega (arith, c .before .before .least .ensures .0 .1, c .before .before .before .before .loop .inv .1 .0, c .before .before .before .loop-test .taken, c .before .before .before .before .before .before .fits)
 
 loop-less : tie.Need-loop-less Inv-loop μ-loop
-loop-less c = let p = c .before .before .least .ensures .1 (omega arith) (omega (arith, c .before .before .before .loop-test .taken)) in omega (arith, p, c .before .before .least .ensures .0 .1, c .before .before .before .loop-test .taken)
+loop-less c = let p = c .before .before .least .ensures .1 0 (omega arith) (omega (arith, c .before .before .before .loop-test .taken)) in omega (arith, p, c .before .before .least .ensures .0 .1, c .before .before .before .loop-test .taken)
 
 loop-again : tie.Need-loop-again Inv-loop μ-loop
 loop-again c = (refl, (omega (arith, c .before .before .least .ensures .0 .1, c .before .before .before .loop-test .taken), blocks-on (λ (number : ℕ). eqb (names-in-all number (earlier (c .before .before .before .before .before .before .args .s .now) (c .before .before .before .before .before .before .args .count))) 1) (c .before .before .before .before .loop .base) (c .before .before .least .result) (c .before .before .before .before .loop .inv .1 .1) (sym (sym (not-false (c .before .block-once .result) (c .if1 .left)) ∙ c .before .block-once .ensures))))

@@ -3,7 +3,8 @@ use Prim.Native.Nat.{ℕ, _+_, _<_, _≤_}
 use native.Mathlib.Omega.{arith}
 use mathlib.Core.Path.{_≡_, sym, _∙_}
 use lib.ListN.{length}
-use Rattle.functions.proofs.One.{zeros, blank-size}
+use Rattle.code.proofs.Closing.{zeros}
+use Rattle.functions.proofs.One.{blank-size}
 use Rattle.naming.proofs.few_once.Statement.{statement}
 use Rattle.naming.proofs.few_once.Tie as tie
 
