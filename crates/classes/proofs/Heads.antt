@@ -18,9 +18,10 @@ use Rattle.fields.specs.Words.{word8, word16, letters, span-of}
 use Rattle.state.specs.Layout.{type-of}
 use Rattle.parsed.proofs.Statements.{flag-on, flag-off, flag-is, maybe-yes, maybe-no, class-at, superclass-at}
 use Rattle.classes.specs.Classes.{inner, ClassHead, superclass-of, InnerClass}
+use Rattle.fields.specs.Marks as marks
 
 -- where a class was read its head stands
-pub head-at : (tree : List ℕ) (d funs at : ℕ) {s : Stmt} {n : ℕ} → letters tree at ≡ 0x5343 → read-stmt tree (word16 tree 2) d funs at ≡ got s n → ClassHead tree at
+pub head-at : (tree : List ℕ) (d funs at : ℕ) {s : Stmt} {n : ℕ} → letters tree at ≡ marks.SC → read-stmt tree (word16 tree 2) d funs at ≡ got s n → ClassHead tree at
 head-at tree d funs at m r =
     let i = class-at tree (word16 tree 2) d funs at m r in
     record { bound = i .bound; depth = d - 1; has = i .has; look = i .look; super = i .super; mid = i .mid; one = i .one }

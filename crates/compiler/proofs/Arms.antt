@@ -31,6 +31,7 @@ use Rattle.compiler.specs.Exprs.{call-close, CallOpened, CallParts, Call
 use Rattle.compiler.proofs.Monad.{like, on-to}
 use Rattle.compiler.proofs.Operators.{infix-cut}
 use Rattle.compiler.proofs.Calls.{call-cut, first-on, parts-read, Walk, walk-stop, walk-done}
+use Rattle.fields.specs.Marks as marks
 
 -- a number's word is the number
 number-word : (n : ℕ) → n ≤ max-bits → constantOf n ≡ CN n
@@ -50,7 +51,7 @@ module _ {class limit l : ℕ} {before : Mem} where
 
   -- ## Literals
 
-  module _ (tree : List ℕ) (d at : ℕ) (sp : Span) (m : letters tree at ≡ 0x454C) (s : sp ≡ span-of tree (at + 2)) {now : Mem} {r : Step} where
+  module _ (tree : List ℕ) (d at : ℕ) (sp : Span) (m : letters tree at ≡ marks.EL) (s : sp ≡ span-of tree (at + 2)) {now : Mem} {r : Step} where
     literal-by : (lit : ExprLiteral) (k : ℕ) → ((e : Expr) (n : ℕ) → LiteralAt tree (word16 tree 2) at e n → (e ≡ Literal (span-of tree (at + 2)) lit) × (n ≡ k))
         → Did class limit l k steady (compile-literal limit lit sp) before now r → Ran class limit l (expr-at tree d at) before now r
     unfolding compile-expr
@@ -90,7 +91,7 @@ module _ {class limit l : ℕ} {before : Mem} where
   -- ## Names
 
   module _ (tree : List ℕ) (d at : ℕ) (sp : Span) (s : sp ≡ span-of tree (at + 2)) (name : ℕ) (p : name ≡ word16 tree (at + 10)) where
-    pub var-done : {now : Mem} {r : Step} → letters tree at ≡ 0x4556 → Did class limit l (at + 12) steady (get-variable limit name sp) before now r → Ran class limit l (expr-at tree d at) before now r
+    pub var-done : {now : Mem} {r : Step} → letters tree at ≡ marks.EV → Did class limit l (at + 12) steady (get-variable limit name sp) before now r → Ran class limit l (expr-at tree d at) before now r
     unfolding compile-expr
     var-done m x = record {
       did = λ e n z.
@@ -98,7 +99,7 @@ module _ {class limit l : ℕ} {before : Mem} where
           on-to (sym (i .end)) (by (i .is ∙ ap₂ ExprVar (sym s) (sym p)) x);
     }
 
-    pub super-done : {now : Mem} {r : Step} → letters tree at ≡ 0x4555 → Did class limit l (at + 12) steady (compile-super limit name sp) before now r
+    pub super-done : {now : Mem} {r : Step} → letters tree at ≡ marks.EU → Did class limit l (at + 12) steady (compile-super limit name sp) before now r
         → Ran class limit l (expr-at tree d at) before now r
     unfolding compile-expr
     super-done m x = record {
@@ -109,7 +110,7 @@ module _ {class limit l : ℕ} {before : Mem} where
 
     -- ## A name and an expression
 
-    pub assign-done : {mid now : Mem} {r r′ : Step} {v : ℕ} → letters tree at ≡ 0x4541 → Ran class limit l (expr-at tree (d - 1) (at + 12)) before mid r → r ≡ Next v
+    pub assign-done : {mid now : Mem} {r r′ : Step} {v : ℕ} → letters tree at ≡ marks.EA → Ran class limit l (expr-at tree (d - 1) (at + 12)) before mid r → r ≡ Next v
         → Did class limit l v steady (set-variable limit name sp) mid now r′ → Ran class limit l (expr-at tree d at) before now r′
     unfolding compile-expr
     assign-done m a q b = record {
@@ -119,7 +120,7 @@ module _ {class limit l : ℕ} {before : Mem} where
           by (i .is ∙ ap₂ (λ w k. ExprAssign w k (i .value)) (sym s) (sym p)) (then-on _ c q (on-to (valued c q) b));
     }
 
-    pub get-done : {mid now : Mem} {r r′ : Step} {v : ℕ} → letters tree at ≡ 0x4547 → Ran class limit l (expr-at tree (d - 1) (at + 12)) before mid r → r ≡ Next v
+    pub get-done : {mid now : Mem} {r r′ : Step} {v : ℕ} → letters tree at ≡ marks.EG → Ran class limit l (expr-at tree (d - 1) (at + 12)) before mid r → r ≡ Next v
         → Did class limit l v steady (emit-op-constant limit op.GET-PROPERTY (CS name) sp) mid now r′ → Ran class limit l (expr-at tree d at) before now r′
     unfolding compile-expr
     get-done m a q b = record {
@@ -129,7 +130,7 @@ module _ {class limit l : ℕ} {before : Mem} where
           by (i .is ∙ ap₂ (λ w k. ExprGet w k (i .object)) (sym s) (sym p)) (then-on _ c q (on-to (valued c q) b));
     }
 
-    pub set-done : {mid late now : Mem} {r r′ r″ : Step} {v v′ : ℕ} → letters tree at ≡ 0x4553 → Ran class limit l (expr-at tree (d - 1) (at + 12)) before mid r → r ≡ Next v
+    pub set-done : {mid late now : Mem} {r r′ r″ : Step} {v v′ : ℕ} → letters tree at ≡ marks.ES → Ran class limit l (expr-at tree (d - 1) (at + 12)) before mid r → r ≡ Next v
         → Ran class limit l (expr-at tree (d - 1) v) mid late r′ → r′ ≡ Next v′ → Did class limit l v′ steady (emit-op-constant limit op.SET-PROPERTY (CS name) sp) late now r″
         → Ran class limit l (expr-at tree d at) before now r″
     unfolding compile-expr
@@ -143,28 +144,28 @@ module _ {class limit l : ℕ} {before : Mem} where
 
   module _ (tree : List ℕ) (d at : ℕ) where
     -- the first child stopped
-    pub assign-stop : {now : Mem} {r : Step} {x : Refusal} → letters tree at ≡ 0x4541 → Ran class limit l (expr-at tree (d - 1) (at + 12)) before now r → r ≡ Stop x
+    pub assign-stop : {now : Mem} {r : Step} {x : Refusal} → letters tree at ≡ marks.EA → Ran class limit l (expr-at tree (d - 1) (at + 12)) before now r → r ≡ Stop x
         → Ran class limit l (expr-at tree d at) before now r
     unfolding compile-expr
     assign-stop m a q = record { did = λ e n z. let i = assign-at tree (word16 tree 2) d at m z in by (i .is) (halt _ (a .did (i .value) n (i .one)) q) }
 
-    pub get-stop : {now : Mem} {r : Step} {x : Refusal} → letters tree at ≡ 0x4547 → Ran class limit l (expr-at tree (d - 1) (at + 12)) before now r → r ≡ Stop x
+    pub get-stop : {now : Mem} {r : Step} {x : Refusal} → letters tree at ≡ marks.EG → Ran class limit l (expr-at tree (d - 1) (at + 12)) before now r → r ≡ Stop x
         → Ran class limit l (expr-at tree d at) before now r
     unfolding compile-expr
     get-stop m a q = record { did = λ e n z. let i = get-at tree (word16 tree 2) d at m z in by (i .is) (halt _ (a .did (i .object) n (i .one)) q) }
 
-    pub set-stop : {now : Mem} {r : Step} {x : Refusal} → letters tree at ≡ 0x4553 → Ran class limit l (expr-at tree (d - 1) (at + 12)) before now r → r ≡ Stop x
+    pub set-stop : {now : Mem} {r : Step} {x : Refusal} → letters tree at ≡ marks.ES → Ran class limit l (expr-at tree (d - 1) (at + 12)) before now r → r ≡ Stop x
         → Ran class limit l (expr-at tree d at) before now r
     unfolding compile-expr
     set-stop m a q = record { did = λ e n z. let i = set-at tree (word16 tree 2) d at m z in by (i .is) (halt _ (a .did (i .value) (i .mid) (i .one)) q) }
 
-    pub set-second : {mid : Mem} {r : Step} {v n : ℕ} {e : Expr} → letters tree at ≡ 0x4553 → expr-at tree d at ≡ got e n → Ran class limit l (expr-at tree (d - 1) (at + 12)) before mid r
+    pub set-second : {mid : Mem} {r : Step} {v n : ℕ} {e : Expr} → letters tree at ≡ marks.ES → expr-at tree d at ≡ got e n → Ran class limit l (expr-at tree (d - 1) (at + 12)) before mid r
         → r ≡ Next v → There (expr-at tree (d - 1) v)
     set-second m z a q =
         let i = set-at tree (word16 tree 2) d at m z in
         record { thing = i .object; next = _; is = ap (expr-at tree (d - 1)) (valued (a .did (i .value) (i .mid) (i .one)) q) ∙ i .two }
 
-    pub set-stop-2 : {mid now : Mem} {r r′ : Step} {v : ℕ} {x : Refusal} → letters tree at ≡ 0x4553 → Ran class limit l (expr-at tree (d - 1) (at + 12)) before mid r → r ≡ Next v
+    pub set-stop-2 : {mid now : Mem} {r r′ : Step} {v : ℕ} {x : Refusal} → letters tree at ≡ marks.ES → Ran class limit l (expr-at tree (d - 1) (at + 12)) before mid r → r ≡ Next v
         → Ran class limit l (expr-at tree (d - 1) v) mid now r′ → r′ ≡ Stop x → Ran class limit l (expr-at tree d at) before now r′
     unfolding compile-expr
     set-stop-2 m a q b q′ = record {
@@ -177,13 +178,13 @@ module _ {class limit l : ℕ} {before : Mem} where
 
     -- ## Operators
 
-    pub prefix-stop : {now : Mem} {r : Step} {x : Refusal} → letters tree at ≡ 0x4550 → Ran class limit l (expr-at tree (d - 1) (at + 11)) before now r → r ≡ Stop x
+    pub prefix-stop : {now : Mem} {r : Step} {x : Refusal} → letters tree at ≡ marks.EP → Ran class limit l (expr-at tree (d - 1) (at + 11)) before now r → r ≡ Stop x
         → Ran class limit l (expr-at tree d at) before now r
     unfolding compile-expr
     prefix-stop m a q = record { did = λ e n z. let i = prefix-at tree (word16 tree 2) d at m z in by (i .is) (halt _ (a .did (i .rt) n (i .one)) q) }
 
     pub prefix-done : {mid now : Mem} {r r′ : Step} {v : ℕ} (byte operator : ℕ) (sp : Span) → sp ≡ span-of tree (at + 2) → operator ≡ word8 tree (at + 10) → PrefixOp operator byte
-        → letters tree at ≡ 0x4550
+        → letters tree at ≡ marks.EP
         → Ran class limit l (expr-at tree (d - 1) (at + 11)) before mid r → r ≡ Next v → Did class limit l v steady (emit-op limit byte sp) mid now r′
         → Ran class limit l (expr-at tree d at) before now r′
     unfolding compile-expr
@@ -196,12 +197,12 @@ module _ {class limit l : ℕ} {before : Mem} where
           (then-on _ c q (on-to (valued c q) (subst (λ (k : ℕ). Did class limit l v steady (emit-op limit k sp) mid now r′) y b)));
     }
 
-    pub infix-stop : {now : Mem} {r : Step} {x : Refusal} → letters tree at ≡ 0x4549 → Ran class limit l (expr-at tree (d - 1) (at + 11)) before now r → r ≡ Stop x
+    pub infix-stop : {now : Mem} {r : Step} {x : Refusal} → letters tree at ≡ marks.EI → Ran class limit l (expr-at tree (d - 1) (at + 11)) before now r → r ≡ Stop x
         → Ran class limit l (expr-at tree d at) before now r
     unfolding compile-expr
     infix-stop m a q = record { did = λ e n z. let i = infix-at tree (word16 tree 2) d at m z in by (i .is) (halt _ (a .did (i .lt) (i .mid) (i .one)) q) }
 
-    pub infix-second : {mid : Mem} {r : Step} {v n : ℕ} {e : Expr} → letters tree at ≡ 0x4549 → expr-at tree d at ≡ got e n → Ran class limit l (expr-at tree (d - 1) (at + 11)) before mid r
+    pub infix-second : {mid : Mem} {r : Step} {v n : ℕ} {e : Expr} → letters tree at ≡ marks.EI → expr-at tree d at ≡ got e n → Ran class limit l (expr-at tree (d - 1) (at + 11)) before mid r
         → r ≡ Next v → There (expr-at tree (d - 1) v)
     infix-second m z a q =
         let i = infix-at tree (word16 tree 2) d at m z in
@@ -214,7 +215,7 @@ module _ {class limit l : ℕ} {before : Mem} where
   begun-refused : {n : ℕ} {m : Compile ℕ} {now : Mem} {r : Step} {x : Refusal} → BegunBy class limit l n m before now r → r ≡ Stop x → Refused class l m before x
   begun-refused {n} {m} {now} d q = subst (λ (s : Step). BegunAs class limit l n m before now s) q (d .does)
 
-module _ {class limit l : ℕ} {before mid : Mem} (tree : List ℕ) (d at operator : ℕ) (sp : Span) (s : sp ≡ span-of tree (at + 2)) (w : operator ≡ word8 tree (at + 10)) (m : letters tree at ≡ 0x4549)
+module _ {class limit l : ℕ} {before mid : Mem} (tree : List ℕ) (d at operator : ℕ) (sp : Span) (s : sp ≡ span-of tree (at + 2)) (w : operator ≡ word8 tree (at + 10)) (m : letters tree at ≡ marks.EI)
     {r : Step} {v : ℕ} (a : Ran class limit l (expr-at tree (d - 1) (at + 11)) before mid r) (q : r ≡ Next v) where
   -- what is left after the left side
   infix-by : {now : Mem} {r′ : Step} → ((o : OpInfix) (rt : Expr) (n : ℕ) → lookup operator infix-ops ≡ some o → expr-at tree (d - 1) v ≡ got rt n
@@ -241,7 +242,7 @@ module _ {class limit l : ℕ} {before mid : Mem} (tree : List ℕ) (d at operat
   infix-done b q′ f q″ g = infix-by (λ o rt n h z. let c = f .did rt n z in did-bind (begun-gave (b .did o h) q′ .0) _ (then-on _ c q″ (on-to (valued c q″) (g .did o h))))
 
 -- what the steps after the left side need
-pub begun-fit : {class limit l operator place : ℕ} (tree : List ℕ) (d at : ℕ) {sp : Span} {e : Expr} {n : ℕ} {before now : Mem} {r : Step} → operator ≡ word8 tree (at + 10) → letters tree at ≡ 0x4549
+pub begun-fit : {class limit l operator place : ℕ} (tree : List ℕ) (d at : ℕ) {sp : Span} {e : Expr} {n : ℕ} {before now : Mem} {r : Step} → operator ≡ word8 tree (at + 10) → letters tree at ≡ marks.EI
     → expr-at tree d at ≡ got e n
     → Begun class limit l operator sp before now r → r ≡ Next place → Fit now l limit × (10 ≤ operator → place + 2 ≤ code-len now l)
 begun-fit tree d at w m z b q =
@@ -251,10 +252,10 @@ begun-fit tree d at w m z b q =
 
 -- ## Calls
 
-pub callee-there : (tree : List ℕ) (d at : ℕ) → letters tree at ≡ 0x4543 → {e : Expr} {n : ℕ} → expr-at tree d at ≡ got e n → There (expr-at tree (d - 1) (at + 12))
+pub callee-there : (tree : List ℕ) (d at : ℕ) → letters tree at ≡ marks.EC → {e : Expr} {n : ℕ} → expr-at tree d at ≡ got e n → There (expr-at tree (d - 1) (at + 12))
 callee-there tree d at m z = let i = call-at tree (word16 tree 2) d at m z in record { thing = i .callee; next = i .mid; is = i .one }
 
-module _ {class limit l : ℕ} {before : Mem} (tree : List ℕ) (d at : ℕ) (sp : Span) (s : sp ≡ span-of tree (at + 2)) (m : letters tree at ≡ 0x4543) where
+module _ {class limit l : ℕ} {before : Mem} (tree : List ℕ) (d at : ℕ) (sp : Span) (s : sp ≡ span-of tree (at + 2)) (m : letters tree at ≡ marks.EC) where
   call-by : {now : Mem} {r : Step} → ((callee : Expr) (args : Exprs) (mid n : ℕ) → expr-at tree (d - 1) (at + 12) ≡ got callee mid
       → read-exprs (part-count (callee-of callee) (word16 tree (at + 10))) (expr-at tree (d - 1)) (first-part (callee-of callee) at) ≡ got (parts (callee-of callee) callee args) n
       → Did class limit l n steady
@@ -333,31 +334,31 @@ module _ (tree : List ℕ) (d at : ℕ) {e : Expr} {n : ℕ} (z : expr-at tree d
   twelve-on : at < at + 12
   twelve-on = omega arith
 
-  pub prefix-child : letters tree at ≡ 0x4550 → Child tree t (at + 11)
+  pub prefix-child : letters tree at ≡ marks.EP → Child tree t (at + 11)
   prefix-child m = let i = prefix-at tree (word16 tree 2) d at m z in child eleven-on (record { thing = i .rt; next = n; is = i .one })
 
-  pub infix-left : letters tree at ≡ 0x4549 → Child tree t (at + 11)
+  pub infix-left : letters tree at ≡ marks.EI → Child tree t (at + 11)
   infix-left m = let i = infix-at tree (word16 tree 2) d at m z in child eleven-on (record { thing = i .lt; next = i .mid; is = i .one })
 
-  pub assign-child : letters tree at ≡ 0x4541 → Child tree t (at + 12)
+  pub assign-child : letters tree at ≡ marks.EA → Child tree t (at + 12)
   assign-child m = let i = assign-at tree (word16 tree 2) d at m z in child twelve-on (record { thing = i .value; next = n; is = i .one })
 
-  pub get-child : letters tree at ≡ 0x4547 → Child tree t (at + 12)
+  pub get-child : letters tree at ≡ marks.EG → Child tree t (at + 12)
   get-child m = let i = get-at tree (word16 tree 2) d at m z in child twelve-on (record { thing = i .object; next = n; is = i .one })
 
-  pub set-value : letters tree at ≡ 0x4553 → Child tree t (at + 12)
+  pub set-value : letters tree at ≡ marks.ES → Child tree t (at + 12)
   set-value m = let i = set-at tree (word16 tree 2) d at m z in child twelve-on (record { thing = i .value; next = i .mid; is = i .one })
 
   module _ {class limit l : ℕ} {before mid : Mem} {r : Step} {v : ℕ} where
     -- a second child stands where the first ended
-    pub infix-right : letters tree at ≡ 0x4549 → Ran class limit l (expr-at tree (d - 1) (at + 11)) before mid r → r ≡ Next v → Child tree t v
+    pub infix-right : letters tree at ≡ marks.EI → Ran class limit l (expr-at tree (d - 1) (at + 11)) before mid r → r ≡ Next v → Child tree t v
     infix-right m a w =
         let i = infix-at tree (word16 tree 2) d at m z in
         let p = valued (a .did (i .lt) (i .mid) (i .one)) w in
         let g = later-expr tree (word16 tree 2) (d - 1) (at + 11) (i .one) in
         child (omega (arith, p, g)) (infix-second tree d at m z a w)
 
-    pub set-object : letters tree at ≡ 0x4553 → Ran class limit l (expr-at tree (d - 1) (at + 12)) before mid r → r ≡ Next v → Child tree t v
+    pub set-object : letters tree at ≡ marks.ES → Ran class limit l (expr-at tree (d - 1) (at + 12)) before mid r → r ≡ Next v → Child tree t v
     set-object m a w =
         let i = set-at tree (word16 tree 2) d at m z in
         let p = valued (a .did (i .value) (i .mid) (i .one)) w in
@@ -387,7 +388,7 @@ of-both f a b = f a b
 
 -- none of the other eight
 pub last-kind : (tree : List ℕ) (d at mark : ℕ) {e : Expr} {n : ℕ} → mark ≡ letters tree at → expr-at tree d at ≡ got e n
-    → (mark ≡ 0x454C → ⊥) → (mark ≡ 0x4556 → ⊥) → (mark ≡ 0x4549 → ⊥) → (mark ≡ 0x4550 → ⊥) → (mark ≡ 0x4543 → ⊥) → (mark ≡ 0x4555 → ⊥) → (mark ≡ 0x4541 → ⊥) → (mark ≡ 0x4547 → ⊥)
-    → letters tree at ≡ 0x4553
+    → (mark ≡ marks.EL → ⊥) → (mark ≡ marks.EV → ⊥) → (mark ≡ marks.EI → ⊥) → (mark ≡ marks.EP → ⊥) → (mark ≡ marks.EC → ⊥) → (mark ≡ marks.EU → ⊥) → (mark ≡ marks.EA → ⊥) → (mark ≡ marks.EG → ⊥)
+    → letters tree at ≡ marks.ES
 last-kind tree d at mark q z l v i p c u a g =
     last-mark tree (word16 tree 2) d at z (λ h. l (q ∙ h)) (λ h. v (q ∙ h)) (λ h. i (q ∙ h)) (λ h. p (q ∙ h)) (λ h. c (q ∙ h)) (λ h. u (q ∙ h)) (λ h. a (q ∙ h)) (λ h. g (q ∙ h))

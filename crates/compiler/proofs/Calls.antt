@@ -30,6 +30,7 @@ use Rattle.steps.specs.declared.Step.the-variants.{Next, Stop}
 use Rattle.compiler.specs.Exprs.{There, expr-at, Ran, Callee, on-object, on-super, on-value, callee-of, parts, first-part, part-count, open-callee, call-open, call-close, CallOpened, CallParts}
 use Rattle.compiler.specs.Exprs.{CallClosed}
 use Rattle.compiler.proofs.Monad.{regroup, nothing, stays}
+use Rattle.fields.specs.Marks as marks
 
 -- ## The parts make the whole
 
@@ -61,15 +62,15 @@ call-cut limit span (ExprVar a b) args s = cut-first (need (leb (count-exprs arg
 -- ## Which callee the bytes have
 
 module _ (tree : List ℕ) (names d at : ℕ) {e : Expr} {n : ℕ} (r : read-expr tree names d at ≡ got e n) where
-  pub object-of : (m : letters tree at ≡ 0x4547) → callee-of e ≡ on-object (word16 tree (at + 10)) (get-at tree names d at m r .object)
+  pub object-of : (m : letters tree at ≡ marks.EG) → callee-of e ≡ on-object (word16 tree (at + 10)) (get-at tree names d at m r .object)
   unfolding callee-of
   object-of m = ap callee-of (get-at tree names d at m r .is)
 
-  pub super-of : letters tree at ≡ 0x4555 → callee-of e ≡ on-super (word16 tree (at + 10))
+  pub super-of : letters tree at ≡ marks.EU → callee-of e ≡ on-super (word16 tree (at + 10))
   unfolding callee-of
   super-of m = ap callee-of (super-at tree names d at m r .is)
 
-  pub value-of : (letters tree at ≡ 0x4547 → ⊥) → (letters tree at ≡ 0x4555 → ⊥) → callee-of e ≡ on-value
+  pub value-of : (letters tree at ≡ marks.EG → ⊥) → (letters tree at ≡ marks.EU → ⊥) → callee-of e ≡ on-value
   unfolding callee-of expr-marks
   value-of g u =
       ⊎-elim (λ m. ap callee-of (assign-at tree names d at m r .is)) (λ h.
@@ -110,17 +111,17 @@ module _ (tree : List ℕ) (names d at : ℕ) {callee : Expr} {args : Exprs} {mi
       → read-exprs (part-count (callee-of callee) (word16 tree (at + 10))) (read-expr tree names d) (first-part (callee-of callee) at) ≡ got (parts (callee-of callee) callee args) n
   parts-as q h = subst (λ (k : Callee). read-exprs (part-count k (word16 tree (at + 10))) (read-expr tree names d) (first-part k at) ≡ got (parts k callee args) n) (sym q) h
 
-  object-parts : (m : letters tree (at + 12) ≡ 0x4547)
+  object-parts : (m : letters tree (at + 12) ≡ marks.EG)
       → read-exprs (suc (word16 tree (at + 10))) (read-expr tree names d) (at + 24) ≡ got (get-at tree names d (at + 12) m one .object ∷ᵉ args) n
   object-parts m =
       let i = get-at tree names d (at + 12) m one in
       row-read (read-expr tree names d) (word16 tree (at + 10))
       (deeper tree names d (at + 24) (any-at tree names d (at + 12) one .room) (ap (read-expr tree names (d - 1)) (sym (twenty-four at)) ∙ i .one)) many
 
-  super-parts : letters tree (at + 12) ≡ 0x4555 → read-exprs (word16 tree (at + 10)) (read-expr tree names d) (at + 24) ≡ got args n
+  super-parts : letters tree (at + 12) ≡ marks.EU → read-exprs (word16 tree (at + 10)) (read-expr tree names d) (at + 24) ≡ got args n
   super-parts m = ap (read-exprs (word16 tree (at + 10)) (read-expr tree names d)) (sym (twenty-four at) ∙ sym (super-at tree names d (at + 12) m one .end)) ∙ many
 
-  by-mark : (g u : Bool) → eqb (letters tree (at + 12)) 0x4547 ≡ g → eqb (letters tree (at + 12)) 0x4555 ≡ u
+  by-mark : (g u : Bool) → eqb (letters tree (at + 12)) marks.EG ≡ g → eqb (letters tree (at + 12)) marks.EU ≡ u
       → read-exprs (part-count (callee-of callee) (word16 tree (at + 10))) (read-expr tree names d) (first-part (callee-of callee) at) ≡ got (parts (callee-of callee) callee args) n
   unfolding part-count first-part parts
   by-mark true u p q = parts-as (object-of tree names d (at + 12) one (eqb-true _ _ p)) (object-parts (eqb-true _ _ p))
@@ -161,34 +162,34 @@ module _ {class limit l : ℕ} (tree : List ℕ) (at : ℕ) (span : Span) {befor
     few = λ v q. h;
   }
 
-  pub super-stop : {now : Mem} {r : Step} {x : Refusal} {v : ℕ} → word16 tree (at + 10) ≤ 255 → letters tree (at + 12) ≡ 0x4555
+  pub super-stop : {now : Mem} {r : Step} {x : Refusal} {v : ℕ} → word16 tree (at + 10) ≤ 255 → letters tree (at + 12) ≡ marks.EU
       → Did class limit l v steady (need-super span) before now r → r ≡ Stop x → CallOpened class limit l tree at span before now r
   unfolding open-callee
   super-stop h m d q = few-open h (λ k e n r. as-open at span (super-of tree _ k (at + 12) r m) (halt _ d q))
 
-  pub super-open : {mid now : Mem} {r r′ : Step} {v k : ℕ} → word16 tree (at + 10) ≤ 255 → letters tree (at + 12) ≡ 0x4555
+  pub super-open : {mid now : Mem} {r r′ : Step} {v k : ℕ} → word16 tree (at + 10) ≤ 255 → letters tree (at + 12) ≡ marks.EU
       → Did class limit l k steady (need-super span) before mid r → r ≡ Next v → Did class limit l (at + 24) steady (get-variable limit this span) mid now r′
       → CallOpened class limit l tree at span before now r′
   unfolding open-callee first-part
   super-open h m d q d′ = few-open h (λ k e n r. as-open at span (super-of tree _ k (at + 12) r m) (then-on _ d q d′))
 
-  pub object-open : Fit before l limit → word16 tree (at + 10) ≤ 255 → letters tree (at + 12) ≡ 0x4547 → CallOpened class limit l tree at span before before (Next (at + 24))
+  pub object-open : Fit before l limit → word16 tree (at + 10) ≤ 255 → letters tree (at + 12) ≡ marks.EG → CallOpened class limit l tree at span before before (Next (at + 24))
   unfolding open-callee first-part
   object-open fit h m = few-open h (λ k e n r. as-open at span (object-of tree _ k (at + 12) r m) (next (nothing fit)))
 
-  pub value-open : Fit before l limit → word16 tree (at + 10) ≤ 255 → (letters tree (at + 12) ≡ 0x4547 → ⊥) → (letters tree (at + 12) ≡ 0x4555 → ⊥)
+  pub value-open : Fit before l limit → word16 tree (at + 10) ≤ 255 → (letters tree (at + 12) ≡ marks.EG → ⊥) → (letters tree (at + 12) ≡ marks.EU → ⊥)
       → CallOpened class limit l tree at span before before (Next (at + 12))
   unfolding open-callee first-part
   value-open fit h g u = few-open h (λ k e n r. as-open at span (value-of tree _ k (at + 12) r g u) (next (nothing fit)))
 
-  pub close-super-stop : (next : ℕ) {now : Mem} {r : Step} {x : Refusal} {k : ℕ} → letters tree (at + 12) ≡ 0x4555 → Did class limit l k steady (get-variable limit super span) before now r
+  pub close-super-stop : (next : ℕ) {now : Mem} {r : Step} {x : Refusal} {k : ℕ} → letters tree (at + 12) ≡ marks.EU → Did class limit l k steady (get-variable limit super span) before now r
       → r ≡ Stop x
       → CallClosed class limit l tree at next span before now r
   unfolding call-close
   close-super-stop next m d q = record { did = λ k e n r. as-close _ span (super-of tree _ k (at + 12) r m) (halt _ d q) }
 
   module _ (next name count : ℕ) (c : count ≡ word16 tree (at + 10)) where
-    pub close-super : {mid now : Mem} {r r′ : Step} {k v : ℕ} → letters tree (at + 12) ≡ 0x4555 → name ≡ word16 tree (at + 22)
+    pub close-super : {mid now : Mem} {r r′ : Step} {k v : ℕ} → letters tree (at + 12) ≡ marks.EU → name ≡ word16 tree (at + 22)
         → Did class limit l k steady (get-variable limit super span) before mid r → r ≡ Next v
         → Did class limit l next steady (emit-invoke limit op.SUPER-INVOKE (CS name) count span) mid now r′ → CallClosed class limit l tree at next span before now r′
     unfolding call-close
@@ -198,7 +199,7 @@ module _ {class limit l : ℕ} (tree : List ℕ) (at : ℕ) (span : Span) {befor
           (subst (λ (j : ℕ). Did class limit l next steady (emit-invoke limit op.SUPER-INVOKE (CS name) j span) mid now r′) c d′)));
     }
 
-    pub close-object : {now : Mem} {r′ : Step} → letters tree (at + 12) ≡ 0x4547 → name ≡ word16 tree (at + 22)
+    pub close-object : {now : Mem} {r′ : Step} → letters tree (at + 12) ≡ marks.EG → name ≡ word16 tree (at + 22)
         → Did class limit l next steady (emit-invoke limit op.INVOKE (CS name) count span) before now r′ → CallClosed class limit l tree at next span before now r′
     unfolding call-close
     close-object {now} {r′} m p d′ = record {
@@ -208,7 +209,7 @@ module _ {class limit l : ℕ} (tree : List ℕ) (at : ℕ) (span : Span) {befor
     }
 
   module _ (next count : ℕ) (c : count ≡ word16 tree (at + 10)) where
-    pub close-value : {now : Mem} {r′ : Step} → (letters tree (at + 12) ≡ 0x4547 → ⊥) → (letters tree (at + 12) ≡ 0x4555 → ⊥)
+    pub close-value : {now : Mem} {r′ : Step} → (letters tree (at + 12) ≡ marks.EG → ⊥) → (letters tree (at + 12) ≡ marks.EU → ⊥)
         → Did class limit l next steady (emit-op-u8 limit op.CALL count span) before now r′ → CallClosed class limit l tree at next span before now r′
     unfolding call-close
     close-value {now} {r′} g u d′ = record {
@@ -219,16 +220,16 @@ module _ {class limit l : ℕ} (tree : List ℕ) (at : ℕ) (span : Span) {befor
 count-on : (tree : List ℕ) (at : ℕ) {r : ℕ} {c k : Callee} → c ≡ k → r ≡ part-count k (word16 tree (at + 10)) → r ≡ part-count c (word16 tree (at + 10))
 count-on tree at q h = h ∙ ap (λ (k : Callee). part-count k (word16 tree (at + 10))) (sym q)
 
-pub parts-super : (tree : List ℕ) (at : ℕ) {r : ℕ} → letters tree (at + 12) ≡ 0x4555 → r ≡ word16 tree (at + 10) → CallParts tree at r
+pub parts-super : (tree : List ℕ) (at : ℕ) {r : ℕ} → letters tree (at + 12) ≡ marks.EU → r ≡ word16 tree (at + 10) → CallParts tree at r
 unfolding part-count
 parts-super tree at m h = record { is = λ d e n r. count-on tree at (super-of tree _ d (at + 12) r m) h }
 
-parts-if : (tree : List ℕ) (at : ℕ) {r : ℕ} (g : Bool) → eqb (letters tree (at + 12)) 0x4547 ≡ g → (letters tree (at + 12) ≡ 0x4555 → ⊥) → r ≡ suc (word16 tree (at + 10)) → CallParts tree at r
+parts-if : (tree : List ℕ) (at : ℕ) {r : ℕ} (g : Bool) → eqb (letters tree (at + 12)) marks.EG ≡ g → (letters tree (at + 12) ≡ marks.EU → ⊥) → r ≡ suc (word16 tree (at + 10)) → CallParts tree at r
 unfolding part-count
 parts-if tree at true p u h = record { is = λ d e n r. count-on tree at (object-of tree _ d (at + 12) r (eqb-true _ _ p)) h }
 parts-if tree at false p u h = record { is = λ d e n r. count-on tree at (value-of tree _ d (at + 12) r (eqb-false _ _ p) u) h }
 
-pub parts-other : (tree : List ℕ) (at : ℕ) {r : ℕ} → (letters tree (at + 12) ≡ 0x4555 → ⊥) → r ≡ word16 tree (at + 10) + 1 → CallParts tree at r
+pub parts-other : (tree : List ℕ) (at : ℕ) {r : ℕ} → (letters tree (at + 12) ≡ marks.EU → ⊥) → r ≡ word16 tree (at + 10) + 1 → CallParts tree at r
 parts-other tree at u h = parts-if tree at _ refl u (h ∙ add-one (word16 tree (at + 10)))
 
 -- ## The walk over the parts

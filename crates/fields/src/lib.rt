@@ -1,4 +1,4 @@
-// The fields of the files: what stands at a place, the marks of an image's records, and numbers in wider types. The tree reader, the compiler
+// The fields of the files: what stands at a place, the marks of their records, and numbers in wider types. The tree reader, the compiler
 // and the image checker read by these.
 ghost use mathlib.Core.Path.{_≡_};
 ghost use Prim.Native.Nat.{ℕ, _+_, _<_, _≤_};
@@ -73,12 +73,58 @@ pub fn span_at(bytes: &[u8], at: usize) -> Span
     Span { start, end }
 }
 
-// The marks of an image's records, as `mark_at` reads them. The rules have the same numbers where they read the record.
+// The marks of the files' records, as `mark_at` reads them. The rules have the same numbers where they read the record; for the tree's,
+// specs/Marks.antt has them under their letters.
 pub struct Mark {
     pub letters: u16,
 }
 
 impl Mark {
+    // TR, NM: `read-file`, `read-name`
+    pub const TREE: u16 = 0x5452;
+
+    pub const NAME: u16 = 0x4E4D;
+
+    // SB, SC, SE, SF, SI, SO, SP, SR, SV, SW: `stmt-marks`
+    pub const BLOCK: u16 = 0x5342;
+
+    pub const CLASS: u16 = 0x5343;
+
+    pub const EXPRESSION: u16 = 0x5345;
+
+    pub const FUN: u16 = 0x5346;
+
+    pub const IF: u16 = 0x5349;
+
+    pub const FOR: u16 = 0x534F;
+
+    pub const PRINT: u16 = 0x5350;
+
+    pub const RETURN: u16 = 0x5352;
+
+    pub const VAR: u16 = 0x5356;
+
+    pub const WHILE: u16 = 0x5357;
+
+    // EA, EC, EG, EI, EL, EP, ES, EU, EV: `expr-marks`
+    pub const ASSIGN: u16 = 0x4541;
+
+    pub const CALL: u16 = 0x4543;
+
+    pub const GET: u16 = 0x4547;
+
+    pub const INFIX: u16 = 0x4549;
+
+    pub const LITERAL: u16 = 0x454C;
+
+    pub const PREFIX: u16 = 0x4550;
+
+    pub const SET: u16 = 0x4553;
+
+    pub const SUPER: u16 = 0x4555;
+
+    pub const VARIABLE: u16 = 0x4556;
+
     // IM: `read-functions`
     pub const IMAGE: u16 = 0x494D;
 

@@ -14,6 +14,7 @@ use Rattle.rules.specs.TreeFile.{expression-fields, fun-fields, if-fields, for-
 use Rattle.rules.specs.TreeFile.{read-superclass, read-stmt, read-method}
 use Rattle.parsed.proofs.Deeper.{Covers, both-do, same, then, one-deeper}
 use Rattle.parsed.proofs.Statements.{any-stmt-at, method-at, superclass-at}
+use Rattle.fields.specs.Marks as marks
 
 after : {A B : Type 0} (one : Reader A) (f g : Reader B) → Covers f g → Covers (one >> f) (one >> g)
 unfolding _>>_ _>>=_
@@ -92,7 +93,7 @@ module _ (tree : List ℕ) (names : ℕ) where
   method-whole : {one more : Reader Stmt} → Covers one more → (funs start : ℕ) → Covers (method-record tree names one funs start) (method-record tree names more funs start)
   unfolding method-record
   method-whole c funs start =
-      after (mark-is tree (TreeForm start) 0x5346) _ _ (after (need _ (TooManyOpen start)) _ _ (then (span tree (TreeForm start)) _ _ (λ s. both-do (fun-covers c (TreeForm start)) _ _ (λ f. same _))))
+      after (mark-is tree (TreeForm start) marks.SF) _ _ (after (need _ (TooManyOpen start)) _ _ (then (span tree (TreeForm start)) _ _ (λ s. both-do (fun-covers c (TreeForm start)) _ _ (λ f. same _))))
 
   super-up : (d : ℕ) → Covers (read-superclass tree names d) (read-superclass tree names (suc d))
   unfolding read-superclass

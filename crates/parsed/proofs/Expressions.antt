@@ -20,6 +20,7 @@ use Rattle.rules.specs.TreeFile.{ExprMark, EA, EC, EG, EI, EL, EP, ES, EU, EV, 
 use Rattle.fields.specs.Words.{word8, word16, word64, letters, span-of}
 use Rattle.fields.proofs.Reading.{Found, found, bad-got, then-on, a-u16, a-u64, a-span}
 use Rattle.parsed.proofs.Taken.{eleven, twelve, ten, pred-suc, some-room, moved, got-thing, got-next, First, first, on, shift, passed, row, no-row, chosen, chosen-field, Kind, kind-at, kind-field, name-at}
+use Rattle.fields.specs.Marks as marks
 
 nineteen : (at : ℕ) → at + 11 + 8 ≡ at + 19
 nineteen at = omega arith
@@ -120,9 +121,9 @@ module _ (tree : List ℕ) (names : ℕ) where
 
   -- no other mark is left
   pub last-mark : (d at : ℕ) {e : Expr} {n : ℕ} → read-expr tree names d at ≡ got e n
-      → (letters tree at ≡ 0x454C → ⊥) → (letters tree at ≡ 0x4556 → ⊥) → (letters tree at ≡ 0x4549 → ⊥) → (letters tree at ≡ 0x4550 → ⊥)
-      → (letters tree at ≡ 0x4543 → ⊥) → (letters tree at ≡ 0x4555 → ⊥) → (letters tree at ≡ 0x4541 → ⊥) → (letters tree at ≡ 0x4547 → ⊥)
-      → letters tree at ≡ 0x4553
+      → (letters tree at ≡ marks.EL → ⊥) → (letters tree at ≡ marks.EV → ⊥) → (letters tree at ≡ marks.EI → ⊥) → (letters tree at ≡ marks.EP → ⊥)
+      → (letters tree at ≡ marks.EC → ⊥) → (letters tree at ≡ marks.EU → ⊥) → (letters tree at ≡ marks.EA → ⊥) → (letters tree at ≡ marks.EG → ⊥)
+      → letters tree at ≡ marks.ES
   unfolding expr-marks
   last-mark d at r l v i p c u a g =
       let w = any-at d at r in
@@ -167,9 +168,9 @@ module _ (tree : List ℕ) (names : ℕ) where
         is = sym (got-thing (x .rest));
       }
 
-  pub prefix-at : (d at : ℕ) {e : Expr} {n : ℕ} → letters tree at ≡ 0x4550 → read-expr tree names d at ≡ got e n → PrefixAt (read-expr tree names (d - 1)) at e n
+  pub prefix-at : (d at : ℕ) {e : Expr} {n : ℕ} → letters tree at ≡ marks.EP → read-expr tree names d at ≡ got e n → PrefixAt (read-expr tree names (d - 1)) at e n
   unfolding expr-fields lookup expr-marks
-  prefix-at d at m r = prefix-of (read-expr tree names (d - 1)) at (fields-at d at 0x4550 EP refl m r)
+  prefix-at d at m r = prefix-of (read-expr tree names (d - 1)) at (fields-at d at marks.EP EP refl m r)
 
   pub record InfixAt (expr : Reader Expr) (at : ℕ) (e : Expr) (n : ℕ) : Type 0 where
     pub bound : at + 11 ≤ length tree
@@ -202,9 +203,9 @@ module _ (tree : List ℕ) (names : ℕ) where
         is = sym (got-thing (y .rest));
       }
 
-  pub infix-at : (d at : ℕ) {e : Expr} {n : ℕ} → letters tree at ≡ 0x4549 → read-expr tree names d at ≡ got e n → InfixAt (read-expr tree names (d - 1)) at e n
+  pub infix-at : (d at : ℕ) {e : Expr} {n : ℕ} → letters tree at ≡ marks.EI → read-expr tree names d at ≡ got e n → InfixAt (read-expr tree names (d - 1)) at e n
   unfolding expr-fields lookup expr-marks
-  infix-at d at m r = infix-of (read-expr tree names (d - 1)) at (fields-at d at 0x4549 EI refl m r)
+  infix-at d at m r = infix-of (read-expr tree names (d - 1)) at (fields-at d at marks.EI EI refl m r)
 
   pub record GetAt (expr : Reader Expr) (at : ℕ) (e : Expr) (n : ℕ) : Type 0 where
     pub bound : at + 12 ≤ length tree
@@ -225,9 +226,9 @@ module _ (tree : List ℕ) (names : ℕ) where
         is = sym (got-thing (x .rest));
       }
 
-  pub get-at : (d at : ℕ) {e : Expr} {n : ℕ} → letters tree at ≡ 0x4547 → read-expr tree names d at ≡ got e n → GetAt (read-expr tree names (d - 1)) at e n
+  pub get-at : (d at : ℕ) {e : Expr} {n : ℕ} → letters tree at ≡ marks.EG → read-expr tree names d at ≡ got e n → GetAt (read-expr tree names (d - 1)) at e n
   unfolding expr-fields lookup expr-marks
-  get-at d at m r = get-of (read-expr tree names (d - 1)) at (fields-at d at 0x4547 EG refl m r)
+  get-at d at m r = get-of (read-expr tree names (d - 1)) at (fields-at d at marks.EG EG refl m r)
 
   pub record AssignAt (expr : Reader Expr) (at : ℕ) (e : Expr) (n : ℕ) : Type 0 where
     pub bound : at + 12 ≤ length tree
@@ -248,9 +249,9 @@ module _ (tree : List ℕ) (names : ℕ) where
         is = sym (got-thing (x .rest));
       }
 
-  pub assign-at : (d at : ℕ) {e : Expr} {n : ℕ} → letters tree at ≡ 0x4541 → read-expr tree names d at ≡ got e n → AssignAt (read-expr tree names (d - 1)) at e n
+  pub assign-at : (d at : ℕ) {e : Expr} {n : ℕ} → letters tree at ≡ marks.EA → read-expr tree names d at ≡ got e n → AssignAt (read-expr tree names (d - 1)) at e n
   unfolding expr-fields lookup expr-marks
-  assign-at d at m r = assign-of (read-expr tree names (d - 1)) at (fields-at d at 0x4541 EA refl m r)
+  assign-at d at m r = assign-of (read-expr tree names (d - 1)) at (fields-at d at marks.EA EA refl m r)
 
   pub record SetAt (expr : Reader Expr) (at : ℕ) (e : Expr) (n : ℕ) : Type 0 where
     pub bound : at + 12 ≤ length tree
@@ -278,9 +279,9 @@ module _ (tree : List ℕ) (names : ℕ) where
         is = sym (got-thing (y .rest));
       }
 
-  pub set-at : (d at : ℕ) {e : Expr} {n : ℕ} → letters tree at ≡ 0x4553 → read-expr tree names d at ≡ got e n → SetAt (read-expr tree names (d - 1)) at e n
+  pub set-at : (d at : ℕ) {e : Expr} {n : ℕ} → letters tree at ≡ marks.ES → read-expr tree names d at ≡ got e n → SetAt (read-expr tree names (d - 1)) at e n
   unfolding expr-fields lookup expr-marks
-  set-at d at m r = set-of (read-expr tree names (d - 1)) at (fields-at d at 0x4553 ES refl m r)
+  set-at d at m r = set-of (read-expr tree names (d - 1)) at (fields-at d at marks.ES ES refl m r)
 
   pub record VarAt (at : ℕ) (e : Expr) (n : ℕ) : Type 0 where
     pub bound : at + 12 ≤ length tree
@@ -295,9 +296,9 @@ module _ (tree : List ℕ) (names : ℕ) where
       let x = on _ o f in
       record { bound = f .bound; end = sym (got-next x); is = sym (got-thing x) }
 
-  pub var-at : (d at : ℕ) {e : Expr} {n : ℕ} → letters tree at ≡ 0x4556 → read-expr tree names d at ≡ got e n → VarAt at e n
+  pub var-at : (d at : ℕ) {e : Expr} {n : ℕ} → letters tree at ≡ marks.EV → read-expr tree names d at ≡ got e n → VarAt at e n
   unfolding expr-fields lookup expr-marks
-  var-at d at m r = var-of at (fields-at d at 0x4556 EV refl m r)
+  var-at d at m r = var-of at (fields-at d at marks.EV EV refl m r)
 
   pub record SuperAt (at : ℕ) (e : Expr) (n : ℕ) : Type 0 where
     pub bound : at + 12 ≤ length tree
@@ -312,9 +313,9 @@ module _ (tree : List ℕ) (names : ℕ) where
       let x = on _ o f in
       record { bound = f .bound; end = sym (got-next x); is = sym (got-thing x) }
 
-  pub super-at : (d at : ℕ) {e : Expr} {n : ℕ} → letters tree at ≡ 0x4555 → read-expr tree names d at ≡ got e n → SuperAt at e n
+  pub super-at : (d at : ℕ) {e : Expr} {n : ℕ} → letters tree at ≡ marks.EU → read-expr tree names d at ≡ got e n → SuperAt at e n
   unfolding expr-fields lookup expr-marks
-  super-at d at m r = super-of at (fields-at d at 0x4555 EU refl m r)
+  super-at d at m r = super-of at (fields-at d at marks.EU EU refl m r)
 
   -- a call: how many arguments, the callee, the arguments
   pub record CallAt (expr : Reader Expr) (at : ℕ) (e : Expr) (n : ℕ) : Type 0 where
@@ -343,9 +344,9 @@ module _ (tree : List ℕ) (names : ℕ) where
         is = sym (got-thing (y .rest));
       }
 
-  pub call-at : (d at : ℕ) {e : Expr} {n : ℕ} → letters tree at ≡ 0x4543 → read-expr tree names d at ≡ got e n → CallAt (read-expr tree names (d - 1)) at e n
+  pub call-at : (d at : ℕ) {e : Expr} {n : ℕ} → letters tree at ≡ marks.EC → read-expr tree names d at ≡ got e n → CallAt (read-expr tree names (d - 1)) at e n
   unfolding expr-fields lookup expr-marks
-  call-at d at m r = call-of (read-expr tree names (d - 1)) at (fields-at d at 0x4543 EC refl m r)
+  call-at d at m r = call-of (read-expr tree names (d - 1)) at (fields-at d at marks.EC EC refl m r)
 
   -- ## A literal, by its kind
 
@@ -373,9 +374,9 @@ module _ (tree : List ℕ) (names : ℕ) where
         is = sym (got-thing (x .rest));
       }
 
-  pub literal-at : (d at : ℕ) {e : Expr} {n : ℕ} → letters tree at ≡ 0x454C → read-expr tree names d at ≡ got e n → LiteralAt at e n
+  pub literal-at : (d at : ℕ) {e : Expr} {n : ℕ} → letters tree at ≡ marks.EL → read-expr tree names d at ≡ got e n → LiteralAt at e n
   unfolding expr-fields lookup expr-marks
-  literal-at d at m r = literal-is at (fields-at d at 0x454C EL refl m r)
+  literal-at d at m r = literal-is at (fields-at d at marks.EL EL refl m r)
 
   -- the literal itself: its value, where it ends, how far the file goes
   pub record PlainAt (lit : ExprLiteral) (at : ℕ) (e : Expr) (n : ℕ) : Type 0 where

@@ -20,6 +20,7 @@ use Rattle.rules.specs.TreeFile.{StmtMark, SB, SC, SE, SF, SI, SO, SP, SR, SV, 
 use Rattle.fields.specs.Words.{word8, word16, letters, span-of}
 use Rattle.fields.proofs.Reading.{Found, found, bad-got, a-u8, a-u16, a-span, marked}
 use Rattle.parsed.proofs.Taken.{eleven, twelve, ten, pred-suc, some-room, moved, got-thing, got-next, First, first, on, shift, row, no-row, Chosen, chosen, chosen-field, Kind, kind-at, kind-field, name-at}
+use Rattle.fields.specs.Marks as marks
 
 fourteen : (at : ℕ) → at + 12 + 2 ≡ at + 14
 fourteen at = omega arith
@@ -227,8 +228,8 @@ module _ (tree : List ℕ) (names : ℕ) where
 
   -- what each mark gives
   pub by-mark : {P : Type 0} (d funs at : ℕ) {s : Stmt} {n : ℕ} → read-stmt tree names d funs at ≡ got s n
-      → (letters tree at ≡ 0x5342 → P) → (letters tree at ≡ 0x5343 → P) → (letters tree at ≡ 0x5345 → P) → (letters tree at ≡ 0x5346 → P) → (letters tree at ≡ 0x5349 → P)
-      → (letters tree at ≡ 0x534F → P) → (letters tree at ≡ 0x5350 → P) → (letters tree at ≡ 0x5352 → P) → (letters tree at ≡ 0x5356 → P) → (letters tree at ≡ 0x5357 → P)
+      → (letters tree at ≡ marks.SB → P) → (letters tree at ≡ marks.SC → P) → (letters tree at ≡ marks.SE → P) → (letters tree at ≡ marks.SF → P) → (letters tree at ≡ marks.SI → P)
+      → (letters tree at ≡ marks.SO → P) → (letters tree at ≡ marks.SP → P) → (letters tree at ≡ marks.SR → P) → (letters tree at ≡ marks.SV → P) → (letters tree at ≡ marks.SW → P)
       → P
   unfolding stmt-marks
   by-mark d funs at r b c e f i o p t v w =
@@ -247,9 +248,9 @@ module _ (tree : List ℕ) (names : ℕ) where
 
   -- no other mark is left
   pub class-left : (d funs at : ℕ) {s : Stmt} {n : ℕ} → read-stmt tree names d funs at ≡ got s n
-      → (letters tree at ≡ 0x5345 → ⊥) → (letters tree at ≡ 0x5350 → ⊥) → (letters tree at ≡ 0x5356 → ⊥) → (letters tree at ≡ 0x5342 → ⊥) → (letters tree at ≡ 0x5349 → ⊥)
-      → (letters tree at ≡ 0x5357 → ⊥) → (letters tree at ≡ 0x534F → ⊥) → (letters tree at ≡ 0x5352 → ⊥) → (letters tree at ≡ 0x5346 → ⊥)
-      → letters tree at ≡ 0x5343
+      → (letters tree at ≡ marks.SE → ⊥) → (letters tree at ≡ marks.SP → ⊥) → (letters tree at ≡ marks.SV → ⊥) → (letters tree at ≡ marks.SB → ⊥) → (letters tree at ≡ marks.SI → ⊥)
+      → (letters tree at ≡ marks.SW → ⊥) → (letters tree at ≡ marks.SO → ⊥) → (letters tree at ≡ marks.SR → ⊥) → (letters tree at ≡ marks.SF → ⊥)
+      → letters tree at ≡ marks.SC
   class-left d funs at r e p v b i w o t f =
       by-mark d funs at r (λ h. absurd (b h)) (λ h. h) (λ h. absurd (e h)) (λ h. absurd (f h)) (λ h. absurd (i h)) (λ h. absurd (o h)) (λ h. absurd (p h)) (λ h. absurd (t h)) (λ h. absurd (v h))
       (λ h. absurd (w h))
@@ -274,17 +275,17 @@ module _ (tree : List ℕ) (names : ℕ) where
   unfolding expression-fields _>>=_ return
   expression-of expr at r = let x = first (expr (at + 10)) _ r in record { value = x .thing; one = moved (x .is) (got-next (x .rest)); is = sym (got-thing (x .rest)) }
 
-  pub expression-at : (d funs at : ℕ) {s : Stmt} {n : ℕ} → letters tree at ≡ 0x5345 → read-stmt tree names d funs at ≡ got s n → ValueAt (read-expr tree names (d - 1)) StmtExpr at s n
+  pub expression-at : (d funs at : ℕ) {s : Stmt} {n : ℕ} → letters tree at ≡ marks.SE → read-stmt tree names d funs at ≡ got s n → ValueAt (read-expr tree names (d - 1)) StmtExpr at s n
   unfolding stmt-fields lookup stmt-marks
-  expression-at d funs at m r = expression-of (read-expr tree names (d - 1)) at (fields-at d funs at 0x5345 SE refl m r)
+  expression-at d funs at m r = expression-of (read-expr tree names (d - 1)) at (fields-at d funs at marks.SE SE refl m r)
 
   print-of : (expr : Reader Expr) (at : ℕ) {s : Stmt} {n : ℕ} → print-fields tree names expr (span-of tree (at + 2)) (at + 10) ≡ got s n → ValueAt expr StmtPrint at s n
   unfolding print-fields _>>=_ return
   print-of expr at r = let x = first (expr (at + 10)) _ r in record { value = x .thing; one = moved (x .is) (got-next (x .rest)); is = sym (got-thing (x .rest)) }
 
-  pub print-at : (d funs at : ℕ) {s : Stmt} {n : ℕ} → letters tree at ≡ 0x5350 → read-stmt tree names d funs at ≡ got s n → ValueAt (read-expr tree names (d - 1)) StmtPrint at s n
+  pub print-at : (d funs at : ℕ) {s : Stmt} {n : ℕ} → letters tree at ≡ marks.SP → read-stmt tree names d funs at ≡ got s n → ValueAt (read-expr tree names (d - 1)) StmtPrint at s n
   unfolding stmt-fields lookup stmt-marks
-  print-at d funs at m r = print-of (read-expr tree names (d - 1)) at (fields-at d funs at 0x5350 SP refl m r)
+  print-at d funs at m r = print-of (read-expr tree names (d - 1)) at (fields-at d funs at marks.SP SP refl m r)
 
   pub record WhileAt (expr : Reader Expr) (stmt : Reader Stmt) (at : ℕ) (s : Stmt) (n : ℕ) : Type 0 where
     pub cond : Expr
@@ -301,9 +302,9 @@ module _ (tree : List ℕ) (names : ℕ) where
       let y = first (stmt (x .next)) _ (x .rest) in
       record { cond = x .thing; mid = x .next; body = y .thing; one = x .is; two = moved (y .is) (got-next (y .rest)); is = sym (got-thing (y .rest)) }
 
-  pub while-at : (d funs at : ℕ) {s : Stmt} {n : ℕ} → letters tree at ≡ 0x5357 → read-stmt tree names d funs at ≡ got s n → WhileAt (read-expr tree names (d - 1)) (read-stmt tree names (d - 1) funs) at s n
+  pub while-at : (d funs at : ℕ) {s : Stmt} {n : ℕ} → letters tree at ≡ marks.SW → read-stmt tree names d funs at ≡ got s n → WhileAt (read-expr tree names (d - 1)) (read-stmt tree names (d - 1) funs) at s n
   unfolding stmt-fields lookup stmt-marks
-  while-at d funs at m r = while-of (read-expr tree names (d - 1)) (read-stmt tree names (d - 1) funs) at (fields-at d funs at 0x5357 SW refl m r)
+  while-at d funs at m r = while-of (read-expr tree names (d - 1)) (read-stmt tree names (d - 1) funs) at (fields-at d funs at marks.SW SW refl m r)
 
   -- ## A block
 
@@ -321,9 +322,9 @@ module _ (tree : List ℕ) (names : ℕ) where
       let x = first (read-stmts (word16 tree (at + 10)) stmt (at + 12)) _ (on _ o f) in
       record { bound = f .bound; stmts = x .thing; row-is = moved (x .is) (got-next (x .rest)); is = sym (got-thing (x .rest)) }
 
-  pub block-at : (d funs at : ℕ) {s : Stmt} {n : ℕ} → letters tree at ≡ 0x5342 → read-stmt tree names d funs at ≡ got s n → BlockAt (read-stmt tree names (d - 1) funs) at s n
+  pub block-at : (d funs at : ℕ) {s : Stmt} {n : ℕ} → letters tree at ≡ marks.SB → read-stmt tree names d funs at ≡ got s n → BlockAt (read-stmt tree names (d - 1) funs) at s n
   unfolding stmt-fields lookup stmt-marks
-  block-at d funs at m r = block-of (read-stmt tree names (d - 1) funs) at (fields-at d funs at 0x5342 SB refl m r)
+  block-at d funs at m r = block-of (read-stmt tree names (d - 1) funs) at (fields-at d funs at marks.SB SB refl m r)
 
   -- ## An `if`
 
@@ -365,9 +366,9 @@ module _ (tree : List ℕ) (names : ℕ) where
         is = sym (got-thing (z .rest));
       }
 
-  pub if-at : (d funs at : ℕ) {s : Stmt} {n : ℕ} → letters tree at ≡ 0x5349 → read-stmt tree names d funs at ≡ got s n → IfAt (read-expr tree names (d - 1)) (read-stmt tree names (d - 1) funs) at s n
+  pub if-at : (d funs at : ℕ) {s : Stmt} {n : ℕ} → letters tree at ≡ marks.SI → read-stmt tree names d funs at ≡ got s n → IfAt (read-expr tree names (d - 1)) (read-stmt tree names (d - 1) funs) at s n
   unfolding stmt-fields lookup stmt-marks
-  if-at d funs at m r = if-of (read-expr tree names (d - 1)) (read-stmt tree names (d - 1) funs) at (fields-at d funs at 0x5349 SI refl m r)
+  if-at d funs at m r = if-of (read-expr tree names (d - 1)) (read-stmt tree names (d - 1) funs) at (fields-at d funs at marks.SI SI refl m r)
 
   -- ## A `return`, a `var`
 
@@ -395,9 +396,9 @@ module _ (tree : List ℕ) (names : ℕ) where
         is = sym (got-thing (x .rest));
       }
 
-  pub return-at : (d funs at : ℕ) {s : Stmt} {n : ℕ} → letters tree at ≡ 0x5352 → read-stmt tree names d funs at ≡ got s n → ReturnAt (read-expr tree names (d - 1)) at s n
+  pub return-at : (d funs at : ℕ) {s : Stmt} {n : ℕ} → letters tree at ≡ marks.SR → read-stmt tree names d funs at ≡ got s n → ReturnAt (read-expr tree names (d - 1)) at s n
   unfolding stmt-fields lookup stmt-marks
-  return-at d funs at m r = return-of (read-expr tree names (d - 1)) at (fields-at d funs at 0x5352 SR refl m r)
+  return-at d funs at m r = return-of (read-expr tree names (d - 1)) at (fields-at d funs at marks.SR SR refl m r)
 
   pub record VarStmtAt (expr : Reader Expr) (at : ℕ) (s : Stmt) (n : ℕ) : Type 0 where
     pub bound : at + 13 ≤ length tree
@@ -424,9 +425,9 @@ module _ (tree : List ℕ) (names : ℕ) where
         is = sym (got-thing (x .rest));
       }
 
-  pub var-stmt-at : (d funs at : ℕ) {s : Stmt} {n : ℕ} → letters tree at ≡ 0x5356 → read-stmt tree names d funs at ≡ got s n → VarStmtAt (read-expr tree names (d - 1)) at s n
+  pub var-stmt-at : (d funs at : ℕ) {s : Stmt} {n : ℕ} → letters tree at ≡ marks.SV → read-stmt tree names d funs at ≡ got s n → VarStmtAt (read-expr tree names (d - 1)) at s n
   unfolding stmt-fields lookup stmt-marks
-  var-stmt-at d funs at m r = var-stmt-of (read-expr tree names (d - 1)) at (fields-at d funs at 0x5356 SV refl m r)
+  var-stmt-at d funs at m r = var-stmt-of (read-expr tree names (d - 1)) at (fields-at d funs at marks.SV SV refl m r)
 
   -- ## A `for`
 
@@ -473,9 +474,9 @@ module _ (tree : List ℕ) (names : ℕ) where
         is = sym (got-thing (w .rest));
       }
 
-  pub for-at : (d funs at : ℕ) {s : Stmt} {n : ℕ} → letters tree at ≡ 0x534F → read-stmt tree names d funs at ≡ got s n → ForAt (read-expr tree names (d - 1)) (read-stmt tree names (d - 1) funs) at s n
+  pub for-at : (d funs at : ℕ) {s : Stmt} {n : ℕ} → letters tree at ≡ marks.SO → read-stmt tree names d funs at ≡ got s n → ForAt (read-expr tree names (d - 1)) (read-stmt tree names (d - 1) funs) at s n
   unfolding stmt-fields lookup stmt-marks
-  for-at d funs at m r = for-of (read-expr tree names (d - 1)) (read-stmt tree names (d - 1) funs) at (fields-at d funs at 0x534F SO refl m r)
+  for-at d funs at m r = for-of (read-expr tree names (d - 1)) (read-stmt tree names (d - 1) funs) at (fields-at d funs at marks.SO SO refl m r)
 
   -- ## A function
 
@@ -523,26 +524,26 @@ module _ (tree : List ℕ) (names : ℕ) where
       let x = first (fun-fields tree names inner (TreeForm at) (at + 10)) _ r in
       record { opens = h; function = x .thing; one = moved (x .is) (got-next (x .rest)); is = sym (got-thing (x .rest)) }
 
-  may : (d funs at : ℕ) (w : AnyStmtAt d funs at) → letters tree at ≡ 0x5346 → 0 < funs
+  may : (d funs at : ℕ) (w : AnyStmtAt d funs at) → letters tree at ≡ marks.SF → 0 < funs
   unfolding may-open lookup stmt-marks
   may d funs at w m =
       let q : w .kind ≡ SF = same-some (sym (w .look) ∙ ap (λ (k : ℕ). lookup k stmt-marks) m) in
       ltb-true _ _ (ap (λ (k : StmtMark). may-open k funs) (sym q) ∙ w .opens)
 
-  pub fun-stmt-at : (d funs at : ℕ) {s : Stmt} {n : ℕ} → letters tree at ≡ 0x5346 → read-stmt tree names d funs at ≡ got s n → FunStmtAt (read-stmt tree names (d - 1) (funs - 1)) funs at s n
+  pub fun-stmt-at : (d funs at : ℕ) {s : Stmt} {n : ℕ} → letters tree at ≡ marks.SF → read-stmt tree names d funs at ≡ got s n → FunStmtAt (read-stmt tree names (d - 1) (funs - 1)) funs at s n
   unfolding stmt-fields lookup stmt-marks
-  fun-stmt-at d funs at m r = fun-stmt-of (read-stmt tree names (d - 1) (funs - 1)) funs at (may d funs at (any-stmt-at d funs at r) m) (fields-at d funs at 0x5346 SF refl m r)
+  fun-stmt-at d funs at m r = fun-stmt-of (read-stmt tree names (d - 1) (funs - 1)) funs at (may d funs at (any-stmt-at d funs at r) m) (fields-at d funs at marks.SF SF refl m r)
 
   -- ## A method
 
   never-method : (funs at : ℕ) {s : Span × Fun} {n : ℕ} → read-method tree names zero funs at ≡ got s n → ⊥
   unfolding read-method _>>=_ _>>_ here go-on refuse
-  never-method funs at r = bad-got (first (mark-is tree (TreeForm at) 0x5346 at) (λ _. refuse (TreeTooDeep at)) r .rest)
+  never-method funs at r = bad-got (first (mark-is tree (TreeForm at) marks.SF at) (λ _. refuse (TreeTooDeep at)) r .rest)
 
   pub record MethodAt (inner : Reader Stmt) (d funs at : ℕ) (s : Span × Fun) (n : ℕ) : Type 0 where
     pub room : 0 < d
     pub opens : 0 < funs
-    pub mark : letters tree at ≡ 0x5346
+    pub mark : letters tree at ≡ marks.SF
     pub bound : at + 10 ≤ length tree
     pub function : Fun
     pub one : fun-fields tree names inner (TreeForm at) (at + 10) ≡ got function n
@@ -551,8 +552,8 @@ module _ (tree : List ℕ) (names : ℕ) where
   method-of : (inner : Reader Stmt) (d funs at : ℕ) {s : Span × Fun} {n : ℕ} → 0 < d → method-record tree names inner funs at at ≡ got s n → MethodAt inner d funs at s n
   unfolding method-record _>>=_ _>>_ return
   method-of inner d funs at h r =
-      let x = first (mark-is tree (TreeForm at) 0x5346 at) _ r in
-      let w = marked tree (TreeForm at) 0x5346 at (x .is) in
+      let x = first (mark-is tree (TreeForm at) marks.SF at) _ r in
+      let w = marked tree (TreeForm at) marks.SF at (x .is) in
       let t = tested (ltb 0 funs) (TooManyOpen at) (span tree (TreeForm at) >>= λ s. fun-fields tree names inner (TreeForm at) >>= λ f. return (s, f)) (x .next) (x .rest) in
       let y = first (span tree (TreeForm at) (x .next)) _ (t .rest) in
       let z : span tree (TreeForm at) (at + 2) ≡ got (y .thing) (y .next) = ap (span tree (TreeForm at)) (sym (w .on)) ∙ y .is in
@@ -615,9 +616,9 @@ module _ (tree : List ℕ) (names : ℕ) where
         is = sym (got-thing (y .rest));
       }
 
-  pub class-at : (d funs at : ℕ) {s : Stmt} {n : ℕ} → letters tree at ≡ 0x5343 → read-stmt tree names d funs at ≡ got s n → ClassAt (read-superclass tree names (d - 1)) (read-method tree names (d - 1) funs) at s n
+  pub class-at : (d funs at : ℕ) {s : Stmt} {n : ℕ} → letters tree at ≡ marks.SC → read-stmt tree names d funs at ≡ got s n → ClassAt (read-superclass tree names (d - 1)) (read-method tree names (d - 1) funs) at s n
   unfolding stmt-fields lookup stmt-marks
-  class-at d funs at m r = class-of (read-superclass tree names (d - 1)) (read-method tree names (d - 1) funs) at (fields-at d funs at 0x5343 SC refl m r)
+  class-at d funs at m r = class-of (read-superclass tree names (d - 1)) (read-method tree names (d - 1) funs) at (fields-at d funs at marks.SC SC refl m r)
 
   -- its superclass
   pub record SuperclassAt (d at : ℕ) (s : Superclass) (n : ℕ) : Type 0 where
@@ -628,14 +629,14 @@ module _ (tree : List ℕ) (names : ℕ) where
 
   never-superclass : (at : ℕ) {s : Superclass} {n : ℕ} → read-superclass tree names zero at ≡ got s n → ⊥
   unfolding read-superclass _>>=_ _>>_ here go-on refuse
-  never-superclass at r = bad-got (first (mark-is tree (TreeForm at) 0x4556 at) (λ _. refuse (TreeTooDeep at)) r .rest)
+  never-superclass at r = bad-got (first (mark-is tree (TreeForm at) marks.EV at) (λ _. refuse (TreeTooDeep at)) r .rest)
 
   pub superclass-at : (d at : ℕ) {s : Superclass} {n : ℕ} → read-superclass tree names d at ≡ got s n → SuperclassAt d at s n
   unfolding read-superclass _>>=_ _>>_ here go-on return
   superclass-at zero at r = absurd (never-superclass at r)
   superclass-at (suc d) at r =
-      let x = first (mark-is tree (TreeForm at) 0x4556 at) (λ _. span tree (TreeForm at) >>= λ s. name tree names (TreeForm at) >>= λ n. return (record { span = s; name = n })) r in
-      let w = marked tree (TreeForm at) 0x4556 at (x .is) in
+      let x = first (mark-is tree (TreeForm at) marks.EV at) (λ _. span tree (TreeForm at) >>= λ s. name tree names (TreeForm at) >>= λ n. return (record { span = s; name = n })) r in
+      let w = marked tree (TreeForm at) marks.EV at (x .is) in
       let y = first (span tree (TreeForm at) (x .next)) (λ s. name tree names (TreeForm at) >>= λ n. return (record { span = s; name = n })) (x .rest) in
       let z : span tree (TreeForm at) (at + 2) ≡ got (y .thing) (y .next) = ap (span tree (TreeForm at)) (sym (w .on)) ∙ y .is in
       let f = shift (ten at) (found tree (a-span tree) z) in

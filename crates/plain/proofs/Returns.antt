@@ -28,6 +28,7 @@ use Rattle.compiler.proofs.Monad.{like, on-to, nothing}
 use Rattle.parts.specs.Output.{funs-left, stmt-at}
 use Rattle.plain.specs.Plain.{StmtSomewhere, Plainly, Flagged, return-kind, may-return}
 use Rattle.plain.proofs.Values.{by-stmt, flagged-no, flagged-yes}
+use Rattle.fields.specs.Marks as marks
 
 -- ## The kind of function
 
@@ -81,10 +82,10 @@ module _ (limit : ℕ) (e : Expr) (span : Span) where
   unfolding compile-return may-return the _>>=_ _>>_ go-on
   whole s = by-type (s .ctx .type) s
 
-pub return-bound : {tree : List ℕ} {l at : ℕ} → letters tree at ≡ 0x5352 → StmtSomewhere tree l at → at + 11 ≤ length tree
+pub return-bound : {tree : List ℕ} {l at : ℕ} → letters tree at ≡ marks.SR → StmtSomewhere tree l at → at + 11 ≤ length tree
 return-bound {tree} {l} {at} m w = return-at tree (word16 tree 2) (w .left) (funs-left l) at m (w .there .is) .bound
 
-module _ (tree : List ℕ) (left l at : ℕ) (m : letters tree at ≡ 0x5352) where
+module _ (tree : List ℕ) (left l at : ℕ) (m : letters tree at ≡ marks.SR) where
   module _ (flag : ℕ) (f : flag ≡ word8 tree (at + 10)) where
     announced : {s : Stmt} {n : ℕ} → (z : stmt-at tree left l at ≡ got s n) → Flagged tree (left - 1) (at + 11) flag (return-at tree (word16 tree 2) left (funs-left l) at m z .value) n
     announced z = let i = return-at tree (word16 tree 2) left (funs-left l) at m z in record { has = i .has; look = ap (λ (k : ℕ). lookup k flags) f ∙ i .look; one = i .one }
@@ -134,7 +135,7 @@ module _ (tree : List ℕ) (left l at : ℕ) (m : letters tree at ≡ 0x5352) wh
                 by-parts z (then-on _ a q (then-on _ c q′ (on-to (valued c q′) d)));
           }
 
-pub return-there : {tree : List ℕ} {l at : ℕ} → letters tree at ≡ 0x5352 → (flag : ℕ) → flag ≡ word8 tree (at + 10) → (flag ≡ 0 → ⊥) → StmtSomewhere tree l at → Somewhere tree (at + 11)
+pub return-there : {tree : List ℕ} {l at : ℕ} → letters tree at ≡ marks.SR → (flag : ℕ) → flag ≡ word8 tree (at + 10) → (flag ≡ 0 → ⊥) → StmtSomewhere tree l at → Somewhere tree (at + 11)
 return-there {tree} {l} {at} m flag f e w =
     let i = valued-at tree (w .left) l at m flag f e (w .there .is) in
     record { depth = w .left - 1; there = record { thing = i .thing; next = w .there .next; is = i .one-is } }

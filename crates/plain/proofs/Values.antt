@@ -24,6 +24,7 @@ use Rattle.compiler.specs.Exprs.{There, Somewhere, expr-at, Ran}
 use Rattle.compiler.proofs.Monad.{on-to}
 use Rattle.parts.specs.Output.{funs-left, stmt-at}
 use Rattle.plain.specs.Plain.{StmtSomewhere, NoOther, Plainly, Flagged, Announced, ValueRan}
+use Rattle.fields.specs.Marks as marks
 
 -- ## What is known of any statement
 
@@ -31,8 +32,8 @@ pub bound : {tree : List ℕ} {l at : ℕ} → StmtSomewhere tree l at → at + 
 bound {tree} {l} {at} w = any-stmt-at tree (word16 tree 2) (w .left) (funs-left l) at (w .there .is) .bound
 
 -- none of the nine other marks is left
-pub last-return : {tree : List ℕ} {l at mark : ℕ} → StmtSomewhere tree l at → NoOther tree at → mark ≡ letters tree at → (mark ≡ 0x5345 → ⊥) → (mark ≡ 0x5350 → ⊥) → (mark ≡ 0x5356 → ⊥)
-    → letters tree at ≡ 0x5352
+pub last-return : {tree : List ℕ} {l at mark : ℕ} → StmtSomewhere tree l at → NoOther tree at → mark ≡ letters tree at → (mark ≡ marks.SE → ⊥) → (mark ≡ marks.SP → ⊥) → (mark ≡ marks.SV → ⊥)
+    → letters tree at ≡ marks.SR
 last-return {tree} {l} {at} w o q e p v =
     by-mark tree (word16 tree 2) (w .left) (funs-left l) at (w .there .is) (λ h. absurd (o .no-block h)) (λ h. absurd (o .no-class h)) (λ h. absurd (e (q ∙ h))) (λ h. absurd (o .no-fun h))
     (λ h. absurd (o .no-if h)) (λ h. absurd (o .no-for h)) (λ h. absurd (p (q ∙ h))) (λ h. h) (λ h. absurd (v (q ∙ h))) (λ h. absurd (o .no-while h))
@@ -50,11 +51,11 @@ pub record One (limit l : ℕ) (tree : List ℕ) (left at : ℕ) (make : Span �
   comes : (w : Span) (v : Expr) → (compile-expr limit v >> emit-op limit o w) ≡ compile-stmt limit (make w v)
 
 module _ {limit l : ℕ} (tree : List ℕ) (left at : ℕ) where
-  pub an-expression : letters tree at ≡ 0x5345 → One limit l tree left at StmtExpr op.POP
+  pub an-expression : letters tree at ≡ marks.SE → One limit l tree left at StmtExpr op.POP
   unfolding compile-stmt
   an-expression m = record { read = λ s n z. expression-at tree (word16 tree 2) left (funs-left l) at m z; comes = λ w v. refl }
 
-  pub a-print : letters tree at ≡ 0x5350 → One limit l tree left at StmtPrint op.PRINT
+  pub a-print : letters tree at ≡ marks.SP → One limit l tree left at StmtPrint op.PRINT
   unfolding compile-stmt
   a-print m = record { read = λ s n z. print-at tree (word16 tree 2) left (funs-left l) at m z; comes = λ w v. refl }
 

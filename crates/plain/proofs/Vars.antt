@@ -23,6 +23,7 @@ use Rattle.compiler.proofs.Monad.{like, on-to, nothing}
 use Rattle.parts.specs.Output.{funs-left, stmt-at}
 use Rattle.plain.specs.Plain.{StmtSomewhere, Plainly, Flagged, Announced, ValueRan, open-var, close-var}
 use Rattle.plain.proofs.Values.{by-stmt}
+use Rattle.fields.specs.Marks as marks
 
 -- ## The parts
 
@@ -55,10 +56,10 @@ module _ (limit name : ℕ) (span : Span) (value : Compile Unit) where
   whole true s = refl
   whole false s = refl
 
-pub var-bound : {tree : List ℕ} {l at : ℕ} → letters tree at ≡ 0x5356 → StmtSomewhere tree l at → at + 13 ≤ length tree
+pub var-bound : {tree : List ℕ} {l at : ℕ} → letters tree at ≡ marks.SV → StmtSomewhere tree l at → at + 13 ≤ length tree
 var-bound {tree} {l} {at} m w = var-stmt-at tree (word16 tree 2) (w .left) (funs-left l) at m (w .there .is) .bound
 
-module _ (tree : List ℕ) (left l at : ℕ) (m : letters tree at ≡ 0x5356) where
+module _ (tree : List ℕ) (left l at : ℕ) (m : letters tree at ≡ marks.SV) where
   module _ (flag : ℕ) (f : flag ≡ word8 tree (at + 12)) where
     announced : {s : Stmt} {n : ℕ} → (z : stmt-at tree left l at ≡ got s n) → Flagged tree (left - 1) (at + 13) flag (var-stmt-at tree (word16 tree 2) left (funs-left l) at m z .value) n
     announced z = let i = var-stmt-at tree (word16 tree 2) left (funs-left l) at m z in record { has = i .has; look = ap (λ (k : ℕ). lookup k flags) f ∙ i .look; one = i .one }
@@ -92,7 +93,7 @@ module _ (tree : List ℕ) (left l at : ℕ) (m : letters tree at ≡ 0x5356) wh
               by-parts z (then-on _ a q (then-on _ c q′ (on-to (valued c q′) d)));
         }
 
-pub var-value : {tree : List ℕ} {l at flag : ℕ} → letters tree at ≡ 0x5356 → flag ≡ word8 tree (at + 12) → StmtSomewhere tree l at → Announced tree (at + 13) flag
+pub var-value : {tree : List ℕ} {l at flag : ℕ} → letters tree at ≡ marks.SV → flag ≡ word8 tree (at + 12) → StmtSomewhere tree l at → Announced tree (at + 13) flag
 var-value {tree} {l} {at} {flag} m f w = record { left = w .left - 1; value = _; next = w .there .next; is = announced tree (w .left) l at m flag f (w .there .is) }
 
 -- the areas after the value

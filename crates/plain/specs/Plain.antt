@@ -17,6 +17,7 @@ use Rattle.steps.specs.View.{Mem, steady, Did}
 use Rattle.steps.specs.declared.Step.{Step}
 use Rattle.compiler.specs.Exprs.{There}
 use Rattle.parts.specs.Output.{stmt-at}
+use Rattle.fields.specs.Marks as marks
 
 -- a statement was read there, with some levels left
 pub record StmtSomewhere (tree : List ℕ) (l at : ℕ) : Type 0 where
@@ -25,12 +26,12 @@ pub record StmtSomewhere (tree : List ℕ) (l at : ℕ) : Type 0 where
 
 -- its mark is none of those of the statements that hold statements
 pub record NoOther (tree : List ℕ) (at : ℕ) : Type 0 where
-  pub no-block : letters tree at ≡ 0x5342 → ⊥
-  pub no-if : letters tree at ≡ 0x5349 → ⊥
-  pub no-while : letters tree at ≡ 0x5357 → ⊥
-  pub no-for : letters tree at ≡ 0x534F → ⊥
-  pub no-fun : letters tree at ≡ 0x5346 → ⊥
-  pub no-class : letters tree at ≡ 0x5343 → ⊥
+  pub no-block : letters tree at ≡ marks.SB → ⊥
+  pub no-if : letters tree at ≡ marks.SI → ⊥
+  pub no-while : letters tree at ≡ marks.SW → ⊥
+  pub no-for : letters tree at ≡ marks.SO → ⊥
+  pub no-fun : letters tree at ≡ marks.SF → ⊥
+  pub no-class : letters tree at ≡ marks.SC → ⊥
 
 -- what was read is compiled; the answer's value is where to read on
 pub record Plainly (class limit l : ℕ) (read : Read Stmt) (before now : Mem) (r : Step) : Type 0 where

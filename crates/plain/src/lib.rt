@@ -11,7 +11,9 @@ ghost use Rattle.steps.specs.View.{mem, Fit, code-len, steady, Did, Tried};
 ghost use Rattle.parts.specs.Output.{stmt-at};
 ghost use Rattle.parts.specs.Parts.{close-loop};
 ghost use Rattle.plain.specs.Plain.{StmtSomewhere, NoOther, Plainly, Announced, ValueRan, open-var, close-var, may-return};
+ghost use Rattle.fields.specs.Marks as marks;
 use compiler::compile_expr;
+use fields::Mark;
 use fields::mark_at;
 use fields::span_at;
 use fields::u8_at;
@@ -71,7 +73,7 @@ fn stmt_expr(
     limit: usize,
     class: u8,
 ) -> Step
-    requires { ⌜ (StmtSomewhere (now tree) level at) × (letters (now tree) at ≡ 0x5345) × (Fit (mem (now t) (now code) (now spans)) level limit) ⌝ }
+    requires { ⌜ (StmtSomewhere (now tree) level at) × (letters (now tree) at ≡ marks.SE) × (Fit (mem (now t) (now code) (now spans)) level limit) ⌝ }
     ensures { λ r. ⌜ ((d : ℕ) → Plainly class limit level (stmt-at (now (tree .entry)) d level at) (mem (now (t .entry)) (now (code .entry)) (now (spans .entry))) (mem (now (t .exit)) (now (code .exit)) (now (spans .exit))) r) ⌝ }
 {
     let span = span_at(tree, at + 2);
@@ -92,7 +94,7 @@ fn stmt_print(
     limit: usize,
     class: u8,
 ) -> Step
-    requires { ⌜ (StmtSomewhere (now tree) level at) × (letters (now tree) at ≡ 0x5350) × (Fit (mem (now t) (now code) (now spans)) level limit) ⌝ }
+    requires { ⌜ (StmtSomewhere (now tree) level at) × (letters (now tree) at ≡ marks.SP) × (Fit (mem (now t) (now code) (now spans)) level limit) ⌝ }
     ensures { λ r. ⌜ ((d : ℕ) → Plainly class limit level (stmt-at (now (tree .entry)) d level at) (mem (now (t .entry)) (now (code .entry)) (now (spans .entry))) (mem (now (t .exit)) (now (code .exit)) (now (spans .exit))) r) ⌝ }
 {
     let span = span_at(tree, at + 2);
@@ -179,7 +181,7 @@ fn compile_var(
     limit: usize,
     class: u8,
 ) -> Step
-    requires { ⌜ (StmtSomewhere (now tree) level at) × (letters (now tree) at ≡ 0x5356) × (Fit (mem (now t) (now code) (now spans)) level limit) ⌝ }
+    requires { ⌜ (StmtSomewhere (now tree) level at) × (letters (now tree) at ≡ marks.SV) × (Fit (mem (now t) (now code) (now spans)) level limit) ⌝ }
     ensures { λ r. ⌜ ((d : ℕ) → Plainly class limit level (stmt-at (now (tree .entry)) d level at) (mem (now (t .entry)) (now (code .entry)) (now (spans .entry))) (mem (now (t .exit)) (now (code .exit)) (now (spans .exit))) r) ⌝ }
 {
     let span = span_at(tree, at + 2);
@@ -235,7 +237,7 @@ fn compile_return(
     limit: usize,
     class: u8,
 ) -> Step
-    requires { ⌜ (StmtSomewhere (now tree) level at) × (letters (now tree) at ≡ 0x5352) × (Fit (mem (now t) (now code) (now spans)) level limit) ⌝ }
+    requires { ⌜ (StmtSomewhere (now tree) level at) × (letters (now tree) at ≡ marks.SR) × (Fit (mem (now t) (now code) (now spans)) level limit) ⌝ }
     ensures { λ r. ⌜ ((d : ℕ) → Plainly class limit level (stmt-at (now (tree .entry)) d level at) (mem (now (t .entry)) (now (code .entry)) (now (spans .entry))) (mem (now (t .exit)) (now (code .exit)) (now (spans .exit))) r) ⌝ }
 {
     let span = span_at(tree, at + 2);
@@ -269,13 +271,13 @@ pub fn compile_plain(
     ensures { λ r. ⌜ ((d : ℕ) → Plainly class limit level (stmt-at (now (tree .entry)) d level at) (mem (now (t .entry)) (now (code .entry)) (now (spans .entry))) (mem (now (t .exit)) (now (code .exit)) (now (spans .exit))) r) ⌝ }
 {
     let mark = mark_at(tree, at);
-    if mark == 0x5345 {
+    if mark == Mark::EXPRESSION {
         return stmt_expr(tree, at, t, code, spans, level, limit, class);
     }
-    if mark == 0x5350 {
+    if mark == Mark::PRINT {
         return stmt_print(tree, at, t, code, spans, level, limit, class);
     }
-    if mark == 0x5356 {
+    if mark == Mark::VAR {
         return compile_var(tree, at, t, code, spans, level, limit, class);
     }
     compile_return(tree, at, t, code, spans, level, limit, class)

@@ -28,6 +28,7 @@ use Rattle.tree.specs.declared.Step.{Step}
 use Rattle.tree.specs.declared.Opened.{Opened}
 use Rattle.tree.proofs.Places.{chain, made, and-then-end, row-one, exprs-row}
 use Rattle.tree.proofs.Tables.{outside, Marked, known-none, alike, full-infix, full-prefix, full-kinds}
+use Rattle.fields.specs.Marks as marks
 
 -- ## A number's bits
 
@@ -144,38 +145,38 @@ module _ (tree : List ℕ) (names start : ℕ) {mark : ℕ} {r : Opened} where
             ap (λ (j : ExprMark). place (expr-fields tree names expr (TreeForm start) j s (start + 10))) z ∙ h expr s;
       }
 
-  pub named-one : r ≡ announced (place (name tree names (TreeForm start) (start + 10))) 1 → (mark ≡ 0x4541) ⊎ (mark ≡ 0x4547) → Announces tree names mark start r
+  pub named-one : r ≡ announced (place (name tree names (TreeForm start) (start + 10))) 1 → (mark ≡ marks.EA) ⊎ (mark ≡ marks.EG) → Announces tree names mark start r
   unfolding lookup expr-marks expr-fields
-  named-one q (inl e) = announce 0x4541 EA refl e (λ expr s. by (λ n. place (expr n)) _ 1 (assign-place tree names expr (TreeForm start) s (start + 10)) q)
-  named-one q (inr e) = announce 0x4547 EG refl e (λ expr s. by (λ n. place (expr n)) _ 1 (get-place tree names expr (TreeForm start) s (start + 10)) q)
+  named-one q (inl e) = announce marks.EA EA refl e (λ expr s. by (λ n. place (expr n)) _ 1 (assign-place tree names expr (TreeForm start) s (start + 10)) q)
+  named-one q (inr e) = announce marks.EG EG refl e (λ expr s. by (λ n. place (expr n)) _ 1 (get-place tree names expr (TreeForm start) s (start + 10)) q)
 
-  pub named-two : r ≡ announced (place (name tree names (TreeForm start) (start + 10))) 2 → mark ≡ 0x4553 → Announces tree names mark start r
+  pub named-two : r ≡ announced (place (name tree names (TreeForm start) (start + 10))) 2 → mark ≡ marks.ES → Announces tree names mark start r
   unfolding lookup expr-marks expr-fields
-  named-two q e = announce 0x4553 ES refl e (λ expr s. by (λ n. place (expr n)) _ 2 (set-place tree names expr (TreeForm start) s (start + 10)) q)
+  named-two q e = announce marks.ES ES refl e (λ expr s. by (λ n. place (expr n)) _ 2 (set-place tree names expr (TreeForm start) s (start + 10)) q)
 
-  pub named-super : r ≡ announced (place (name tree names (TreeForm start) (start + 10))) 0 → mark ≡ 0x4555 → Announces tree names mark start r
+  pub named-super : r ≡ announced (place (name tree names (TreeForm start) (start + 10))) 0 → mark ≡ marks.EU → Announces tree names mark start r
   unfolding lookup expr-marks expr-fields
-  named-super q e = announce 0x4555 EU refl e (λ expr s. by (λ n. place (expr n)) _ 0 (super-place tree names expr (TreeForm start) s (start + 10)) q)
+  named-super q e = announce marks.EU EU refl e (λ expr s. by (λ n. place (expr n)) _ 0 (super-place tree names expr (TreeForm start) s (start + 10)) q)
 
-  pub named-var : r ≡ announced (place (name tree names (TreeForm start) (start + 10))) 0 → mark ≡ 0x4556 → Announces tree names mark start r
+  pub named-var : r ≡ announced (place (name tree names (TreeForm start) (start + 10))) 0 → mark ≡ marks.EV → Announces tree names mark start r
   unfolding lookup expr-marks expr-fields
-  named-var q e = announce 0x4556 EV refl e (λ expr s. by (λ n. place (expr n)) _ 0 (var-place tree names expr (TreeForm start) s (start + 10)) q)
+  named-var q e = announce marks.EV EV refl e (λ expr s. by (λ n. place (expr n)) _ 0 (var-place tree names expr (TreeForm start) s (start + 10)) q)
 
-  pub operated-two : r ≡ announced (place (below tree 12 (TreeForm start) (start + 10))) 2 → mark ≡ 0x4549 → Announces tree names mark start r
+  pub operated-two : r ≡ announced (place (below tree 12 (TreeForm start) (start + 10))) 2 → mark ≡ marks.EI → Announces tree names mark start r
   unfolding lookup expr-marks expr-fields
-  operated-two q e = announce 0x4549 EI refl e (λ expr s. by (λ n. place (expr n)) _ 2 (infix-place tree names expr (TreeForm start) s (start + 10)) q)
+  operated-two q e = announce marks.EI EI refl e (λ expr s. by (λ n. place (expr n)) _ 2 (infix-place tree names expr (TreeForm start) s (start + 10)) q)
 
-  pub operated-one : r ≡ announced (place (below tree 2 (TreeForm start) (start + 10))) 1 → mark ≡ 0x4550 → Announces tree names mark start r
+  pub operated-one : r ≡ announced (place (below tree 2 (TreeForm start) (start + 10))) 1 → mark ≡ marks.EP → Announces tree names mark start r
   unfolding lookup expr-marks expr-fields
-  operated-one q e = announce 0x4550 EP refl e (λ expr s. by (λ n. place (expr n)) _ 1 (prefix-place tree names expr (TreeForm start) s (start + 10)) q)
+  operated-one q e = announce marks.EP EP refl e (λ expr s. by (λ n. place (expr n)) _ 1 (prefix-place tree names expr (TreeForm start) s (start + 10)) q)
 
-  pub calls : r ≡ with-callee (u16 tree (TreeForm start) (start + 10)) → mark ≡ 0x4543 → Announces tree names mark start r
+  pub calls : r ≡ with-callee (u16 tree (TreeForm start) (start + 10)) → mark ≡ marks.EC → Announces tree names mark start r
   unfolding lookup expr-marks expr-fields
-  calls q e = announce 0x4543 EC refl e (λ expr s. call-place tree names expr (TreeForm start) s (start + 10) ∙ ap (follow (λ n. place (expr n))) (sym q))
+  calls q e = announce marks.EC EC refl e (λ expr s. call-place tree names expr (TreeForm start) s (start + 10) ∙ ap (follow (λ n. place (expr n))) (sym q))
 
-  a-literal : ((s : Span) → r ≡ announced (place (literal-fields tree names (TreeForm start) s (start + 10))) 0) → mark ≡ 0x454C → Announces tree names mark start r
+  a-literal : ((s : Span) → r ≡ announced (place (literal-fields tree names (TreeForm start) s (start + 10))) 0) → mark ≡ marks.EL → Announces tree names mark start r
   unfolding lookup expr-marks expr-fields
-  a-literal q e = announce 0x454C EL refl e (λ expr s. by (λ n. place (expr n)) _ 0 (literal-place tree names expr (TreeForm start) s (start + 10)) (q s))
+  a-literal q e = announce marks.EL EL refl e (λ expr s. by (λ n. place (expr n)) _ 0 (literal-place tree names expr (TreeForm start) s (start + 10)) (q s))
 
   none-of : (lookup mark expr-marks ≡ none) → Announces tree names mark start r
   none-of l =
@@ -185,17 +186,17 @@ module _ (tree : List ℕ) (names start : ℕ) {mark : ℕ} {r : Opened} where
             let z : _≡_ {A = ℕ} 0 1 = cc in absurd (omega arith);
       }
 
-  other-if : (t : Bool) → eqb mark 0x454C ≡ t → ((s : Span) → r ≡ announced (place (literal-fields tree names (TreeForm start) s (start + 10))) 0)
-      → (OneOf (0x4541 ∷ 0x4547 ∷ 0x4543 ∷ 0x4549 ∷ 0x4550 ∷ 0x4553 ∷ 0x4555 ∷ 0x4556 ∷ []) mark → ⊥) → Announces tree names mark start r
+  other-if : (t : Bool) → eqb mark marks.EL ≡ t → ((s : Span) → r ≡ announced (place (literal-fields tree names (TreeForm start) s (start + 10))) 0)
+      → (OneOf (marks.EA ∷ marks.EG ∷ marks.EC ∷ marks.EI ∷ marks.EP ∷ marks.ES ∷ marks.EU ∷ marks.EV ∷ []) mark → ⊥) → Announces tree names mark start r
   unfolding all expr-marks
   other-if true e q n = a-literal q (eqb-true _ _ e)
   other-if false e q n =
-      none-of (outside (0x454C ∷ 0x4541 ∷ 0x4547 ∷ 0x4543 ∷ 0x4549 ∷ 0x4550 ∷ 0x4553 ∷ 0x4555 ∷ 0x4556 ∷ []) expr-marks mark refl
+      none-of (outside (marks.EL ∷ marks.EA ∷ marks.EG ∷ marks.EC ∷ marks.EI ∷ marks.EP ∷ marks.ES ∷ marks.EU ∷ marks.EV ∷ []) expr-marks mark refl
       (⊎-elim (eqb-false _ _ e) n))
 
   -- no other mark is left
   pub literal-left : ((s : Span) → r ≡ announced (place (literal-fields tree names (TreeForm start) s (start + 10))) 0)
-      → ((mark ≡ 0x4541) ⊎ (mark ≡ 0x4547) → ⊥) → (mark ≡ 0x4543 → ⊥) → (mark ≡ 0x4549 → ⊥) → (mark ≡ 0x4550 → ⊥) → (mark ≡ 0x4553 → ⊥) → (mark ≡ 0x4555 → ⊥) → (mark ≡ 0x4556 → ⊥)
+      → ((mark ≡ marks.EA) ⊎ (mark ≡ marks.EG) → ⊥) → (mark ≡ marks.EC → ⊥) → (mark ≡ marks.EI → ⊥) → (mark ≡ marks.EP → ⊥) → (mark ≡ marks.ES → ⊥) → (mark ≡ marks.EU → ⊥) → (mark ≡ marks.EV → ⊥)
       → Announces tree names mark start r
   literal-left q a b c d e f g =
       other-if _ refl q

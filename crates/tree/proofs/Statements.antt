@@ -27,6 +27,7 @@ use Rattle.tree.specs.declared.Step.{Step}
 use Rattle.tree.specs.declared.Head.{Head}
 use Rattle.tree.proofs.Places.{chain, made, goes, stops, and-then-end, and-then-same, row-one, row-some, stmts-row, methods-row, many-row}
 use Rattle.tree.proofs.Tables.{if-true, known-not, outside, Marked, known-some, known-none, known-is, alike, full-flags, below-is, below-big, below-short}
+use Rattle.fields.specs.Marks as marks
 
 pub moved : {A : Type 0} {a : A} {r : Read A} {n m : ℕ} → r ≡ got a n → n ≡ m → r ≡ got a m
 moved {a = a} e h = e ∙ ap (got a) h
@@ -342,43 +343,43 @@ module _ (tree : List ℕ) (names depth funs start : ℕ) {mark : ℕ} {r : Head
             ap (λ (j : StmtMark). place (stmt-fields tree names (children tree names depth funs) (TreeForm start) j s (start + 10))) z ∙ h s;
       }
 
-  pub by-block : BlockKids tree start funs r → mark ≡ 0x5342 → StmtKids tree names depth funs mark start r
+  pub by-block : BlockKids tree start funs r → mark ≡ marks.SB → StmtKids tree names depth funs mark start r
   unfolding lookup stmt-marks stmt-fields children
-  by-block b e = announce 0x5342 SB refl e (b .whole names depth)
+  by-block b e = announce marks.SB SB refl e (b .whole names depth)
 
-  pub by-class : ClassKids tree names depth start funs r → mark ≡ 0x5343 → StmtKids tree names depth funs mark start r
+  pub by-class : ClassKids tree names depth start funs r → mark ≡ marks.SC → StmtKids tree names depth funs mark start r
   unfolding lookup stmt-marks stmt-fields children
-  by-class b e = announce 0x5343 SC refl e (b .whole)
+  by-class b e = announce marks.SC SC refl e (b .whole)
 
-  pub by-fun : FunKids tree names start (funs - 1) r → mark ≡ 0x5346 → StmtKids tree names depth funs mark start r
+  pub by-fun : FunKids tree names start (funs - 1) r → mark ≡ marks.SF → StmtKids tree names depth funs mark start r
   unfolding lookup stmt-marks stmt-fields children _>>=_
-  by-fun b e = announce 0x5346 SF refl e (λ s. made (fun-fields tree names (read-stmt tree names depth (funs - 1)) (TreeForm start) (start + 10)) _ ∙ b .whole depth)
+  by-fun b e = announce marks.SF SF refl e (λ s. made (fun-fields tree names (read-stmt tree names depth (funs - 1)) (TreeForm start) (start + 10)) _ ∙ b .whole depth)
 
-  pub by-if : IfKids tree start funs r → mark ≡ 0x5349 → StmtKids tree names depth funs mark start r
+  pub by-if : IfKids tree start funs r → mark ≡ marks.SI → StmtKids tree names depth funs mark start r
   unfolding lookup stmt-marks stmt-fields children
-  by-if b e = announce 0x5349 SI refl e (b .whole names depth)
+  by-if b e = announce marks.SI SI refl e (b .whole names depth)
 
-  pub by-for : ForKids tree start funs r → mark ≡ 0x534F → StmtKids tree names depth funs mark start r
+  pub by-for : ForKids tree start funs r → mark ≡ marks.SO → StmtKids tree names depth funs mark start r
   unfolding lookup stmt-marks stmt-fields children
-  by-for b e = announce 0x534F SO refl e (b .whole names depth)
+  by-for b e = announce marks.SO SO refl e (b .whole names depth)
 
-  pub by-return : ReturnKids tree start r → mark ≡ 0x5352 → StmtKids tree names depth funs mark start r
+  pub by-return : ReturnKids tree start r → mark ≡ marks.SR → StmtKids tree names depth funs mark start r
   unfolding lookup stmt-marks stmt-fields children
-  by-return b e = announce 0x5352 SR refl e (b .whole names depth)
+  by-return b e = announce marks.SR SR refl e (b .whole names depth)
 
-  pub by-var : VarKids tree names start r → mark ≡ 0x5356 → StmtKids tree names depth funs mark start r
+  pub by-var : VarKids tree names start r → mark ≡ marks.SV → StmtKids tree names depth funs mark start r
   unfolding lookup stmt-marks stmt-fields children
-  by-var b e = announce 0x5356 SV refl e (b .whole depth)
+  by-var b e = announce marks.SV SV refl e (b .whole depth)
 
-  pub by-expr : r ≡ plain (start + 10) 1 0 funs false → (mark ≡ 0x5345) ⊎ (mark ≡ 0x5350) → StmtKids tree names depth funs mark start r
+  pub by-expr : r ≡ plain (start + 10) 1 0 funs false → (mark ≡ marks.SE) ⊎ (mark ≡ marks.SP) → StmtKids tree names depth funs mark start r
   unfolding lookup stmt-marks stmt-fields children expression-fields print-fields _>>=_
-  by-expr q (inl e) = announce 0x5345 SE refl e (λ s. one-expr tree names depth funs (start + 10) q _)
-  by-expr q (inr e) = announce 0x5350 SP refl e (λ s. one-expr tree names depth funs (start + 10) q _)
+  by-expr q (inl e) = announce marks.SE SE refl e (λ s. one-expr tree names depth funs (start + 10) q _)
+  by-expr q (inr e) = announce marks.SP SP refl e (λ s. one-expr tree names depth funs (start + 10) q _)
 
-  a-while : r ≡ plain (start + 10) 1 1 funs false → mark ≡ 0x5357 → StmtKids tree names depth funs mark start r
+  a-while : r ≡ plain (start + 10) 1 1 funs false → mark ≡ marks.SW → StmtKids tree names depth funs mark start r
   unfolding lookup stmt-marks stmt-fields children while-fields _>>=_ stmt-place
   a-while q e =
-      announce 0x5357 SW refl e
+      announce marks.SW SW refl e
       (λ s. chain (read-expr tree names depth (start + 10)) _ (row (stmt-place tree names depth funs false) 1)
       (λ c n. made (read-stmt tree names depth funs n) _ ∙ sym (row-one (stmt-place tree names depth funs false) n)) ∙
       ap (λ x. and-then x (row (stmt-place tree names depth funs false) 1)) (sym (row-one (e-place tree names depth) (start + 10))) ∙
@@ -392,17 +393,17 @@ module _ (tree : List ℕ) (names depth funs start : ℕ) {mark : ℕ} {r : Head
             let z : _≡_ {A = ℕ} 0 1 = cc in absurd (omega arith);
       }
 
-  other-if : (t : Bool) → eqb mark 0x5357 ≡ t → r ≡ plain (start + 10) 1 1 funs false
-      → (OneOf (0x5342 ∷ 0x5343 ∷ 0x5345 ∷ 0x5350 ∷ 0x5346 ∷ 0x5349 ∷ 0x534F ∷ 0x5352 ∷ 0x5356 ∷ []) mark → ⊥) → StmtKids tree names depth funs mark start r
+  other-if : (t : Bool) → eqb mark marks.SW ≡ t → r ≡ plain (start + 10) 1 1 funs false
+      → (OneOf (marks.SB ∷ marks.SC ∷ marks.SE ∷ marks.SP ∷ marks.SF ∷ marks.SI ∷ marks.SO ∷ marks.SR ∷ marks.SV ∷ []) mark → ⊥) → StmtKids tree names depth funs mark start r
   unfolding all stmt-marks
   other-if true e q n = a-while q (eqb-true _ _ e)
   other-if false e q n =
-      none-of (outside (0x5357 ∷ 0x5342 ∷ 0x5343 ∷ 0x5345 ∷ 0x5350 ∷ 0x5346 ∷ 0x5349 ∷ 0x534F ∷ 0x5352 ∷ 0x5356 ∷ []) stmt-marks mark refl
+      none-of (outside (marks.SW ∷ marks.SB ∷ marks.SC ∷ marks.SE ∷ marks.SP ∷ marks.SF ∷ marks.SI ∷ marks.SO ∷ marks.SR ∷ marks.SV ∷ []) stmt-marks mark refl
       (⊎-elim (eqb-false _ _ e) n))
 
   -- no other mark is left
-  pub while-left : r ≡ plain (start + 10) 1 1 funs false → (mark ≡ 0x5342 → ⊥) → (mark ≡ 0x5343 → ⊥) → ((mark ≡ 0x5345) ⊎ (mark ≡ 0x5350) → ⊥) → (mark ≡ 0x5346 → ⊥)
-      → (mark ≡ 0x5349 → ⊥) → (mark ≡ 0x534F → ⊥) → (mark ≡ 0x5352 → ⊥) → (mark ≡ 0x5356 → ⊥) → StmtKids tree names depth funs mark start r
+  pub while-left : r ≡ plain (start + 10) 1 1 funs false → (mark ≡ marks.SB → ⊥) → (mark ≡ marks.SC → ⊥) → ((mark ≡ marks.SE) ⊎ (mark ≡ marks.SP) → ⊥) → (mark ≡ marks.SF → ⊥)
+      → (mark ≡ marks.SI → ⊥) → (mark ≡ marks.SO → ⊥) → (mark ≡ marks.SR → ⊥) → (mark ≡ marks.SV → ⊥) → StmtKids tree names depth funs mark start r
   while-left q a b c d e f g h =
       other-if _ refl q
       (⊎-elim a (⊎-elim b (⊎-elim (λ x. c (inl x)) (⊎-elim (λ x. c (inr x)) (⊎-elim d (⊎-elim e (⊎-elim f (⊎-elim g h))))))))
@@ -412,46 +413,46 @@ module _ (tree : List ℕ) (names depth funs start : ℕ) {mark : ℕ} {r : Head
 module _ (tree : List ℕ) (names : ℕ) where
   pub super-cut : (depth at : ℕ) → length tree < at + 2 → read-superclass tree names depth at ≡ bad (TreeForm at)
   unfolding read-superclass _>>=_ _>>_ here go-on
-  super-cut zero at h = then-bad _ (mark-is-cut tree (TreeForm at) 0x4556 at h)
-  super-cut (suc depth) at h = then-bad _ (mark-is-cut tree (TreeForm at) 0x4556 at h)
+  super-cut zero at h = then-bad _ (mark-is-cut tree (TreeForm at) marks.EV at h)
+  super-cut (suc depth) at h = then-bad _ (mark-is-cut tree (TreeForm at) marks.EV at h)
 
-  pub super-not : (depth at : ℕ) → at + 2 ≤ length tree → (letters tree at ≡ 0x4556 → ⊥) → read-superclass tree names depth at ≡ bad (TreeForm at)
+  pub super-not : (depth at : ℕ) → at + 2 ≤ length tree → (letters tree at ≡ marks.EV → ⊥) → read-superclass tree names depth at ≡ bad (TreeForm at)
   unfolding read-superclass _>>=_ _>>_ here go-on
-  super-not zero at h n = then-bad _ (mark-is-not tree (TreeForm at) 0x4556 at h n)
-  super-not (suc depth) at h n = then-bad _ (mark-is-not tree (TreeForm at) 0x4556 at h n)
+  super-not zero at h n = then-bad _ (mark-is-not tree (TreeForm at) marks.EV at h n)
+  super-not (suc depth) at h n = then-bad _ (mark-is-not tree (TreeForm at) marks.EV at h n)
 
-  pub super-deep : (depth at : ℕ) → at + 2 ≤ length tree → letters tree at ≡ 0x4556 → depth ≡ 0 → read-superclass tree names depth at ≡ bad (TreeTooDeep at)
+  pub super-deep : (depth at : ℕ) → at + 2 ≤ length tree → letters tree at ≡ marks.EV → depth ≡ 0 → read-superclass tree names depth at ≡ bad (TreeTooDeep at)
   unfolding read-superclass _>>=_ _>>_ here go-on refuse
-  super-deep zero at h e z = then-on _ (mark-is-it tree (TreeForm at) 0x4556 at h e)
+  super-deep zero at h e z = then-on _ (mark-is-it tree (TreeForm at) marks.EV at h e)
   super-deep (suc depth) at h e z = absurd (omega arith)
 
-  pub super-span : (depth at : ℕ) → at + 2 ≤ length tree → letters tree at ≡ 0x4556 → (depth ≡ 0 → ⊥) → length tree < at + 10 → read-superclass tree names depth at ≡ bad (TreeForm at)
+  pub super-span : (depth at : ℕ) → at + 2 ≤ length tree → letters tree at ≡ marks.EV → (depth ≡ 0 → ⊥) → length tree < at + 10 → read-superclass tree names depth at ≡ bad (TreeForm at)
   unfolding read-superclass _>>=_ _>>_ here go-on
   super-span zero at h e z l = absurd (z refl)
   super-span (suc depth) at h e z l =
-      then-on _ (mark-is-it tree (TreeForm at) 0x4556 at h e) ∙ then-bad _ (a-span tree .short (TreeForm at) (at + 2) (omega arith))
+      then-on _ (mark-is-it tree (TreeForm at) marks.EV at h e) ∙ then-bad _ (a-span tree .short (TreeForm at) (at + 2) (omega arith))
 
-  pub super-from : (depth at : ℕ) → letters tree at ≡ 0x4556 → (depth ≡ 0 → ⊥) → at + 10 ≤ length tree
+  pub super-from : (depth at : ℕ) → letters tree at ≡ marks.EV → (depth ≡ 0 → ⊥) → at + 10 ≤ length tree
       → read-superclass tree names depth at ≡ go-on (name tree names (TreeForm at) (at + 10)) (λ n. return (record { span = span-of tree (at + 2); name = n }))
   unfolding read-superclass _>>=_ _>>_ here go-on
   super-from zero at e z l = absurd (z refl)
   super-from (suc depth) at e z l =
       let q : at + 2 + 8 ≡ at + 10 = omega arith in
-      then-on _ (mark-is-it tree (TreeForm at) 0x4556 at (omega arith) e) ∙ then-on _ (a-span tree .whole (TreeForm at) (at + 2) (omega arith)) ∙
+      then-on _ (mark-is-it tree (TreeForm at) marks.EV at (omega arith) e) ∙ then-on _ (a-span tree .whole (TreeForm at) (at + 2) (omega arith)) ∙
       ap (λ (k : ℕ). go-on (name tree names (TreeForm at) k) (λ n. return (record { span = span-of tree (at + 2); name = n }))) q
 
-  pub super-unnamed : (depth at : ℕ) → letters tree at ≡ 0x4556 → (depth ≡ 0 → ⊥) → at + 10 ≤ length tree → name tree names (TreeForm at) (at + 10) ≡ bad (TreeForm at)
+  pub super-unnamed : (depth at : ℕ) → letters tree at ≡ marks.EV → (depth ≡ 0 → ⊥) → at + 10 ≤ length tree → name tree names (TreeForm at) (at + 10) ≡ bad (TreeForm at)
       → read-superclass tree names depth at ≡ bad (TreeForm at)
   super-unnamed depth at e z l n = super-from depth at e z l ∙ then-bad _ n
 
-  pub super-is : (depth at : ℕ) → letters tree at ≡ 0x4556 → (depth ≡ 0 → ⊥) → at + 10 ≤ length tree → {n m : ℕ} → name tree names (TreeForm at) (at + 10) ≡ got n m
+  pub super-is : (depth at : ℕ) → letters tree at ≡ marks.EV → (depth ≡ 0 → ⊥) → at + 10 ≤ length tree → {n m : ℕ} → name tree names (TreeForm at) (at + 10) ≡ got n m
       → read-superclass tree names depth at ≡ got (record { span = span-of tree (at + 2); name = n }) m
   unfolding return
   super-is depth at e z l n = super-from depth at e z l ∙ then-on _ n
 
 -- ## A record
 
-method-letters-if : (m : ℕ) {k : StmtMark} (t : Bool) → eqb m 0x5346 ≡ t → lookup m method-marks ≡ some k → (m ≡ 0x5346) × (k ≡ SF)
+method-letters-if : (m : ℕ) {k : StmtMark} (t : Bool) → eqb m marks.SF ≡ t → lookup m method-marks ≡ some k → (m ≡ marks.SF) × (k ≡ SF)
 unfolding lookup method-marks
 method-letters-if m {k} true e l =
     let q : some SF ≡ some k = rw e at l in
@@ -460,7 +461,7 @@ method-letters-if m {k} false e l =
     let q : _≡_ {A = Option StmtMark} none (some k) = rw e at l in
     let z : _≡_ {A = ℕ} 0 1 = cc in absurd (omega arith)
 
-pub method-letters : (m : ℕ) {k : StmtMark} → lookup m method-marks ≡ some k → (m ≡ 0x5346) × (k ≡ SF)
+pub method-letters : (m : ℕ) {k : StmtMark} → lookup m method-marks ≡ some k → (m ≡ marks.SF) × (k ≡ SF)
 method-letters m l = method-letters-if m _ refl l
 
 -- the mark of a statement, or of a method, that is there
@@ -502,9 +503,9 @@ only p key n (r ∷ rows) h l q =
     let w = if-true (if p (r .1) then eqb (r .0) key else true) (all (λ row. if p (row .1) then eqb (row .0) key else true) rows) h in
     only-if p key n (r .0) (r .1) (lookup n rows) _ refl (w .0) l q (λ l′. only p key n rows (w .1) l′ q)
 
-fun-letters : (m : ℕ) {k : StmtMark} → lookup m stmt-marks ≡ some k → is-fun k ≡ true → m ≡ 0x5346
+fun-letters : (m : ℕ) {k : StmtMark} → lookup m stmt-marks ≡ some k → is-fun k ≡ true → m ≡ marks.SF
 unfolding all stmt-marks is-fun
-fun-letters m l h = only is-fun 0x5346 m stmt-marks refl l h
+fun-letters m l h = only is-fun marks.SF m stmt-marks refl l h
 
 may-open-is : (k : StmtMark) (funs : ℕ) → (is-fun k ≡ true → 0 < funs) → may-open k funs ≡ true
 unfolding may-open is-fun
@@ -519,11 +520,11 @@ may-open-is SR funs h = refl
 may-open-is SV funs h = refl
 may-open-is SW funs h = refl
 
-fun-kind : (m : ℕ) {k : StmtMark} → lookup m stmt-marks ≡ some k → m ≡ 0x5346 → k ≡ SF
+fun-kind : (m : ℕ) {k : StmtMark} → lookup m stmt-marks ≡ some k → m ≡ marks.SF → k ≡ SF
 unfolding lookup stmt-marks
 fun-kind m {k} l e = let q : some k ≡ some SF = sym l ∙ ap (λ (n : ℕ). lookup n stmt-marks) e in cc
 
-fun-look : (m : ℕ) → m ≡ 0x5346 → lookup m stmt-marks ≡ some SF
+fun-look : (m : ℕ) → m ≡ marks.SF → lookup m stmt-marks ≡ some SF
 unfolding lookup stmt-marks
 fun-look m e = ap (λ (n : ℕ). lookup n stmt-marks) e
 
@@ -536,18 +537,18 @@ unfolding need
 need-not x at e = ap (λ (b : Bool). need b x at) e
 
 -- a method's mark, by the table of one row
-method-none-if : (tree : List ℕ) (at : ℕ) {m : ℕ} → m ≡ known-mark method-marks tree at → m ≡ 0 → (t s : Bool) → leb (at + 2) (length tree) ≡ t → eqb (letters tree at) 0x5346 ≡ s
-    → (fault : Refusal) → mark-is tree fault 0x5346 at ≡ bad fault
+method-none-if : (tree : List ℕ) (at : ℕ) {m : ℕ} → m ≡ known-mark method-marks tree at → m ≡ 0 → (t s : Bool) → leb (at + 2) (length tree) ≡ t → eqb (letters tree at) marks.SF ≡ s
+    → (fault : Refusal) → mark-is tree fault marks.SF at ≡ bad fault
 unfolding lookup method-marks
 method-none-if tree at {m} e z true true h l fault =
-    let q : letters tree at ≡ 0x5346 = eqb-true _ _ l in
+    let q : letters tree at ≡ marks.SF = eqb-true _ _ l in
     let w : known-mark method-marks tree at ≡ letters tree at = known-is method-marks tree at (leb-true _ _ h) refl (record { value = SF; is = ap (λ (n : ℕ). lookup n method-marks) q }) in
-    let y : _≡_ {A = ℕ} 0 0x5346 = sym z ∙ e ∙ w ∙ q in absurd (omega arith)
-method-none-if tree at e z true false h l fault = mark-is-not tree fault 0x5346 at (leb-true _ _ h) (eqb-false _ _ l)
-method-none-if tree at e z false s h l fault = mark-is-cut tree fault 0x5346 at (leb-false _ _ h)
+    let y : _≡_ {A = ℕ} 0 marks.SF = sym z ∙ e ∙ w ∙ q in absurd (omega arith)
+method-none-if tree at e z true false h l fault = mark-is-not tree fault marks.SF at (leb-true _ _ h) (eqb-false _ _ l)
+method-none-if tree at e z false s h l fault = mark-is-cut tree fault marks.SF at (leb-false _ _ h)
 
-method-is : (tree : List ℕ) (at : ℕ) {m : ℕ} → Marked method-marks tree at m → (fault : Refusal) → mark-is tree fault 0x5346 at ≡ got tt (at + 2)
-method-is tree at {m} k fault = mark-is-it tree fault 0x5346 at (k .bound) (k .letters-are ∙ method-letters m (k .look) .0)
+method-is : (tree : List ℕ) (at : ℕ) {m : ℕ} → Marked method-marks tree at m → (fault : Refusal) → mark-is tree fault marks.SF at ≡ got tt (at + 2)
+method-is tree at {m} k fault = mark-is-it tree fault marks.SF at (k .bound) (k .letters-are ∙ method-letters m (k .look) .0)
 
 module _ (tree : List ℕ) (names : ℕ) where
   pub no-stmt : (depth funs : ℕ) (method : Bool) (at : ℕ) {m : ℕ} → m ≡ known-stmt method tree at → m ≡ 0 → stmt-place tree names depth funs method at ≡ Step.Bad (TreeForm at)
@@ -563,7 +564,7 @@ module _ (tree : List ℕ) (names : ℕ) where
   deep-stmt zero funs true at k z = ap place (then-on _ (method-is tree at (k .table) (TreeForm at)))
   deep-stmt (suc depth) funs method at k z = absurd (omega arith)
 
-  pub full-stmt : (depth funs : ℕ) (method : Bool) (at : ℕ) {m : ℕ} → StmtMarked tree at method m → (depth ≡ 0 → ⊥) → m ≡ 0x5346 → funs ≡ 0
+  pub full-stmt : (depth funs : ℕ) (method : Bool) (at : ℕ) {m : ℕ} → StmtMarked tree at method m → (depth ≡ 0 → ⊥) → m ≡ marks.SF → funs ≡ 0
       → stmt-place tree names depth funs method at ≡ Step.Bad (TooManyOpen at)
   unfolding stmt-place read-stmt read-method stmt-record method-record stmt-mark _>>=_ _>>_ here go-on may-open place
   full-stmt zero funs method at k z e f = absurd (z refl)
@@ -573,7 +574,7 @@ module _ (tree : List ℕ) (names : ℕ) where
   full-stmt (suc depth) funs true at k z e f =
       ap place (then-on _ (method-is tree at (k .table) (TreeForm at)) ∙ then-bad _ (need-not (TooManyOpen at) (at + 2) (le-ltb 0 funs (omega arith))))
 
-  pub cut-stmt : (depth funs : ℕ) (method : Bool) (at : ℕ) {m : ℕ} → StmtMarked tree at method m → (depth ≡ 0 → ⊥) → (m ≡ 0x5346 → 0 < funs) → length tree < at + 10
+  pub cut-stmt : (depth funs : ℕ) (method : Bool) (at : ℕ) {m : ℕ} → StmtMarked tree at method m → (depth ≡ 0 → ⊥) → (m ≡ marks.SF → 0 < funs) → length tree < at + 10
       → stmt-place tree names depth funs method at ≡ Step.Bad (TreeForm at)
   unfolding stmt-place read-stmt read-method stmt-record method-record stmt-mark _>>=_ _>>_ here go-on place
   cut-stmt zero funs method at k z f h = absurd (z refl)
@@ -587,7 +588,7 @@ module _ (tree : List ℕ) (names : ℕ) where
       then-bad _ (a-span tree .short (TreeForm at) (at + 2) (omega arith)))
 
   -- what follows the span of a record that is there
-  pub stmt-is : (depth funs at : ℕ) {m : ℕ} (k : Marked stmt-marks tree at m) → (depth ≡ 0 → ⊥) → (m ≡ 0x5346 → 0 < funs) → at + 10 ≤ length tree
+  pub stmt-is : (depth funs at : ℕ) {m : ℕ} (k : Marked stmt-marks tree at m) → (depth ≡ 0 → ⊥) → (m ≡ marks.SF → 0 < funs) → at + 10 ≤ length tree
       → read-stmt tree names depth funs at ≡ stmt-fields tree names (children tree names (depth - 1) funs) (TreeForm at) (k .kind) (span-of tree (at + 2)) (at + 10)
   unfolding read-stmt stmt-record stmt-mark children _>>=_ _>>_ here go-on
   stmt-is zero funs at k z f h = absurd (z refl)
@@ -600,7 +601,7 @@ module _ (tree : List ℕ) (names : ℕ) where
       ap (stmt-fields tree names (children tree names depth funs) (TreeForm at) (k .kind) (span-of tree (at + 2))) q ∙
       sym (ap (λ (d : ℕ). stmt-fields tree names (children tree names d funs) (TreeForm at) (k .kind) (span-of tree (at + 2)) (at + 10)) p)
 
-  pub method-has : (depth funs at : ℕ) {m : ℕ} (k : Marked method-marks tree at m) → (depth ≡ 0 → ⊥) → (m ≡ 0x5346 → 0 < funs) → at + 10 ≤ length tree
+  pub method-has : (depth funs at : ℕ) {m : ℕ} (k : Marked method-marks tree at m) → (depth ≡ 0 → ⊥) → (m ≡ marks.SF → 0 < funs) → at + 10 ≤ length tree
       → read-method tree names depth funs at ≡ go-on (fun-fields tree names (read-stmt tree names (depth - 1) (funs - 1)) (TreeForm at) (at + 10)) (λ f. return (span-of tree (at + 2), f))
   unfolding read-method method-record _>>=_ _>>_ here go-on
   method-has zero funs at k z f h = absurd (z refl)
@@ -617,7 +618,7 @@ module _ (tree : List ℕ) (names : ℕ) where
   unfolding follow-head
   opens-bad depth funs method at e = record { whole = e; room = λ plan q. let z : _≡_ {A = ℕ} 0 1 = cc in absurd (omega arith) }
 
-  pub opens-kids : (depth funs : ℕ) (method : Bool) (at : ℕ) {m : ℕ} {r : Head} → StmtMarked tree at method m → (depth ≡ 0 → ⊥) → (m ≡ 0x5346 → 0 < funs) → at + 10 ≤ length tree
+  pub opens-kids : (depth funs : ℕ) (method : Bool) (at : ℕ) {m : ℕ} {r : Head} → StmtMarked tree at method m → (depth ≡ 0 → ⊥) → (m ≡ marks.SF → 0 < funs) → at + 10 ≤ length tree
       → StmtKids tree names (depth - 1) funs m at r → StmtOpens tree names depth funs method at r
   unfolding stmt-place stmt-fields children _>>=_
   opens-kids depth funs false at k z f h a =
@@ -641,14 +642,14 @@ pub some-left : {funs : ℕ} → (funs ≡ 0 → ⊥) → 0 < funs
 some-left h = omega (arith, h)
 
 module _ (tree : List ℕ) where
-  pub known-fun : (method : Bool) (at : ℕ) {m : ℕ} → at + 2 ≤ length tree → m ≡ letters tree at → m ≡ 0x5346 → known-stmt method tree at ≡ m
+  pub known-fun : (method : Bool) (at : ℕ) {m : ℕ} → at + 2 ≤ length tree → m ≡ letters tree at → m ≡ marks.SF → known-stmt method tree at ≡ m
   unfolding known-stmt lookup method-marks
   known-fun true at {m} h e q = known-is method-marks tree at h e (record { value = SF; is = ap (λ (n : ℕ). lookup n method-marks) q })
   known-fun false at {m} h e q = known-is stmt-marks tree at h e (record { value = SF; is = fun-look m q })
 
-  pub known-for-method : {method : Bool} (at : ℕ) {m : ℕ} → method ≡ true → at + 2 ≤ length tree → m ≡ letters tree at → (m ≡ 0x5346 → ⊥) → known-stmt method tree at ≡ 0
+  pub known-for-method : {method : Bool} (at : ℕ) {m : ℕ} → method ≡ true → at + 2 ≤ length tree → m ≡ letters tree at → (m ≡ marks.SF → ⊥) → known-stmt method tree at ≡ 0
   unfolding known-stmt lookup method-marks
-  known-for-method {method} at {m} t h e n = rw t (known-not method-marks tree at h e (rw (ne-eqb m 0x5346 n)))
+  known-for-method {method} at {m} t h e n = rw t (known-not method-marks tree at h e (rw (ne-eqb m marks.SF n)))
 
   pub known-for-stmt : {method : Bool} (at : ℕ) → method ≡ false → known-stmt method tree at ≡ known-mark stmt-marks tree at
   unfolding known-stmt

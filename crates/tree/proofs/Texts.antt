@@ -20,6 +20,7 @@ use Rattle.fields.proofs.Reading.{a-u8, a-u16, then-on, then-bad, mark-is-it, m
 use Rattle.tree.specs.Places.{place}
 use Rattle.tree.specs.Names.{text, last-name, NameRead}
 use Rattle.tree.specs.declared.Step.{Step}
+use Rattle.fields.specs.Marks as marks
 
 -- ## Two texts, from a place on
 
@@ -133,19 +134,19 @@ module _ (tree : List ℕ) (last : Option (List ℕ)) (at : ℕ) where
   abbrev may-stand : List ℕ → Reader (List ℕ)
   may-stand t = need (rises tree last t) (TreeForm at) >> (need (all (differs tree t) fixed-names) (TreeForm at) >> return t)
 
-  name-mark-not : at + 2 ≤ length tree → (letters tree at ≡ 0x4E4D → ⊥) → read-name tree last at ≡ bad (TreeForm at)
+  name-mark-not : at + 2 ≤ length tree → (letters tree at ≡ marks.NM → ⊥) → read-name tree last at ≡ bad (TreeForm at)
   unfolding read-name _>>=_ _>>_ here go-on
-  name-mark-not h n = then-bad _ (mark-is-not tree (TreeForm at) 0x4E4D at h n)
+  name-mark-not h n = then-bad _ (mark-is-not tree (TreeForm at) marks.NM at h n)
 
   name-mark-cut : length tree < at + 2 → read-name tree last at ≡ bad (TreeForm at)
   unfolding read-name _>>=_ _>>_ here go-on
-  name-mark-cut h = then-bad _ (mark-is-cut tree (TreeForm at) 0x4E4D at h)
+  name-mark-cut h = then-bad _ (mark-is-cut tree (TreeForm at) marks.NM at h)
 
-  name-size-cut : at + 2 ≤ length tree → letters tree at ≡ 0x4E4D → length tree < at + 4 → read-name tree last at ≡ bad (TreeForm at)
+  name-size-cut : at + 2 ≤ length tree → letters tree at ≡ marks.NM → length tree < at + 4 → read-name tree last at ≡ bad (TreeForm at)
   unfolding read-name _>>=_ _>>_ here go-on
-  name-size-cut h e l = then-on _ (mark-is-it tree (TreeForm at) 0x4E4D at h e) ∙ then-bad _ (a-u16 tree .short (TreeForm at) (at + 2) (omega arith))
+  name-size-cut h e l = then-on _ (mark-is-it tree (TreeForm at) marks.NM at h e) ∙ then-bad _ (a-u16 tree .short (TreeForm at) (at + 2) (omega arith))
 
-  name-cut-if : (t s : Bool) → leb (at + 2) (length tree) ≡ t → eqb (letters tree at) 0x4E4D ≡ s → length tree < at + 4 → read-name tree last at ≡ bad (TreeForm at)
+  name-cut-if : (t s : Bool) → leb (at + 2) (length tree) ≡ t → eqb (letters tree at) marks.NM ≡ s → length tree < at + 4 → read-name tree last at ≡ bad (TreeForm at)
   name-cut-if true true h e l = name-size-cut (leb-true _ _ h) (eqb-true _ _ e) l
   name-cut-if true false h e l = name-mark-not (leb-true _ _ h) (eqb-false _ _ e)
   name-cut-if false s h e l = name-mark-cut (leb-false _ _ h)
@@ -153,17 +154,17 @@ module _ (tree : List ℕ) (last : Option (List ℕ)) (at : ℕ) where
   pub name-cut : length tree < at + 4 → read-name tree last at ≡ bad (TreeForm at)
   name-cut l = name-cut-if _ _ refl refl l
 
-  pub name-not : at + 4 ≤ length tree → (letters tree at ≡ 0x4E4D → ⊥) → read-name tree last at ≡ bad (TreeForm at)
+  pub name-not : at + 4 ≤ length tree → (letters tree at ≡ marks.NM → ⊥) → read-name tree last at ≡ bad (TreeForm at)
   name-not h n = name-mark-not (omega arith) n
 
-  sized : at + 4 ≤ length tree → letters tree at ≡ 0x4E4D → read-name tree last at ≡ go-on (many (word16 tree (at + 2)) (u8 tree (TreeForm at)) (at + 4)) may-stand
+  sized : at + 4 ≤ length tree → letters tree at ≡ marks.NM → read-name tree last at ≡ go-on (many (word16 tree (at + 2)) (u8 tree (TreeForm at)) (at + 4)) may-stand
   unfolding read-name _>>=_ _>>_ here go-on
   sized h e =
       let q : at + 2 + 2 ≡ at + 4 = omega arith in
-      then-on _ (mark-is-it tree (TreeForm at) 0x4E4D at (omega arith) e) ∙ then-on _ (a-u16 tree .whole (TreeForm at) (at + 2) (omega arith)) ∙
+      then-on _ (mark-is-it tree (TreeForm at) marks.NM at (omega arith) e) ∙ then-on _ (a-u16 tree .whole (TreeForm at) (at + 2) (omega arith)) ∙
       ap (λ (k : ℕ). go-on (many (word16 tree (at + 2)) (u8 tree (TreeForm at)) k) may-stand) q
 
-  module _ (size : ℕ) (h : at + 4 ≤ length tree) (e : letters tree at ≡ 0x4E4D) (w : size ≡ word16 tree (at + 2)) where
+  module _ (size : ℕ) (h : at + 4 ≤ length tree) (e : letters tree at ≡ marks.NM) (w : size ≡ word16 tree (at + 2)) where
     pub text-cut : length tree < at + 4 + size → read-name tree last at ≡ bad (TreeForm at)
     text-cut l = sized h e ∙ then-bad may-stand (ap (λ (k : ℕ). many k (u8 tree (TreeForm at)) (at + 4)) (sym w) ∙ many-short tree (TreeForm at) size (at + 4) h l)
 

@@ -13,10 +13,11 @@ use Rattle.tree.specs.Places.{place, and-then, row, known-mark}
 use Rattle.tree.specs.declared.Step.{Step}
 use Rattle.tree.specs.declared.Plan.{Plan}
 use Rattle.tree.specs.declared.Head.{Head}
+use Rattle.fields.specs.Marks as marks
 
 -- a method is an `SF` and nothing else
 unfoldable pub method-marks : List (ℕ × StmtMark)
-method-marks = (0x5346, SF) ∷ []
+method-marks = (marks.SF, SF) ∷ []
 
 unfoldable pub known-stmt : (method : Bool) → (tree : List ℕ) → (at : ℕ) → ℕ
 known-stmt method tree at = known-mark (if method then method-marks else stmt-marks) tree at

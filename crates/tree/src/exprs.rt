@@ -14,6 +14,7 @@ use crate::Step;
 use crate::small::byte_at;
 use crate::small::count_at;
 use crate::small::name_at;
+use fields::Mark;
 use rules::Refusal;
 
 // The mark of the expression that starts at `at`, or 0 where none does.
@@ -25,8 +26,15 @@ fn expr_mark(tree: &[u8], at: usize) -> u16
     }
     let mark = fields::mark_at(tree, at);
     match mark {
-        0x4541 | 0x4543 | 0x4547 | 0x4549 | 0x454C | 0x4550 | 0x4553 | 0x4555 => mark,
-        0x4556 => mark,
+        Mark::ASSIGN
+        | Mark::CALL
+        | Mark::GET
+        | Mark::INFIX
+        | Mark::LITERAL
+        | Mark::PREFIX
+        | Mark::SET
+        | Mark::SUPER => mark,
+        Mark::VARIABLE => mark,
         _ => 0,
     }
 }
@@ -115,13 +123,13 @@ fn expr_kids(tree: &[u8], names: u16, mark: u16, start: usize) -> Opened
     ensures { λ r. ⌜ Announces (now (tree .entry)) names mark start r ⌝ }
 {
     match mark {
-        0x4541 | 0x4547 => named(tree, names, start, 1),
-        0x4543 => called(tree, start),
-        0x4549 => operated(tree, 12, start, 2),
-        0x4550 => operated(tree, 2, start, 1),
-        0x4553 => named(tree, names, start, 2),
-        0x4555 => named(tree, names, start, 0),
-        0x4556 => named(tree, names, start, 0),
+        Mark::ASSIGN | Mark::GET => named(tree, names, start, 1),
+        Mark::CALL => called(tree, start),
+        Mark::INFIX => operated(tree, 12, start, 2),
+        Mark::PREFIX => operated(tree, 2, start, 1),
+        Mark::SET => named(tree, names, start, 2),
+        Mark::SUPER => named(tree, names, start, 0),
+        Mark::VARIABLE => named(tree, names, start, 0),
         _ => literal(tree, names, start),
     }
 }

@@ -9,6 +9,7 @@ mod names;
 mod small;
 mod stmts;
 
+use fields::Mark;
 use rules::Refusal;
 
 // A field's number, or that it is cut or out of range.
@@ -65,7 +66,7 @@ pub fn read_within(tree: &[u8], depth: usize, funs: usize) -> Checked
     if !fields::has(tree, 0, 6) {
         return Checked::Bad(Refusal::TreeForm(0));
     }
-    if fields::mark_at(tree, 0) != 0x5452 {
+    if fields::mark_at(tree, 0) != Mark::TREE {
         return Checked::Bad(Refusal::TreeForm(0));
     }
     let names = fields::u16_at(tree, 2);

@@ -8,6 +8,7 @@ ghost use Rattle.rules.specs.TreeFile.{differs, fixed-names, rises, read-names}
 ghost use Rattle.tree.specs.Places.{place};
 ghost use Rattle.tree.specs.Names.{last-name, LastFits, NameRead};
 use crate::Step;
+use fields::Mark;
 use rules::Refusal;
 
 // A prefix comes first.
@@ -75,7 +76,7 @@ fn check_name(tree: &[u8], last: usize, at: usize) -> Step
     if !fields::has(tree, at, 4) {
         return Step::Bad(Refusal::TreeForm(at));
     }
-    if fields::mark_at(tree, at) != 0x4E4D {
+    if fields::mark_at(tree, at) != Mark::NAME {
         return Step::Bad(Refusal::TreeForm(at));
     }
     let size = fields::u16_at(tree, at + 2) as usize;

@@ -7,6 +7,7 @@ ghost use Rattle.rules.specs.Reader.{u16};
 ghost use Rattle.rules.specs.TreeFile.{read-superclass};
 ghost use Rattle.tree.specs.Places.{place, row};
 ghost use Rattle.tree.specs.Stmts.{known-stmt, stmt-place, kids-place, plain, body-from, BlockKids, ClassKids, FunKids, IfKids, ForKids, ReturnKids, VarKids, StmtKids, StmtOpens};
+ghost use Rattle.fields.specs.Marks as marks;
 use crate::Field;
 use crate::Head;
 use crate::Plan;
@@ -16,6 +17,7 @@ use crate::small::byte_at;
 use crate::small::count_at;
 use crate::small::name_at;
 use crate::small::names_at;
+use fields::Mark;
 use rules::Refusal;
 
 // The mark of the statement that starts at `at`, or of the method, or 0 where none does.
@@ -26,15 +28,15 @@ fn stmt_mark(tree: &[u8], method: bool, at: usize) -> u16
         return 0;
     }
     let mark = fields::mark_at(tree, at);
-    if mark == 0x5346 {
+    if mark == Mark::FUN {
         return mark;
     }
     if method {
         return 0;
     }
     match mark {
-        0x5342 | 0x5345 | 0x5349 | 0x534F | 0x5352 | 0x5356 => mark,
-        0x5343 | 0x5350 | 0x5357 => mark,
+        Mark::BLOCK | Mark::EXPRESSION | Mark::IF | Mark::FOR | Mark::RETURN | Mark::VAR => mark,
+        Mark::CLASS | Mark::PRINT | Mark::WHILE => mark,
         _ => 0,
     }
 }
@@ -46,7 +48,7 @@ fn superclass(tree: &[u8], names: u16, depth: usize, at: usize) -> Step
     if !fields::has(tree, at, 2) {
         return Step::Bad(Refusal::TreeForm(at));
     }
-    if fields::mark_at(tree, at) != 0x4556 {
+    if fields::mark_at(tree, at) != Mark::VARIABLE {
         return Step::Bad(Refusal::TreeForm(at));
     }
     if depth == 0 {
@@ -190,18 +192,18 @@ fn var_kids(tree: &[u8], names: u16, start: usize, funs: usize) -> Head
 
 // What follows the span, by the mark. `depth` is what the children have.
 fn stmt_kids(tree: &[u8], names: u16, depth: usize, funs: usize, mark: u16, start: usize) -> Head
-    requires { ⌜ (start + 10 ≤ length (now tree)) × (mark ≡ 0x5346 → 0 < funs) ⌝ }
+    requires { ⌜ (start + 10 ≤ length (now tree)) × (mark ≡ marks.SF → 0 < funs) ⌝ }
     ensures { λ r. ⌜ StmtKids (now (tree .entry)) names depth funs mark start r ⌝ }
 {
     match mark {
-        0x5342 => block_kids(tree, start, funs),
-        0x5343 => class_kids(tree, names, depth, start, funs),
-        0x5345 | 0x5350 => planned(start + 10, 1, 0, funs, false),
-        0x5346 => fun_kids(tree, names, start, funs - 1),
-        0x5349 => if_kids(tree, start, funs),
-        0x534F => for_kids(tree, start, funs),
-        0x5352 => return_kids(tree, start, funs),
-        0x5356 => var_kids(tree, names, start, funs),
+        Mark::BLOCK => block_kids(tree, start, funs),
+        Mark::CLASS => class_kids(tree, names, depth, start, funs),
+        Mark::EXPRESSION | Mark::PRINT => planned(start + 10, 1, 0, funs, false),
+        Mark::FUN => fun_kids(tree, names, start, funs - 1),
+        Mark::IF => if_kids(tree, start, funs),
+        Mark::FOR => for_kids(tree, start, funs),
+        Mark::RETURN => return_kids(tree, start, funs),
+        Mark::VAR => var_kids(tree, names, start, funs),
         _ => planned(start + 10, 1, 1, funs, false),
     }
 }
@@ -217,7 +219,7 @@ fn open_stmt(tree: &[u8], names: u16, depth: usize, funs: usize, method: bool, s
     if depth == 0 {
         return Head::Bad(Refusal::TreeTooDeep(start));
     }
-    if mark == 0x5346 {
+    if mark == Mark::FUN {
         if funs == 0 {
             return Head::Bad(Refusal::TooManyOpen(start));
         }

@@ -32,6 +32,7 @@ use Rattle.steps.proofs.emit_op.Reads as emit-op
 use Rattle.steps.proofs.emit_op_name.Reads as emit-op-name
 use Rattle.steps.proofs.get_variable.Reads as get-variable
 use Rattle.steps.proofs.set_variable.Reads as set-variable
+use Rattle.fields.specs.Marks as marks
 
 abbrev pub bytes-left : Measures 4 kinds.ps ℕ
 bytes-left κs a = length (a .0 .now) - a .1 .0
@@ -175,31 +176,31 @@ module _ (t : ℕ) where
 
   -- ## What the mark says in each arm
 
-  pub mark-1 : (c : here lts.Then1 t) → letters (start-1 c .args .tree .now) (start-1 c .args .at) ≡ 0x454C
+  pub mark-1 : (c : here lts.Then1 t) → letters (start-1 c .args .tree .now) (start-1 c .args .at) ≡ marks.EL
   mark-1 c = sym (spanned-1 c .before .mark-at .ensures) ∙ c .if1 .taken
 
-  pub mark-2 : (c : here lts.Then2 t) → letters (start-2 c .args .tree .now) (start-2 c .args .at) ≡ 0x4556
+  pub mark-2 : (c : here lts.Then2 t) → letters (start-2 c .args .tree .now) (start-2 c .args .at) ≡ marks.EV
   mark-2 c = sym (spanned-2 c .before .mark-at .ensures) ∙ c .if2 .taken
 
-  pub mark-3 : (c : here lts.Then3 t) → letters (start-3 c .args .tree .now) (start-3 c .args .at) ≡ 0x4549
+  pub mark-3 : (c : here lts.Then3 t) → letters (start-3 c .args .tree .now) (start-3 c .args .at) ≡ marks.EI
   mark-3 c = sym (spanned-3 c .before .mark-at .ensures) ∙ c .if3 .taken
 
-  pub mark-4 : (c : here lts.Then4 t) → letters (start-4 c .args .tree .now) (start-4 c .args .at) ≡ 0x4550
+  pub mark-4 : (c : here lts.Then4 t) → letters (start-4 c .args .tree .now) (start-4 c .args .at) ≡ marks.EP
   mark-4 c = sym (spanned-4 c .before .mark-at .ensures) ∙ c .if4 .taken
 
-  pub mark-5 : (c : here lts.Then5 t) → letters (start-5 c .args .tree .now) (start-5 c .args .at) ≡ 0x4543
+  pub mark-5 : (c : here lts.Then5 t) → letters (start-5 c .args .tree .now) (start-5 c .args .at) ≡ marks.EC
   mark-5 c = sym (spanned-5 c .before .mark-at .ensures) ∙ c .if5 .taken
 
-  pub mark-6 : (c : here lts.Then6 t) → letters (start-6 c .args .tree .now) (start-6 c .args .at) ≡ 0x4555
+  pub mark-6 : (c : here lts.Then6 t) → letters (start-6 c .args .tree .now) (start-6 c .args .at) ≡ marks.EU
   mark-6 c = sym (spanned-6 c .before .mark-at .ensures) ∙ c .if6 .taken
 
-  pub mark-7 : (c : here lts.Then7 t) → letters (start-7 c .args .tree .now) (start-7 c .args .at) ≡ 0x4541
+  pub mark-7 : (c : here lts.Then7 t) → letters (start-7 c .args .tree .now) (start-7 c .args .at) ≡ marks.EA
   mark-7 c = sym (spanned-7 c .before .mark-at .ensures) ∙ c .if7 .taken
 
-  pub mark-8 : (c : here lts.Then8 t) → letters (start-8 c .args .tree .now) (start-8 c .args .at) ≡ 0x4547
+  pub mark-8 : (c : here lts.Then8 t) → letters (start-8 c .args .tree .now) (start-8 c .args .at) ≡ marks.EG
   mark-8 c = sym (spanned-8 c .before .mark-at .ensures) ∙ c .if8 .taken
 
-  pub mark-9 : (c : here lts.Else8 t) → letters (start-9 c .args .tree .now) (start-9 c .args .at) ≡ 0x4553
+  pub mark-9 : (c : here lts.Else8 t) → letters (start-9 c .args .tree .now) (start-9 c .args .at) ≡ marks.ES
   mark-9 c =
       let e = c .before .before .before in
       let b = e .before .before .before in

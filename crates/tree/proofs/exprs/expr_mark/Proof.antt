@@ -9,6 +9,7 @@ use Rattle.tree.proofs.Tables.{is-some, inside, outside, known-cut, kno
 use borrow.Author.Needs.{needs}
 use Rattle.tree.proofs.exprs.expr_mark.Statement.{statement}
 use Rattle.tree.proofs.exprs.expr_mark.Tie as tie
+use Rattle.fields.specs.Marks as marks
 
 has-requires : tie.Need-has-requires
 has-requires c κs = search needs
@@ -40,21 +41,21 @@ unfolding all lookup expr-marks is-some
 returns-2 c =
     sym (known-is expr-marks (start-of-at-match-keys1 c .args .tree .now) (start-of-at-match-keys1 c .args .at)
     (there (c .before .before .before .has .ensures) (c .before .before .if1 .left)) (c .before .mark-at .ensures)
-    (inside expr-marks (0x4541 ∷ 0x4543 ∷ 0x4547 ∷ 0x4549 ∷ 0x454C ∷ 0x4550 ∷ 0x4553 ∷ 0x4555 ∷ []) (c .before .mark-at .result) refl (c .match .keys1)))
+    (inside expr-marks (marks.EA ∷ marks.EC ∷ marks.EG ∷ marks.EI ∷ marks.EL ∷ marks.EP ∷ marks.ES ∷ marks.EU ∷ []) (c .before .mark-at .result) refl (c .match .keys1)))
 
 returns-3 : tie.Need-returns-3
 unfolding all lookup expr-marks is-some
 returns-3 c =
     sym (known-is expr-marks (start-of-at-match-keys2 c .args .tree .now) (start-of-at-match-keys2 c .args .at)
     (there (c .before .before .before .has .ensures) (c .before .before .if1 .left)) (c .before .mark-at .ensures)
-    (inside expr-marks (0x4556 ∷ []) (c .before .mark-at .result) refl (c .match .keys2)))
+    (inside expr-marks (marks.EV ∷ []) (c .before .mark-at .result) refl (c .match .keys2)))
 
 returns-4 : tie.Need-returns-4
 unfolding all expr-marks
 returns-4 c =
     sym (known-not expr-marks (start-of-at-match-rest c .args .tree .now) (start-of-at-match-rest c .args .at)
     (there (c .before .before .before .has .ensures) (c .before .before .if1 .left)) (c .before .mark-at .ensures)
-    (outside (0x4556 ∷ 0x4541 ∷ 0x4543 ∷ 0x4547 ∷ 0x4549 ∷ 0x454C ∷ 0x4550 ∷ 0x4553 ∷ 0x4555 ∷ []) expr-marks (c .before .mark-at .result) refl (⊎-elim (c .match .rest .1) (c .match .rest .0 .1))))
+    (outside (marks.EV ∷ marks.EA ∷ marks.EC ∷ marks.EG ∷ marks.EI ∷ marks.EL ∷ marks.EP ∷ marks.ES ∷ marks.EU ∷ []) expr-marks (c .before .mark-at .result) refl (⊎-elim (c .match .rest .1) (c .match .rest .0 .1))))
 
 pub expr-mark-spec : {M : Type 1} → statement M
 expr-mark-spec =

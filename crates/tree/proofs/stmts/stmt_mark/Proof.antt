@@ -11,6 +11,7 @@ use Rattle.tree.proofs.Statements.{known-fun, known-for-method, known-f
 use borrow.Author.Needs.{needs}
 use Rattle.tree.proofs.stmts.stmt_mark.Statement.{statement}
 use Rattle.tree.proofs.stmts.stmt_mark.Tie as tie
+use Rattle.fields.specs.Marks as marks
 
 has-requires : tie.Need-has-requires
 has-requires c κs = search needs
@@ -89,7 +90,7 @@ returns-4 c =
     sym (known-for-stmt (start-of-at-match-keys1 c .args .tree .now) (start-of-at-match-keys1 c .args .at) (c .before .if3 .left) ∙ known-is stmt-marks
     (start-of-at-match-keys1 c .args .tree .now) (start-of-at-match-keys1 c .args .at)
     (there (has-of-at-match-keys1 c .has .ensures) (else1-of-at-match-keys1 c .if1 .left)) (c .before .before .before .mark-at .ensures)
-    (inside stmt-marks (0x5342 ∷ 0x5345 ∷ 0x5349 ∷ 0x534F ∷ 0x5352 ∷ 0x5356 ∷ []) (c .before .before .before .mark-at .result) refl (c .match .keys1)))
+    (inside stmt-marks (marks.SB ∷ marks.SE ∷ marks.SI ∷ marks.SO ∷ marks.SR ∷ marks.SV ∷ []) (c .before .before .before .mark-at .result) refl (c .match .keys1)))
 
 returns-5 : tie.Need-returns-5
 unfolding all lookup stmt-marks is-some
@@ -97,7 +98,7 @@ returns-5 c =
     sym (known-for-stmt (start-of-at-match-keys2 c .args .tree .now) (start-of-at-match-keys2 c .args .at) (c .before .if3 .left) ∙ known-is stmt-marks
     (start-of-at-match-keys2 c .args .tree .now) (start-of-at-match-keys2 c .args .at)
     (there (has-of-at-match-keys2 c .has .ensures) (else1-of-at-match-keys2 c .if1 .left)) (c .before .before .before .mark-at .ensures)
-    (inside stmt-marks (0x5343 ∷ 0x5350 ∷ 0x5357 ∷ []) (c .before .before .before .mark-at .result) refl (c .match .keys2)))
+    (inside stmt-marks (marks.SC ∷ marks.SP ∷ marks.SW ∷ []) (c .before .before .before .mark-at .result) refl (c .match .keys2)))
 
 returns-6 : tie.Need-returns-6
 unfolding all stmt-marks
@@ -105,7 +106,7 @@ returns-6 c =
     sym (known-for-stmt (start-of-at-match-rest c .args .tree .now) (start-of-at-match-rest c .args .at) (c .before .if3 .left) ∙ known-not stmt-marks
     (start-of-at-match-rest c .args .tree .now) (start-of-at-match-rest c .args .at)
     (there (has-of-at-match-rest c .has .ensures) (else1-of-at-match-rest c .if1 .left)) (c .before .before .before .mark-at .ensures)
-    (outside (0x5346 ∷ 0x5343 ∷ 0x5350 ∷ 0x5357 ∷ 0x5342 ∷ 0x5345 ∷ 0x5349 ∷ 0x534F ∷ 0x5352 ∷ 0x5356 ∷ []) stmt-marks (c .before .before .before .mark-at .result) refl
+    (outside (marks.SF ∷ marks.SC ∷ marks.SP ∷ marks.SW ∷ marks.SB ∷ marks.SE ∷ marks.SI ∷ marks.SO ∷ marks.SR ∷ marks.SV ∷ []) stmt-marks (c .before .before .before .mark-at .result) refl
     (⊎-elim (c .before .before .if2 .left) (⊎-elim (λ e. c .match .rest .1 (inl e))
     (⊎-elim (λ e. c .match .rest .1 (inr (inl e))) (⊎-elim (λ e. c .match .rest .1 (inr (inr e))) (c .match .rest .0 .1)))))))
 
