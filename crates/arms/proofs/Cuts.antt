@@ -7,10 +7,11 @@ use Rattle.rules.specs.Tree.{Expr, Stmt, Stmts, StmtBlock, StmtFor, StmtFun, St
 use Rattle.rules.specs.Op as op
 use Rattle.rules.specs.Chunk.{CS}
 use Rattle.rules.specs.Compiler.{Compiler, ok, Compile, _>>=_, _>>_, return, done, Function, begin-scope, start-loop, end-scope, patch-jump, emit-op, emit-op-constant, emit-jump, emit-loop, for-cond, for-incr, for-end, define-name, fun-name, method-type, compile-expr, compile-stmt, compile-stmts, compile-function, compile-methods}
-use Rattle.compiler.specs.Stmts.{open-jump, turn-jump}
-use Rattle.compiler.proofs.Monad.{regroup, later}
-use Rattle.compiler.proofs.Jumps.{open-cut, turn-cut}
-use Rattle.parts.specs.Parts.{close-loop, compile-method}
+use Rattle.stmt_jumps.specs.Jumps.{open-jump, turn-jump}
+use Rattle.steps_laws.proofs.Monad.{regroup, later}
+use Rattle.stmt_jumps.proofs.Jumps.{open-cut, turn-cut}
+use Rattle.parts.specs.Parts.{compile-method}
+use Rattle.stmt_jumps.specs.Jumps.{close-loop}
 
 -- ## What follows a step may be another that comes to the same
 

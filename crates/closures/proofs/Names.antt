@@ -22,7 +22,7 @@ use Rattle.steps.specs.declared.Step.the-variants.{Next, Stop}
 use Rattle.steps.proofs.Steps.{seq-ok, seq-err}
 use Rattle.steps.proofs.Views.{view-locals}
 use Rattle.steps.proofs.Scopes.{declare-again, declare-full, declare-new}
-use Rattle.compiler.proofs.Monad.{regroup}
+use Rattle.steps_laws.proofs.Monad.{regroup}
 use Rattle.closures.specs.Functions.{names-at, NamesThere, declare-named, Locally, NamedAs, Named, ParamsDeclared}
 
 -- ## Slot zero

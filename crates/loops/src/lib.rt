@@ -3,11 +3,11 @@ ghost use Prim.Native.Nat.{ℕ};
 ghost use Rattle.steps.specs.View.{mem, Fit};
 ghost use Rattle.loops.specs.Loops.{cond-at, incr-at, CondThere, IncrThere, Conditioned, Incremented};
 use compiler::compile_expr;
-use compiler::open_jump;
 use op::Op;
 use rules::Span;
 use steps::Step;
 use steps::emit_op;
+use stmt_jumps::open_jump;
 
 // The answer of `for_cond`: where to read on or the refusal; whether there is a jump past the loop, and its operand's place.
 pub struct Cond {

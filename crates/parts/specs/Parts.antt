@@ -12,15 +12,9 @@ use Rattle.rules.specs.declared.Refusal.the-variants.{TooManyParams}
 use Rattle.rules.specs.Tree.{Superclass, Fun}
 use Rattle.rules.specs.Op as op
 use Rattle.rules.specs.Chunk.{CS}
-use Rattle.rules.specs.Compiler.{Compile, _>>=_, _>>_, return, done, need, the, is-some, FunctionType, new-ctx, slot-zero, begin-ctx, declare-local, define-local, declare-params, push-class-ctx, emit-op, emit-op-constant, emit-loop, get-variable, define-name, compile-superclass, end-superclass, for-end, implicit-return, end-function, fun-name, method-type, compile-function}
+use Rattle.rules.specs.Compiler.{Compile, _>>=_, _>>_, return, done, need, the, is-some, FunctionType, new-ctx, slot-zero, begin-ctx, declare-local, define-local, declare-params, push-class-ctx, emit-op, emit-op-constant, get-variable, define-name, compile-superclass, end-superclass, implicit-return, end-function, fun-name, method-type, compile-function}
 
 module _ (limit : ℕ) where
-  -- the end of a loop: a `while` has a jump past it always, a `for` where it has a condition
-  unfoldable pub close-loop : (start : ℕ) → (place : Option ℕ) → Span → Compile Unit
-  close-loop start place span = do
-    emit-loop limit start span
-    for-end limit place span
-
   -- a class up to its methods, and after them; `pop-class-ctx` comes last
   unfoldable pub open-class : (name : ℕ) → Option Superclass → (some-methods : Bool) → Span → Compile Unit
   open-class name super- some-methods span = do

@@ -24,7 +24,7 @@ use Rattle.steps.proofs.Returns.{told-type}
 use Rattle.steps.specs.declared.Step.{Step}
 use Rattle.steps.specs.declared.Step.the-variants.{Next, Stop}
 use Rattle.compiler.specs.Exprs.{Somewhere, expr-at, Ran}
-use Rattle.compiler.proofs.Monad.{like, on-to, nothing}
+use Rattle.steps_laws.proofs.Monad.{like, on-to, nothing}
 use Rattle.parts.specs.Output.{funs-left, stmt-at}
 use Rattle.plain.specs.Plain.{StmtSomewhere, Plainly, Flagged, return-kind, may-return}
 use Rattle.plain.proofs.Values.{by-stmt, flagged-no, flagged-yes}

@@ -1,15 +1,11 @@
-// The statements that hold no statement, and the end of a loop. That the bytes are a tree is known: each function says what it does where the rules'
+// The statements that hold no statement. That the bytes are a tree is known: each function says what it does where the rules'
 // reader reads something, and the function of a kind asks for the kind's mark.
 ghost use mathlib.Core.Path.{_≡_};
-ghost use mathlib.Core.Bool.{true};
-ghost use mathlib.Core.Option.{some, none};
-ghost use Prim.Native.Nat.{ℕ, _+_, _≤_, _<_};
-ghost use Rattle.rules.specs.Base.{if_then_else_};
+ghost use Prim.Native.Nat.{ℕ, _<_};
 ghost use Rattle.fields.specs.Words.{letters};
 ghost use Rattle.state.specs.Layout.{levels, Wf};
-ghost use Rattle.steps.specs.View.{mem, Fit, code-len, steady, Did, Tried};
+ghost use Rattle.steps.specs.View.{mem, Fit, steady, Did, Tried};
 ghost use Rattle.parts.specs.Output.{stmt-at};
-ghost use Rattle.parts.specs.Parts.{close-loop};
 ghost use Rattle.plain.specs.Plain.{StmtSomewhere, NoOther, Plainly, Announced, ValueRan, open-var, close-var, may-return};
 ghost use Rattle.fields.specs.Marks as marks;
 use compiler::compile_expr;
@@ -24,42 +20,10 @@ use rules::Span;
 use steps::Step;
 use steps::declare_local;
 use steps::define_local;
-use steps::emit_loop;
 use steps::emit_op;
 use steps::emit_op_name;
 use steps::is_global;
-use steps::patch_jump;
 use steps::return_nothing;
-
-// The end of a loop: the jump back to `start`, and where there is a condition the place that its jump lands on, where the value that it tests is dropped.
-pub fn close_loop(
-    t: &mut [u64],
-    code: &mut [u8],
-    spans: &mut [u32],
-    level: usize,
-    limit: usize,
-    start: usize,
-    has_cond: bool,
-    place: usize,
-    span: Span,
-    next: usize,
-) -> Step
-    requires { ⌜ (Fit (mem (now t) (now code) (now spans)) level limit) × (start ≤ code-len (mem (now t) (now code) (now spans)) level) × («has_cond» ≡ true → place + 2 ≤ code-len (mem (now t) (now code) (now spans)) level) ⌝ }
-    ensures { λ r. ⌜ ((class : ℕ) → Did class limit level next steady (close-loop limit start (if «has_cond» then some place else none) span) (mem (now (t .entry)) (now (code .entry)) (now (spans .entry))) (mem (now (t .exit)) (now (code .exit)) (now (spans .exit))) r) ⌝ }
-{
-    let a = emit_loop(t, code, spans, level, limit, start, span, next);
-    let Step::Next(_) = a else {
-        return a;
-    };
-    if !has_cond {
-        return Step::Next(next);
-    }
-    let b = patch_jump(t, code, spans, level, limit, place, span, next);
-    let Step::Next(_) = b else {
-        return b;
-    };
-    emit_op(t, code, spans, level, limit, Op::POP, span, next)
-}
 
 // ## An expression, and what is done with its value
 

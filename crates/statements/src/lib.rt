@@ -16,8 +16,6 @@ use classes::open_class;
 use closures::close_function;
 use closures::open_function;
 use compiler::compile_expr;
-use compiler::open_jump;
-use compiler::turn_jump;
 use fields::mark_at;
 use fields::span_at;
 use fields::u8_at;
@@ -25,7 +23,6 @@ use fields::u16_at;
 use loops::for_cond;
 use loops::for_incr;
 use op::Op;
-use plain::close_loop;
 use plain::compile_return;
 use plain::compile_var;
 use plain::stmt_expr;
@@ -38,6 +35,9 @@ use steps::define_name;
 use steps::emit_op_name;
 use steps::end_scope;
 use steps::patch_jump;
+use stmt_jumps::close_loop;
+use stmt_jumps::open_jump;
+use stmt_jumps::turn_jump;
 
 // A row of statements, `count` of them.
 pub fn compile_stmts(

@@ -2,10 +2,10 @@
 -- The places first, each over the one before: of a call `-asked` is the place where it is made, `-left` the call from where its areas have come back,
 -- `-went` and `-halted` the call once its answer is known.
 use Rattle.steps.proofs.Steps.{went-to}
-use Rattle.compiler.proofs.Jumps.{open-stop, open-done}
+use Rattle.stmt_jumps.proofs.Jumps.{open-stop, open-done}
 use borrow.Author.Needs.{needs}
-use Rattle.compiler.proofs.open_jump.Statement.{statement}
-use Rattle.compiler.proofs.open_jump.Tie as tie
+use Rattle.stmt_jumps.proofs.open_jump.Statement.{statement}
+use Rattle.stmt_jumps.proofs.open_jump.Tie as tie
 
 abbrev emit-jump-half : tie.After-slice-known6 → tie.After-code
 emit-jump-half c = c .before .before .before

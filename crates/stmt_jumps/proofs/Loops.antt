@@ -12,8 +12,8 @@ use Rattle.steps.specs.View.{Mem, steady, Did}
 use Rattle.steps.proofs.Steps.{went, next, halt, then-on}
 use Rattle.steps.specs.declared.Step.{Step}
 use Rattle.steps.specs.declared.Step.the-variants.{Next, Stop}
-use Rattle.compiler.proofs.Monad.{nothing}
-use Rattle.parts.specs.Parts.{close-loop}
+use Rattle.steps_laws.proofs.Monad.{nothing}
+use Rattle.stmt_jumps.specs.Jumps.{close-loop}
 
 pub there-is : (b : Bool) → not b ≡ false → b ≡ true
 there-is true e = refl

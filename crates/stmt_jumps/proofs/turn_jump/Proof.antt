@@ -2,10 +2,10 @@
 -- The places first, each over the one before: of a call `-asked` is the place where it is made, `-left` the call from where its areas have come back,
 -- `-went` and `-halted` the call once its answer is known.
 use Rattle.steps.proofs.Steps.{went, went-to, still}
-use Rattle.compiler.proofs.Jumps.{turn-stop, turn-stop-2, turn-done}
+use Rattle.stmt_jumps.proofs.Jumps.{turn-stop, turn-stop-2, turn-done}
 use borrow.Author.Needs.{needs}
-use Rattle.compiler.proofs.turn_jump.Statement.{statement}
-use Rattle.compiler.proofs.turn_jump.Tie as tie
+use Rattle.stmt_jumps.proofs.turn_jump.Statement.{statement}
+use Rattle.stmt_jumps.proofs.turn_jump.Tie as tie
 
 abbrev start : tie.After-slice-known3 → tie.Start
 start c = c .before .before .before

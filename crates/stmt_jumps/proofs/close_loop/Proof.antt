@@ -4,9 +4,9 @@ use mathlib.Core.Path.{_≡_}
 use mathlib.Core.Bool.{true}
 use borrow.Author.Needs.{needs}
 use Rattle.steps.proofs.Steps.{went, still}
-use Rattle.plain.proofs.Loops as ways
-use Rattle.plain.proofs.close_loop.Statement.{statement}
-use Rattle.plain.proofs.close_loop.Tie as tie
+use Rattle.stmt_jumps.proofs.Loops as ways
+use Rattle.stmt_jumps.proofs.close_loop.Statement.{statement}
+use Rattle.stmt_jumps.proofs.close_loop.Tie as tie
 
 abbrev start : tie.After-slice-known3 → tie.Start
 start c = c .before .before .before

@@ -1,0 +1,2 @@
+-- Laws of steps that follow one another.
+pub mod Monad
