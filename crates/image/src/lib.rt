@@ -5,6 +5,8 @@ ghost use Prim.Native.Nat.{_+_};
 ghost use Rattle.rules.specs.Checker.{image-of, code-answer};
 ghost use Rattle.rules.specs.Checker as Checker;
 ghost use Rattle.image.specs.Counted.{counted-in, code-place, code-part, Lies};
+use answers::accepted;
+use answers::refused;
 use code::Verdict;
 use fields::Mark;
 use records::Head;
@@ -40,9 +42,9 @@ pub fn check(image: &[u8]) -> Answer
     ensures { λ r. ⌜ r ≡ Checker.check (now (image .entry)) ⌝ }
 {
     let Verdict::Yes(n) = count_of(image) else {
-        return Answer::refused(Refusal::ImageRefused);
+        return refused(Refusal::ImageRefused);
     };
-    Answer::accepted(n)
+    accepted(n)
 }
 
 // Where the code of function `k` stands: 0 with its place in `at`, its end in `end` and its length in `length`; 40 where the bytes are no image,
@@ -52,19 +54,19 @@ pub fn code_part(image: &[u8], k: usize) -> Answer
     ensures { λ r. ⌜ Lies (now (image .entry)) k ⌝ }
 {
     let Verdict::Yes(n) = count_of(image) else {
-        return Answer::refused(Refusal::ImageRefused);
+        return refused(Refusal::ImageRefused);
     };
     if k >= fields::wide32(fields::u32_at(image, 2)) {
-        return Answer::refused(Refusal::NoSuchFunction);
+        return refused(Refusal::NoSuchFunction);
     }
     let Place::At(at) = records::function_place(image, k) else {
-        return Answer::refused(Refusal::ImageRefused);
+        return refused(Refusal::ImageRefused);
     };
     let Place::At(next) = records::skip_function(image, at) else {
-        return Answer::refused(Refusal::ImageRefused);
+        return refused(Refusal::ImageRefused);
     };
     let Head::Is(h) = records::head_of(image, at) else {
-        return Answer::refused(Refusal::ImageRefused);
+        return refused(Refusal::ImageRefused);
     };
     let size = fields::long32(h.code);
     let end = fields::long(next);

@@ -5,6 +5,7 @@ ghost use Rattle.rules.specs.Checker.{span-of};
 ghost use Rattle.rules.specs.Checker as Checker;
 ghost use Rattle.spans.specs.Words.{runs-of};
 ghost use Rattle.spans.specs.Runs.{runs-in};
+use answers::refused;
 use rules::Answer;
 use rules::Refusal;
 
@@ -28,7 +29,7 @@ pub fn span_of_words(words: &[u32], offset: usize) -> Answer
         left -= count;
         at += 3;
     }
-    Answer::refused(Refusal::NoSuchByte)
+    refused(Refusal::NoSuchByte)
 }
 
 // Neighbouring code bytes of one span.
@@ -39,7 +40,7 @@ pub struct Run {
     pub count: u8,
 }
 
-// The number of `refusal NoSuchByte`, where a call of `Answer::refused` would be one more step of a proof that walks the code by hand.
+// The number of `refusal NoSuchByte`, where a call of `answers::refused` would be one more step of a proof that walks the code by hand.
 const NO_SUCH_BYTE: u64 = 42;
 
 // The same over a lent slice of runs.

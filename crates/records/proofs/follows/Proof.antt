@@ -17,7 +17,9 @@ returns-2 : tie.Need-returns-2
 returns-2 c = follows-start (c .before .before .args .start) (c .before .before .args .end) (c .before .before .args .count) (c .before .before .args .a) (c .before .before .args .e) (c .if2 .taken)
 
 returns-3 : tie.Need-returns-3
-returns-3 c = follows-end (c .before .before .args .start) (c .before .before .args .end) (c .before .before .args .count) (c .before .before .args .a) (c .before .before .args .e) (c .before .if1 .left) (c .if2 .left) (eqb (c .before .before .args .e) (c .before .before .args .end)) refl
+returns-3 c =
+    follows-end (c .before .before .args .start) (c .before .before .args .end) (c .before .before .args .count) (c .before .before .args .a)
+    (c .before .before .args .e) (c .before .if1 .left) (c .if2 .left) (eqb (c .before .before .args .e) (c .before .before .args .end)) refl
 
 pub follows-spec : {M : Type 1} → statement M
 follows-spec = tie.close (tie.spec returns returns-2 returns-3)

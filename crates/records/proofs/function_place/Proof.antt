@@ -31,20 +31,61 @@ enum-known-next c = search needs
 enum-told : tie.Need-enum-told Inv-loop μ-loop
 enum-told c = search needs
 
+-- ## Places
+
+abbrev start-of-in-loop : tie.In-loop Inv-loop μ-loop → tie.Start Inv-loop μ-loop
+start-of-in-loop c = c .before .before .before
+
+abbrev start-of-enum-told : tie.After-enum-told Inv-loop μ-loop → tie.Start Inv-loop μ-loop
+start-of-enum-told c = start-of-in-loop (c .before .before .before)
+
+abbrev at-loop-of-in-loop : tie.In-loop Inv-loop μ-loop → tie.At-loop Inv-loop μ-loop
+at-loop-of-in-loop c = c .before
+
+abbrev at-loop-of-enum-told : tie.After-enum-told Inv-loop μ-loop → tie.At-loop Inv-loop μ-loop
+at-loop-of-enum-told c = at-loop-of-in-loop (c .before .before .before)
+
+abbrev in-loop-of-skip-function : tie.After-skip-function Inv-loop μ-loop → tie.In-loop Inv-loop μ-loop
+in-loop-of-skip-function c = c .before
+
+abbrev in-loop-of-known-told : tie.After-known-told Inv-loop μ-loop → tie.In-loop Inv-loop μ-loop
+in-loop-of-known-told c = in-loop-of-skip-function (c .before .before .before)
+
+abbrev start-of-known-told : tie.After-known-told Inv-loop μ-loop → tie.Start Inv-loop μ-loop
+start-of-known-told c = in-loop-of-known-told c .before .before .before
+
+abbrev at-loop-of-known-told : tie.After-known-told Inv-loop μ-loop → tie.At-loop Inv-loop μ-loop
+at-loop-of-known-told c = in-loop-of-known-told c .before
+
+-- ## Needs
+
 returns : tie.Need-returns Inv-loop μ-loop
-returns c = skip-stops (read-function (c .before .before .before .before .before .before .args .s .now)) (c .before .before .before .before .before .before .args .k) (c .before .before .before .before .loop .i) (c .before .before .before .before .loop .at) (c .before .before .before .loop-test .taken) (place-bad (read-function (c .before .before .before .before .before .before .args .s .now) (c .before .before .before .before .loop .at)) (sym (c .enum-told .given .1) ∙ c .before .before .skip-function .ensures)) ∙ sym (c .before .before .before .before .loop .inv .1)
+returns c =
+    skip-stops (read-function (start-of-enum-told c .args .s .now)) (start-of-enum-told c .args .k) (at-loop-of-enum-told c .loop .i)
+    (at-loop-of-enum-told c .loop .at) (c .before .before .before .loop-test .taken)
+    (place-bad (read-function (start-of-enum-told c .args .s .now) (at-loop-of-enum-told c .loop .at))
+    (sym (c .enum-told .given .1) ∙ c .before .before .skip-function .ensures)) ∙ sym (at-loop-of-enum-told c .loop .inv .1)
 
 add-i : tie.Need-add-i Inv-loop μ-loop
-add-i c = omega (arith, c .before .before .before .before .loop-test .taken)
+add-i c = omega (arith, in-loop-of-known-told c .loop-test .taken)
 
 loop-less : tie.Need-loop-less Inv-loop μ-loop
-loop-less c = omega (arith, c .before .before .before .before .loop-test .taken)
+loop-less c = omega (arith, in-loop-of-known-told c .loop-test .taken)
 
 loop-again : tie.Need-loop-again Inv-loop μ-loop
-loop-again c = let t = place-at (read-function (c .before .before .before .before .before .before .before .args .s .now) (c .before .before .before .before .before .loop .at)) (c .before .next .given .0 .0) (sym (c .before .next .given .1) ∙ c .before .before .before .skip-function .ensures) in (omega (arith, c .before .before .before .before .loop-test .taken), c .before .before .before .before .before .loop .inv .1 ∙ skip-goes (read-function (c .before .before .before .before .before .before .before .args .s .now)) (c .before .before .before .before .before .before .before .args .k) (c .before .before .before .before .before .loop .i) (c .before .before .before .before .before .loop .at) (c .before .next .given .0 .0) (t .value) (c .before .before .before .before .loop-test .taken) (t .is))
+loop-again c =
+    let t = place-at (read-function (start-of-known-told c .args .s .now) (at-loop-of-known-told c .loop .at)) (c .before .next .given .0 .0)
+    (sym (c .before .next .given .1) ∙ c .before .before .before .skip-function .ensures) in (
+      omega (arith, in-loop-of-known-told c .loop-test .taken),
+      at-loop-of-known-told c .loop .inv .1 ∙ skip-goes
+          (read-function (start-of-known-told c .args .s .now)) (start-of-known-told c .args .k) (at-loop-of-known-told c .loop .i)
+          (at-loop-of-known-told c .loop .at) (c .before .next .given .0 .0) (t .value) (in-loop-of-known-told c .loop-test .taken) (t .is),
+    )
 
 returns-2 : tie.Need-returns-2 Inv-loop μ-loop
-returns-2 c = skip-none (read-function (c .before .before .before .args .s .now)) (c .before .before .before .args .k) (c .before .loop .i) (c .before .loop .at) (c .loop-test .left) ∙ sym (c .before .loop .inv .1)
+returns-2 c =
+    skip-none (read-function (c .before .before .before .args .s .now)) (c .before .before .before .args .k) (c .before .loop .i) (c .before .loop .at)
+    (c .loop-test .left) ∙ sym (c .before .loop .inv .1)
 
 pub function-place-spec : {M : Type 1} → statement M
 function-place-spec =

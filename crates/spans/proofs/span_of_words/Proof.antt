@@ -56,7 +56,17 @@ long32-requires-2 : tie.Need-long32-requires-2 Inv-loop μ-loop
 long32-requires-2 c κs = search needs
 
 returns : tie.Need-returns Inv-loop μ-loop
-returns c = cc (holds (c .before .before .before .before .before .before .before .before .before .before .args .words .now) (c .before .before .before .before .before .before .before .before .loop .at) (c .before .before .before .before .before .before .before .before .loop .left) (c .before .before .before .before .before .before .before .loop-test .taken) (omega (arith, c .before .before .before .before .if1 .taken, c .before .before .before .before .before .wide32 .ensures .0)), c .before .before .long32 .ensures .0, c .long322 .ensures .0, c .before .before .before .before .before .before .before .before .loop .inv .1)
+returns c =
+    cc (
+      holds (c .before .before .before .before .before .before .before .before .before .before .args .words .now)
+          (c .before .before .before .before .before .before .before .before .loop .at)
+          (c .before .before .before .before .before .before .before .before .loop .left)
+          (c .before .before .before .before .before .before .before .loop-test .taken)
+          (omega (arith, c .before .before .before .before .if1 .taken, c .before .before .before .before .before .wide32 .ensures .0)),
+      c .before .before .long32 .ensures .0,
+      c .long322 .ensures .0,
+      c .before .before .before .before .before .before .before .before .loop .inv .1,
+    )
 
 add-at : tie.Need-add-at Inv-loop μ-loop
 add-at c = omega (arith, c .before .before .before .before .before .before .good, c .before .before .before .loop-test .taken)
@@ -65,7 +75,16 @@ loop-less : tie.Need-loop-less Inv-loop μ-loop
 loop-less c = omega (arith, c .before .before .before .loop-test .taken)
 
 loop-again : tie.Need-loop-again Inv-loop μ-loop
-loop-again c = (omega (arith, c .before .before .before .loop-test .taken), cc (c .before .before .before .before .loop .inv .1, passes (c .before .before .before .before .before .before .args .words .now) (c .before .before .before .before .loop .at) (c .before .before .before .before .loop .left) (c .before .before .before .loop-test .taken) (omega (arith, c .if1 .left, c .before .wide32 .ensures .0)), c .before .wide32 .ensures .0))
+loop-again c = (
+  omega (arith, c .before .before .before .loop-test .taken),
+  cc (
+    c .before .before .before .before .loop .inv .1,
+    passes (c .before .before .before .before .before .before .args .words .now)
+        (c .before .before .before .before .loop .at) (c .before .before .before .before .loop .left) (c .before .before .before .loop-test .taken)
+        (omega (arith, c .if1 .left, c .before .wide32 .ensures .0)),
+    c .before .wide32 .ensures .0,
+  ),
+)
 
 refused-requires : tie.Need-refused-requires Inv-loop μ-loop
 refused-requires c κs = search needs
