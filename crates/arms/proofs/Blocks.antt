@@ -18,7 +18,7 @@ use Rattle.steps.specs.declared.Step.{Step}
 use Rattle.steps.specs.declared.Step.the-variants.{Next, Stop}
 use Rattle.steps.proofs.Steps.{refused-seq, one-up-one-down}
 use Rattle.compiler.specs.Exprs.{There}
-use Rattle.steps_laws.proofs.Monad.{on-to}
+use Rattle.steps.proofs.Monad.{on-to}
 use Rattle.parts.specs.Output.{funs-left, stmt-at, stmts-at, Worked, Walked, Ready}
 use Rattle.parts.proofs.Growing.{Run, Free, of-gave, of-grew, to-grew, run-seq, run-refused-seq, grown, reached, refused, stopped, conclude, worked-like, ready-after}
 use Rattle.arms.proofs.Calls.{further}

@@ -23,7 +23,7 @@ use Rattle.steps.specs.declared.Step.{Step}
 use Rattle.steps.specs.declared.Step.the-variants.{Next, Stop}
 use Rattle.steps.proofs.Steps.{went, valued, stuck, refused-seq}
 use Rattle.compiler.specs.Exprs.{There}
-use Rattle.steps_laws.proofs.Monad.{on-to}
+use Rattle.steps.proofs.Monad.{on-to}
 use Rattle.parts.specs.Output.{funs-left, stmt-at, method-at, methods-at, Grew, Worked, Walked, Ready}
 use Rattle.parts.specs.Parts.{open-class, close-class, compile-method}
 use Rattle.parts.proofs.Growing.{Run, free-steady, of-gave, of-grew, to-grew, run-seq, run-refused-seq, grown, reached, refused, worked, stopped, conclude, ready-after, Onward, onward-start, onward-step, onward-refused, onward-done}

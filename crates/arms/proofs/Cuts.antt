@@ -8,7 +8,7 @@ use Rattle.rules.specs.Op as op
 use Rattle.rules.specs.Chunk.{CS}
 use Rattle.rules.specs.Compiler.{Compiler, ok, Compile, _>>=_, _>>_, return, done, Function, begin-scope, start-loop, end-scope, patch-jump, emit-op, emit-op-constant, emit-jump, emit-loop, for-cond, for-incr, for-end, define-name, fun-name, method-type, compile-expr, compile-stmt, compile-stmts, compile-function, compile-methods}
 use Rattle.stmt_jumps.specs.Jumps.{open-jump, turn-jump}
-use Rattle.steps_laws.proofs.Monad.{regroup, later}
+use Rattle.steps.proofs.Monad.{regroup, later}
 use Rattle.stmt_jumps.proofs.Jumps.{open-cut, turn-cut}
 use Rattle.parts.specs.Parts.{compile-method}
 use Rattle.stmt_jumps.specs.Jumps.{close-loop}

@@ -24,7 +24,7 @@ use Rattle.steps.specs.declared.Step.the-variants.{Next, Stop}
 use Rattle.steps.proofs.Steps.{went, still, valued, stuck, went-to, placed, stuck-to, refused-seq, refused-bind, one-up-one-down}
 use Rattle.compiler.specs.Exprs.{There, expr-at, Ran}
 use Rattle.stmt_jumps.specs.Jumps.{open-jump}
-use Rattle.steps_laws.proofs.Monad.{on-to}
+use Rattle.steps.proofs.Monad.{on-to}
 use Rattle.parts.specs.Output.{funs-left, stmt-at, stmts-at, Grew, Worked, Walked, Ready}
 use Rattle.stmt_jumps.specs.Jumps.{close-loop}
 use Rattle.parts.proofs.Growing.{Run, free-steady, of-gave, of-grew, to-grew, told-run, run-seq, run-bind, run-refused, run-refused-seq, grown, reached, refused, stopped, conclude, ready-after}

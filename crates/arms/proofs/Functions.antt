@@ -25,7 +25,7 @@ use Rattle.steps.specs.declared.Step.{Step}
 use Rattle.steps.specs.declared.Step.the-variants.{Next, Stop}
 use Rattle.steps.proofs.Steps.{seq-ok, seq-err, refused-seq}
 use Rattle.compiler.specs.Exprs.{There}
-use Rattle.steps_laws.proofs.Monad.{on-to}
+use Rattle.steps.proofs.Monad.{on-to}
 use Rattle.parts.specs.Output.{funs-left, stmt-at, stmts-at, fun-at, largest, Holds, Added, more, grow, Grew, WorkedAs, Worked, Walked, Ready}
 use Rattle.parts.specs.Output as output
 use Rattle.parts.specs.Parts.{open-function, close-function, compile-method}

@@ -25,7 +25,7 @@ use Rattle.steps.specs.declared.Step.the-variants.{Next, Stop}
 use Rattle.steps.proofs.Steps.{went, still, valued, stuck, went-to, placed, stuck-to, refused-seq, refused-bind}
 use Rattle.compiler.specs.Exprs.{There, expr-at, Ran}
 use Rattle.stmt_jumps.specs.Jumps.{open-jump, turn-jump}
-use Rattle.steps_laws.proofs.Monad.{on-to}
+use Rattle.steps.proofs.Monad.{on-to}
 use Rattle.parts.specs.Output.{funs-left, stmt-at, stmts-at, Grew, Worked, Walked, Ready}
 use Rattle.parts.proofs.Growing.{Run, free-steady, of-gave, of-grew, to-grew, run-seq, run-bind, run-refused, run-refused-seq, grown, reached, refused, stopped, conclude, ready-after}
 use Rattle.arms.proofs.Cuts.{if-cut}

@@ -16,7 +16,7 @@ use Rattle.steps.specs.View.{Mem, Fit, steady, shallower, Did}
 use Rattle.steps.specs.declared.Step.{Step}
 use Rattle.steps.specs.declared.Step.the-variants.{Next, Stop}
 use Rattle.steps.proofs.Steps.{went, next, halt, then-on, chosen, otherwise}
-use Rattle.steps_laws.proofs.Monad.{nothing}
+use Rattle.steps.proofs.Monad.{nothing}
 use Rattle.parts.specs.Parts.{close-class}
 use Rattle.classes.specs.Classes.{closing, ClassClosed}
 use Rattle.classes.proofs.Heads.{with-super, without-super, no-count, a-count}

@@ -21,7 +21,7 @@ use Rattle.parsed.proofs.Statements.{no-methods, more-methods}
 use Rattle.parts.specs.Parts.{open-class, close-class}
 use Rattle.parts.specs.Output.{more, Grew}
 use Rattle.parts.proofs.Growing.{turned, Run, Free}
-use Rattle.steps_laws.proofs.Monad.{regroup, later}
+use Rattle.steps.proofs.Monad.{regroup, later}
 use Rattle.classes.specs.Classes.{entering, opening, closing}
 
 -- ## The whole

@@ -23,7 +23,7 @@ use Rattle.steps.specs.View.{Mem, mem, Rest, view, top-class, Fit, depth-at, st
 use Rattle.steps.specs.declared.Step.{Step}
 use Rattle.steps.specs.declared.Step.the-variants.{Next, Stop}
 use Rattle.steps.proofs.Steps.{went, valued, next-at, stop, halt, then-on, did-seq, refused-seq, ask-seq, passed, failed, chosen, otherwise, turn}
-use Rattle.steps_laws.proofs.Monad.{stays, nothing, on-to}
+use Rattle.steps.proofs.Monad.{stays, nothing, on-to}
 use Rattle.parts.specs.Parts.{open-class}
 use Rattle.classes.specs.Classes.{inner, entering, scoping, opening, ClassHead, superclass-of, InnerClass, SuperOpened, ClassOpened}
 use Rattle.classes.proofs.Heads.{with-super, without-super, no-count, a-count}

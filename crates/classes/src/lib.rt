@@ -17,15 +17,15 @@ use fields::u16_at;
 use op::Op;
 use rules::Refusal;
 use rules::Span;
+use step_bytes::emit_op;
+use step_bytes::emit_op_name;
+use step_names::define_name;
+use step_names::get_variable;
+use step_scopes::begin_scope;
+use step_scopes::declare_local;
+use step_scopes::define_local;
+use step_scopes::end_scope;
 use steps::Step;
-use steps::begin_scope;
-use steps::declare_local;
-use steps::define_local;
-use steps::define_name;
-use steps::emit_op;
-use steps::emit_op_name;
-use steps::end_scope;
-use steps::get_variable;
 
 // What a method of this name is: `init` is an initializer.
 pub fn method_kind(name: u16) -> u8

@@ -19,7 +19,7 @@ use Rattle.steps.specs.View.{Mem, mem, t-of, Rest, view, Agrees, Fit, code-len,
 use Rattle.steps.specs.declared.Step.{Step}
 use Rattle.steps.specs.declared.Step.the-variants.{Next, Stop}
 use Rattle.steps.proofs.Steps.{went, stuck, halt, then-on, by-name, seq-ok, seq-err, bind-ok}
-use Rattle.steps.proofs.Scopes.{left}
+use Rattle.step_scopes.proofs.Scopes.{left}
 use Rattle.parts.specs.Parts.{close-function}
 use Rattle.parts.specs.Output.{more}
 use Rattle.closures.specs.Functions.{function-at, Filed, Finished, FunctionClosedAs, FunctionClosed}

@@ -8,7 +8,7 @@ use Rattle.rules.specs.declared.Span.{Span}
 use Rattle.rules.specs.declared.Refusal.the-variants.{TooManyParams}
 use Rattle.rules.specs.Tree.{Stmts, fun}
 use Rattle.rules.specs.Compiler.{FunctionType, Compiler, Outcome, ok, err, Compile, go-on, _>>=_, _>>_, need, the, new-ctx, slot-zero, begin-ctx, declare-local, define-local, declare-params, implicit-return, end-function, compile-function-with, compile-function, compile-stmts}
-use Rattle.steps_laws.proofs.Monad.{regroup}
+use Rattle.steps.proofs.Monad.{regroup}
 use Rattle.parts.specs.Parts.{open-function, close-function}
 
 -- what follows the last of some steps follows them all

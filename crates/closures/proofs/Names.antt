@@ -21,8 +21,8 @@ use Rattle.steps.specs.declared.Step.{Step}
 use Rattle.steps.specs.declared.Step.the-variants.{Next, Stop}
 use Rattle.steps.proofs.Steps.{seq-ok, seq-err}
 use Rattle.steps.proofs.Views.{view-locals}
-use Rattle.steps.proofs.Scopes.{declare-again, declare-full, declare-new}
-use Rattle.steps_laws.proofs.Monad.{regroup}
+use Rattle.step_scopes.proofs.Scopes.{declare-again, declare-full, declare-new}
+use Rattle.steps.proofs.Monad.{regroup}
 use Rattle.closures.specs.Functions.{names-at, NamesThere, declare-named, Locally, NamedAs, Named, ParamsDeclared}
 
 -- ## Slot zero

@@ -22,8 +22,8 @@ use Rattle.steps.specs.declared.Step.{Step}
 use Rattle.steps.specs.declared.Step.the-variants.{Next, Stop}
 use Rattle.steps.proofs.Steps.{seq-ok, seq-err}
 use Rattle.steps.proofs.Views.{ahead-kept}
-use Rattle.steps.proofs.Scopes.{entered}
-use Rattle.steps_laws.proofs.Monad.{regroup}
+use Rattle.step_scopes.proofs.Scopes.{entered}
+use Rattle.steps.proofs.Monad.{regroup}
 use Rattle.parts.specs.Parts.{open-function}
 use Rattle.closures.specs.Functions.{names-at, NamesThere, FunHead, declare-named, Locally, NamedAs, Named, ParamsDeclared, Inside, FunctionOpenedAs, FunctionOpened}
 use Rattle.closures.proofs.Names.{kept-on, named-on, named-stop}

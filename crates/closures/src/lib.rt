@@ -15,12 +15,12 @@ use op::Op;
 use rules::Refusal;
 use rules::Span;
 use state::Table;
+use step_bytes::emit_constant;
+use step_bytes::emit_op;
+use step_bytes::function_word;
+use step_returns::emit_upvalues;
+use step_returns::implicit_return;
 use steps::Step;
-use steps::emit_constant;
-use steps::emit_op;
-use steps::emit_upvalues;
-use steps::function_word;
-use steps::implicit_return;
 use writer::put_function;
 
 // The image writer's words: how many functions are finished, and how long their records are.

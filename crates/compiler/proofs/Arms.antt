@@ -28,7 +28,7 @@ use Rattle.steps.specs.declared.Step.{Step}
 use Rattle.steps.specs.declared.Step.the-variants.{Next, Stop}
 use Rattle.compiler.specs.Exprs.{There, Somewhere, expr-at, Ran, PrefixOp, before-right, after-right, BegunAs, BegunBy, Begun, Closed, callee-of, parts, first-part, part-count, call-open}
 use Rattle.compiler.specs.Exprs.{call-close, CallOpened, CallParts, CallClosed}
-use Rattle.steps_laws.proofs.Monad.{like, on-to}
+use Rattle.steps.proofs.Monad.{like, on-to}
 use Rattle.compiler.proofs.Operators.{infix-cut}
 use Rattle.compiler.proofs.Calls.{call-cut, first-on, parts-read, Walk, walk-stop, walk-done}
 use Rattle.fields.specs.Marks as marks

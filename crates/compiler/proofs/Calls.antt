@@ -29,7 +29,7 @@ use Rattle.steps.specs.declared.Step.{Step}
 use Rattle.steps.specs.declared.Step.the-variants.{Next, Stop}
 use Rattle.compiler.specs.Exprs.{There, expr-at, Ran, Callee, on-object, on-super, on-value, callee-of, parts, first-part, part-count, open-callee, call-open, call-close, CallOpened, CallParts}
 use Rattle.compiler.specs.Exprs.{CallClosed}
-use Rattle.steps_laws.proofs.Monad.{regroup, nothing, stays}
+use Rattle.steps.proofs.Monad.{regroup, nothing, stays}
 use Rattle.fields.specs.Marks as marks
 
 -- ## The parts make the whole

@@ -20,7 +20,7 @@ use Rattle.steps.proofs.Steps.{went, went-to, placed, stuck, stuck-to, still, g
 use Rattle.steps.specs.declared.Step.{Step}
 use Rattle.steps.specs.declared.Step.the-variants.{Next, Stop}
 use Rattle.compiler.specs.Exprs.{PrefixOp, InfixOp, before-right, after-right, BegunAs, BegunBy, Begun, Closed}
-use Rattle.steps_laws.proofs.Monad.{returned, cut-and, cut-or}
+use Rattle.steps.proofs.Monad.{returned, cut-and, cut-or}
 
 same-some : {A : Type 0} {a b : A} → some a ≡ some b → a ≡ b
 same-some e = cc

@@ -19,8 +19,8 @@ use rules::Refusal;
 use rules::Span;
 use state::LEVELS;
 use statements::compile_stmts;
+use step_bytes::emit_op;
 use steps::Step;
-use steps::emit_op;
 use tree::Checked;
 use tree::Script;
 use writer::put_le;
@@ -115,7 +115,7 @@ fn compile_sound(
 {
     let limit = least(least(code.len(), spans.len() / 3), MAX_CODE);
     areas::clear8(out);
-    steps::begin_script(t);
+    step_returns::begin_script(t);
     let r = compile_script(
         tree,
         script.at,

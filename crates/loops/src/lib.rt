@@ -5,8 +5,8 @@ ghost use Rattle.loops.specs.Loops.{cond-at, incr-at, CondThere, IncrThe
 use compiler::compile_expr;
 use op::Op;
 use rules::Span;
+use step_bytes::emit_op;
 use steps::Step;
-use steps::emit_op;
 use stmt_jumps::open_jump;
 
 // The answer of `for_cond`: where to read on or the refusal; whether there is a jump past the loop, and its operand's place.

@@ -20,11 +20,11 @@ use Rattle.parsed.proofs.Statements.{SomeAt, return-at}
 use Rattle.state.specs.Layout.{type-of}
 use Rattle.steps.specs.View.{Mem, steady, Did, Tried}
 use Rattle.steps.proofs.Steps.{valued, next, stop, halt, then-on, ask, ask-refused}
-use Rattle.steps.proofs.Returns.{told-type}
+use Rattle.step_returns.proofs.Returns.{told-type}
 use Rattle.steps.specs.declared.Step.{Step}
 use Rattle.steps.specs.declared.Step.the-variants.{Next, Stop}
 use Rattle.compiler.specs.Exprs.{Somewhere, expr-at, Ran}
-use Rattle.steps_laws.proofs.Monad.{like, on-to, nothing}
+use Rattle.steps.proofs.Monad.{like, on-to, nothing}
 use Rattle.parts.specs.Output.{funs-left, stmt-at}
 use Rattle.plain.specs.Plain.{StmtSomewhere, Plainly, Flagged, return-kind, may-return}
 use Rattle.plain.proofs.Values.{by-stmt, flagged-no, flagged-yes}

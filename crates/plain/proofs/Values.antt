@@ -21,7 +21,7 @@ use Rattle.steps.proofs.Steps.{valued, halt, then-on, by-name}
 use Rattle.steps.specs.declared.Step.{Step}
 use Rattle.steps.specs.declared.Step.the-variants.{Next, Stop}
 use Rattle.compiler.specs.Exprs.{There, Somewhere, expr-at, Ran}
-use Rattle.steps_laws.proofs.Monad.{on-to}
+use Rattle.steps.proofs.Monad.{on-to}
 use Rattle.parts.specs.Output.{funs-left, stmt-at}
 use Rattle.plain.specs.Plain.{StmtSomewhere, NoOther, Plainly, Flagged, Announced, ValueRan}
 use Rattle.fields.specs.Marks as marks

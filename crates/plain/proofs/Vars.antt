@@ -19,7 +19,7 @@ use Rattle.steps.specs.View.{Mem, mem, Fit, steady, Did, Told, Changed, Tried}
 use Rattle.steps.proofs.Steps.{went, valued, next, halt, then-on, ask, chosen, otherwise}
 use Rattle.steps.specs.declared.Step.{Step}
 use Rattle.steps.specs.declared.Step.the-variants.{Next, Stop}
-use Rattle.steps_laws.proofs.Monad.{like, on-to, nothing}
+use Rattle.steps.proofs.Monad.{like, on-to, nothing}
 use Rattle.parts.specs.Output.{funs-left, stmt-at}
 use Rattle.plain.specs.Plain.{StmtSomewhere, Plainly, Flagged, Announced, ValueRan, open-var, close-var}
 use Rattle.plain.proofs.Values.{by-stmt}

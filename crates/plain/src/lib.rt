@@ -17,13 +17,13 @@ use fields::u16_at;
 use op::Op;
 use rules::Refusal;
 use rules::Span;
+use step_bytes::emit_op;
+use step_bytes::emit_op_name;
+use step_returns::return_nothing;
+use step_scopes::declare_local;
+use step_scopes::define_local;
+use step_scopes::is_global;
 use steps::Step;
-use steps::declare_local;
-use steps::define_local;
-use steps::emit_op;
-use steps::emit_op_name;
-use steps::is_global;
-use steps::return_nothing;
 
 // ## An expression, and what is done with its value
 

@@ -11,7 +11,7 @@ use Rattle.steps.proofs.Steps.{went, went-to, placed, stuck, stuck-to, still, g
 use Rattle.steps.specs.declared.Step.{Step}
 use Rattle.steps.specs.declared.Step.the-variants.{Next, Stop}
 use Rattle.stmt_jumps.specs.Jumps.{open-jump, turn-jump}
-use Rattle.steps_laws.proofs.Monad.{returned, cut-and, cut-later}
+use Rattle.steps.proofs.Monad.{returned, cut-and, cut-later}
 
 module _ {class limit l : ℕ} where
   stopped-to : {m : Compile ℕ} {before now : Mem} {r : Step} {x : Refusal} → r ≡ Stop x → Refused class l m before x → Opened class limit l steady m before now r

@@ -12,7 +12,7 @@ use Rattle.steps.specs.View.{Mem, steady, Did}
 use Rattle.steps.proofs.Steps.{went, next, halt, then-on}
 use Rattle.steps.specs.declared.Step.{Step}
 use Rattle.steps.specs.declared.Step.the-variants.{Next, Stop}
-use Rattle.steps_laws.proofs.Monad.{nothing}
+use Rattle.steps.proofs.Monad.{nothing}
 use Rattle.stmt_jumps.specs.Jumps.{close-loop}
 
 pub there-is : (b : Bool) → not b ≡ false → b ≡ true

@@ -8,11 +8,11 @@ ghost use Rattle.steps.specs.View.{mem, Fit, code-len, steady, Did, Opened};
 ghost use Rattle.stmt_jumps.specs.Jumps.{open-jump, turn-jump, close-loop};
 use op::Op;
 use rules::Span;
+use step_bytes::emit_op;
+use step_jumps::emit_jump;
+use step_jumps::emit_loop;
+use step_jumps::patch_jump;
 use steps::Step;
-use steps::emit_jump;
-use steps::emit_loop;
-use steps::emit_op;
-use steps::patch_jump;
 
 // A jump past what follows where the value on the stack is false, and that value is dropped. The answer's value is the place of the jump's operand.
 pub fn open_jump(

@@ -28,10 +28,10 @@ use Rattle.fields.proofs.mark_at.Reads as mark-at
 use Rattle.fields.proofs.span_at.Reads as span-at
 use Rattle.fields.proofs.u16_at.Reads as u16-at
 use Rattle.fields.proofs.u8_at.Reads as u8-at
-use Rattle.steps.proofs.emit_op.Reads as emit-op
-use Rattle.steps.proofs.emit_op_name.Reads as emit-op-name
-use Rattle.steps.proofs.get_variable.Reads as get-variable
-use Rattle.steps.proofs.set_variable.Reads as set-variable
+use Rattle.step_bytes.proofs.emit_op.Reads as emit-op
+use Rattle.step_bytes.proofs.emit_op_name.Reads as emit-op-name
+use Rattle.step_names.proofs.get_variable.Reads as get-variable
+use Rattle.step_names.proofs.set_variable.Reads as set-variable
 use Rattle.fields.specs.Marks as marks
 
 abbrev pub bytes-left : Measures 4 kinds.ps ℕ

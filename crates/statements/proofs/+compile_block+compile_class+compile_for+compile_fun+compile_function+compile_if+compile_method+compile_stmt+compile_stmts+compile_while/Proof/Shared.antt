@@ -53,12 +53,12 @@ use Rattle.classes.proofs.open_class.Reads as open-class-reads
 use Rattle.closures.proofs.open_function.Reads as open-function-reads
 use Rattle.plain.proofs.stmt_expr.Reads as stmt-expr-reads
 use Rattle.plain.proofs.stmt_print.Reads as stmt-print-reads
-use Rattle.steps.proofs.begin_scope.Reads as begin-scope-reads
-use Rattle.steps.proofs.code_length.Reads as code-length-reads
-use Rattle.steps.proofs.define_name.Reads as define-name-reads
-use Rattle.steps.proofs.emit_op_name.Reads as emit-op-name-reads
-use Rattle.steps.proofs.end_scope.Reads as end-scope-reads
-use Rattle.steps.proofs.patch_jump.Reads as patch-jump-reads
+use Rattle.step_scopes.proofs.begin_scope.Reads as begin-scope-reads
+use Rattle.step_jumps.proofs.code_length.Reads as code-length-reads
+use Rattle.step_names.proofs.define_name.Reads as define-name-reads
+use Rattle.step_bytes.proofs.emit_op_name.Reads as emit-op-name-reads
+use Rattle.step_scopes.proofs.end_scope.Reads as end-scope-reads
+use Rattle.step_jumps.proofs.patch_jump.Reads as patch-jump-reads
 use mathlib.Core.Path.{_≡_}
 use lib.ListN.{length}
 use Rattle.fields.specs.Words.{word16}

@@ -58,12 +58,12 @@ use Rattle.classes.proofs.open_class.Reads as open-class-reads
 use Rattle.closures.proofs.open_function.Reads as open-function-reads
 use Rattle.plain.proofs.stmt_expr.Reads as stmt-expr-reads
 use Rattle.plain.proofs.stmt_print.Reads as stmt-print-reads
-use Rattle.steps.proofs.begin_scope.Reads as begin-scope-reads
-use Rattle.steps.proofs.code_length.Reads as code-length-reads
-use Rattle.steps.proofs.define_name.Reads as define-name-reads
-use Rattle.steps.proofs.emit_op_name.Reads as emit-op-name-reads
-use Rattle.steps.proofs.end_scope.Reads as end-scope-reads
-use Rattle.steps.proofs.patch_jump.Reads as patch-jump-reads
+use Rattle.step_scopes.proofs.begin_scope.Reads as begin-scope-reads
+use Rattle.step_jumps.proofs.code_length.Reads as code-length-reads
+use Rattle.step_names.proofs.define_name.Reads as define-name-reads
+use Rattle.step_bytes.proofs.emit_op_name.Reads as emit-op-name-reads
+use Rattle.step_scopes.proofs.end_scope.Reads as end-scope-reads
+use Rattle.step_jumps.proofs.patch_jump.Reads as patch-jump-reads
 use Rattle.statements.proofs.+compile_block+compile_class+compile_for+compile_fun+compile_function+compile_if+compile_method+compile_stmt+compile_stmts+compile_while.Proof.Shared.{μ-compile-block, μ-compile-class, μ-compile-for, μ-compile-fun, μ-compile-function, μ-compile-if, μ-compile-method, μ-compile-stmt, μ-compile-stmts, μ-compile-while, compile-block-at, compile-block-below, compile-block-claims, compile-class-at, compile-class-below, compile-class-claims, compile-for-at, compile-for-below, compile-for-claims, compile-fun-at, compile-fun-below, compile-fun-claims, compile-function-at, compile-function-below, compile-function-claims, compile-if-at, compile-if-below, compile-if-claims, compile-method-at, compile-method-below, compile-method-claims, compile-stmt-at, compile-stmt-below, compile-stmt-claims, compile-stmts-at, compile-stmts-below, compile-stmts-claims, compile-while-at, compile-while-below, compile-while-claims, compile-class-Inv-loop, compile-class-μ-loop, compile-stmts-Inv-loop, compile-stmts-μ-loop}
 
 pub compile-stmt-mark-at-requires : (t : ℕ) → compile-stmt-lts.Need-mark-at-requires (compile-stmt-claims t) (compile-stmt-at t) compile-stmt.Post

@@ -1,2 +1,0 @@
--- Laws of steps that follow one another.
-pub mod Monad

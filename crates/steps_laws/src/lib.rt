@@ -1,1 +1,0 @@
-// Laws of steps that follow one another, in proofs/. There is no code here.
