@@ -41,13 +41,13 @@ fn declare_named(t: &mut [u64], level: usize, name: u16, span: Span, next: usize
     requires { ⌜ (level < levels) × (Wf (now t)) ⌝ }
     ensures { λ r. ⌜ Named level next (declare-named name span) (now (t .entry)) (now (t .exit)) r ⌝ }
 {
-    let r = state::declare_local(t, level, name);
+    let r = state_names::declare_local(t, level, name);
     match r {
         state::Declared::Done => {}
         state::Declared::Already => return Step::Stop(Refusal::AlreadyDefined(span, name)),
         state::Declared::Full => return Step::Stop(Refusal::TooManyLocals(span)),
     }
-    state::define_local(t, level);
+    state_names::define_local(t, level);
     Step::Next(next)
 }
 
@@ -94,7 +94,7 @@ pub fn open_function(
     if 255 < count {
         return Step::Stop(Refusal::TooManyParams(span));
     }
-    state::begin_ctx(t, level, name, (count % 256) as u8, kind);
+    state_levels::begin_ctx(t, level, name, (count % 256) as u8, kind);
     let a = declare_named(t, level + 1, slot_zero(name, kind), span, 0);
     let Step::Next(_) = a else {
         return a;
@@ -169,6 +169,6 @@ pub fn close_function(
     };
     let number = t[Table::FUNCTIONS] as u32;
     finish(t, &code[..], &spans[..], out, level + 1);
-    state::end_ctx(t, level + 1);
+    state_levels::end_ctx(t, level + 1);
     emit_closure(t, code, spans, level, limit, number, span, next)
 }

@@ -23,7 +23,7 @@ pub fn emit_op(
     requires { ⌜ Fit (mem (now t) (now code) (now spans)) level limit ⌝ }
     ensures { λ r. ⌜ ((class : ℕ) → Did class limit level next steady (emit-op limit byte span) (mem (now (t .entry)) (now (code .entry)) (now (spans .entry))) (mem (now (t .exit)) (now (code .exit)) (now (spans .exit))) r) ⌝ }
 {
-    let r = state::emit_u8(t, code, spans, level, limit, byte, span);
+    let r = state_code::emit_u8(t, code, spans, level, limit, byte, span);
     let state::Emitted::Done = r else {
         return Step::Stop(Refusal::CodeFull);
     };
@@ -65,7 +65,7 @@ pub fn emit_constant(
     requires { ⌜ Fit (mem (now t) (now code) (now spans)) level limit ⌝ }
     ensures { λ r. ⌜ ((class : ℕ) → Did class limit level next steady (emit-constant limit (constantOf w) span) (mem (now (t .entry)) (now (code .entry)) (now (spans .entry))) (mem (now (t .exit)) (now (code .exit)) (now (spans .exit))) r) ⌝ }
 {
-    let r = state::write_constant(t, level, w);
+    let r = state_code::write_constant(t, level, w);
     let state::Constanted::At(place) = r else {
         return Step::Stop(Refusal::TooManyConstants(span));
     };

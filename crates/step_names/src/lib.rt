@@ -22,13 +22,13 @@ pub fn resolve(t: &mut [u64], level: usize, name: u16, span: Span) -> Place
     requires { ⌜ (level < levels) × (Wf (now t)) ⌝ }
     ensures { λ r. ⌜ Placed level name span (now (t .entry)) (now (t .exit)) r ⌝ }
 {
-    let slot = state::resolve_local(t, level, name, false);
+    let slot = state_names::resolve_local(t, level, name, false);
     match slot {
         state::Slot::At(i) => return Place::Local(i),
         state::Slot::Unready => return Place::Nowhere(Refusal::AccessInsideInitializer(span, name)),
         state::Slot::Nothing => {}
     }
-    let up = state::resolve_upvalue(t, level, name);
+    let up = state_names::resolve_upvalue(t, level, name);
     match up {
         state::Up::At(i) => Place::Upvalue(i),
         state::Up::Nothing => Place::Global,

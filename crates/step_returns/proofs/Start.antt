@@ -10,7 +10,7 @@ use lib.Seq.{getD-set-same, getD-set-other}
 use Rattle.state.specs.Layout.{levels, code-end-at, runs-end-at, image-at, row, stack, localOf, upvalueOf, constantOf, runAt, type-of, codeFrom, runsFrom, codeEnd, runsEnd, chunkAt, ctxAt, parentsOf, Wf, upvalues-place, upvalue-count-place, constants-place, constant-count-place, depth-place, code-from-place, runs-from-place, name-place, arity-place, type-place, level-words}
 use Rattle.state.specs.Contracts.{Blank}
 use Rattle.state.proofs.Laws.{wf-plain}
-use Rattle.state.proofs.Clearing.{zero-still}
+use Rattle.state_levels.proofs.Clearing.{zero-still}
 use Rattle.steps.specs.View.{view, Started}
 
 empty-row : {A : Type 0} (f : ℕ → A) (n : ℕ) → n ≡ 0 → row f n ≡ []

@@ -160,7 +160,7 @@ pub fn begin_script(t: &mut [u64])
     requires { ⌜ length (now t) ≡ table-words ⌝ }
     ensures { λ r. ⌜ Started (now (t .exit)) ⌝ }
 {
-    state::clear_levels(t);
+    state_levels::clear_levels(t);
     t[Table::NAME] = 3;
     t[Table::CODE_FROM] = 0;
     t[Table::RUNS_FROM] = 0;

@@ -19,7 +19,7 @@ pub fn begin_scope(t: &mut [u64], level: usize)
     ensures { λ r. ⌜ Changed level deeper begin-scope (now (t .entry)) (now (t .exit)) ⌝ }
 {
     let depth = t[level * Table::LEVEL_WORDS + Table::DEPTH];
-    state::move_scope(t, level, depth + 1);
+    state_levels::move_scope(t, level, depth + 1);
 }
 
 pub fn is_global(t: &[u64], level: usize) -> bool
@@ -33,7 +33,7 @@ pub fn declare_local(t: &mut [u64], level: usize, name: u16, span: Span, next: u
     requires { ⌜ (level < levels) × (Wf (now t)) ⌝ }
     ensures { λ r. ⌜ Tried level next steady (declare-local name span) (now (t .entry)) (now (t .exit)) r ⌝ }
 {
-    let r = state::declare_local(t, level, name);
+    let r = state_names::declare_local(t, level, name);
     match r {
         state::Declared::Done => Step::Next(next),
         state::Declared::Already => Step::Stop(Refusal::AlreadyDefined(span, name)),
@@ -45,7 +45,7 @@ pub fn define_local(t: &mut [u64], level: usize)
     requires { ⌜ (level < levels) × (Wf (now t)) ⌝ }
     ensures { λ r. ⌜ Changed level steady define-local (now (t .entry)) (now (t .exit)) ⌝ }
 {
-    state::define_local(t, level);
+    state_names::define_local(t, level);
 }
 
 // The instruction that drops a local: CLOSE_UPVALUE where it was captured.
@@ -79,11 +79,11 @@ pub fn pop_local(
     if w / 65536 / 2 / 2 <= depth {
         return Popped::Stop;
     }
-    let done = state::emit_u8(t, code, spans, level, limit, drop_op(w), span);
+    let done = state_code::emit_u8(t, code, spans, level, limit, drop_op(w), span);
     let state::Emitted::Done = done else {
         return Popped::Full;
     };
-    state::drop_local(t, level);
+    state_names::drop_local(t, level);
     Popped::More
 }
 
@@ -100,7 +100,7 @@ pub fn end_scope(
     ensures { λ r. ⌜ ((class : ℕ) → Did class limit level next shallower (end-scope limit span) (mem (now (t .entry)) (now (code .entry)) (now (spans .entry))) (mem (now (t .exit)) (now (code .exit)) (now (spans .exit))) r) ⌝ }
 {
     let depth = t[level * Table::LEVEL_WORDS + Table::DEPTH];
-    state::move_scope(t, level, depth - 1);
+    state_levels::move_scope(t, level, depth - 1);
     loop {
         let step = pop_local(t, code, spans, level, limit, span);
         match step {
@@ -116,7 +116,7 @@ pub fn begin_ctx(t: &mut [u64], level: usize, name: u16, arity: u8, kind: u8)
     requires { ⌜ (level + 1 < levels) × (Wf (now t)) × (getD (now t) (level * level-words + depth-place) 0 < deepest) ⌝ }
     ensures { λ r. ⌜ Entered level name arity kind (now (t .entry)) (now (t .exit)) ⌝ }
 {
-    state::begin_ctx(t, level, name, arity, kind);
+    state_levels::begin_ctx(t, level, name, arity, kind);
 }
 
 // The function is finished: its level's words stay, its code and runs are no more. Who calls this has taken what the image needs of it, and counts it.
@@ -124,5 +124,5 @@ pub fn end_ctx(t: &mut [u64], level: usize)
     requires { ⌜ (0 < level) × (level < levels) × (Wf (now t)) ⌝ }
     ensures { λ r. ⌜ Left level (now (t .entry)) (now (t .exit)) ⌝ }
 {
-    state::end_ctx(t, level);
+    state_levels::end_ctx(t, level);
 }

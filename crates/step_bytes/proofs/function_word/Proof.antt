@@ -1,6 +1,6 @@
 -- `function_word` meets its contract. Assumes nothing.
 use borrow.Author.Needs.{needs}
-use Rattle.state.proofs.Constant as words
+use Rattle.state_code.proofs.Constant as words
 use Rattle.step_bytes.proofs.function_word.Statement.{statement}
 use Rattle.step_bytes.proofs.function_word.Tie as tie
 

@@ -1,7 +1,7 @@
 -- `name_word` meets its contract. Assumes nothing.
 use native.Mathlib.Omega.{arith}
 use borrow.Author.Needs.{needs}
-use Rattle.state.proofs.Constant as words
+use Rattle.state_code.proofs.Constant as words
 use Rattle.step_bytes.proofs.name_word.Statement.{statement}
 use Rattle.step_bytes.proofs.name_word.Tie as tie
 
