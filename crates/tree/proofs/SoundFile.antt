@@ -18,7 +18,7 @@ use Rattle.rules.specs.Entry.{refused, from-outcome, from-read, compile-tree}
 use Rattle.rules.specs.TreeFile.{read-stmts, read-stmt, read-names, read-tree}
 use Rattle.fields.specs.Words.{word16, letters}
 use Rattle.fields.proofs.Reading.{bad-got}
-use Rattle.tree.specs.Places.{place}
+use Rattle.tree_small.specs.Places.{place}
 use Rattle.tree.specs.Checked.{place-or-0, script-of, checked, checked-file}
 use Rattle.tree.specs.declared.Script.{Script}
 use Rattle.tree.specs.declared.Checked.{Checked}

@@ -17,13 +17,13 @@ use Rattle.rules.specs.Reader.{Read, got, bad, Reader, go-on, _>>=_, _>>_, retu
 use Rattle.rules.specs.TreeFile.{read-stmts, read-stmt, read-names, read-file, read-tree}
 use Rattle.fields.specs.Words.{word16, letters}
 use Rattle.fields.proofs.Reading.{a-u16, then-on, then-bad, mark-is-it, mark-is-not, mark-is-cut}
-use Rattle.tree.specs.Places.{place, row}
-use Rattle.tree.specs.Stmts.{stmt-place}
+use Rattle.tree_small.specs.Places.{place, row}
+use Rattle.tree_stmts.specs.Stmts.{stmt-place}
 use Rattle.tree.specs.Checked.{place-or-0, script-of, ends, checked}
-use Rattle.tree.specs.declared.Step.{Step}
+use Rattle.tree_small.specs.declared.Step.{Step}
 use Rattle.tree.specs.declared.Checked.{Checked}
-use Rattle.tree.proofs.Texts.{was-bad, bad-at}
-use Rattle.tree.proofs.Statements.{stmts-place}
+use Rattle.tree_names.proofs.Texts.{was-bad, bad-at}
+use Rattle.tree_stmts.proofs.Statements.{stmts-place}
 use Rattle.fields.specs.Marks as marks
 
 module _ (tree : List ℕ) (depth funs : ℕ) where

@@ -3,49 +3,11 @@
 ghost use mathlib.Core.Path.{_≡_};
 ghost use Rattle.rules.specs.TreeFile.{read-tree};
 ghost use Rattle.tree.specs.Checked.{ends, checked, checked-file};
-
-mod exprs;
-mod names;
-mod small;
-mod stmts;
-
 use fields::Mark;
 use rules::Refusal;
-
-// A field's number, or that it is cut or out of range.
-pub enum Field {
-    Is(usize),
-    No,
-}
-
-// Where the next byte to read is, or why there is none.
-pub enum Step {
-    At(usize),
-    Bad(Refusal),
-}
-
-// What an expression's fields announce: from where and how many expressions follow.
-pub enum Opened {
-    Exprs(usize, usize),
-    Bad(Refusal),
-}
-
-// What a statement's fields announce. From `at` on stand `init` statements, `cond` expressions, `body` records and `incr` expressions,
-// the statements with `funs` more `SF` to open in them; the records of the body are `methods`, or statements.
-pub struct Plan {
-    pub at: usize,
-    pub init: usize,
-    pub cond: usize,
-    pub body: usize,
-    pub incr: usize,
-    pub funs: usize,
-    pub methods: bool,
-}
-
-pub enum Head {
-    Kids(Plan),
-    Bad(Refusal),
-}
+use tree_names::check_names;
+use tree_small::Step;
+use tree_stmts::check_stmts;
 
 // Where a sound file's statements stand: how many names there are, how many statements, and the place of the first.
 pub struct Script {
@@ -74,11 +36,11 @@ pub fn read_within(tree: &[u8], depth: usize, funs: usize) -> Checked
     if 4096 < names {
         return Checked::Bad(Refusal::TreeForm(0));
     }
-    match names::check_names(tree, names, 6) {
+    match check_names(tree, names, 6) {
         Step::Bad(r) => Checked::Bad(r),
         Step::At(at) => to_the_end(
             tree,
-            stmts::check_stmts(tree, names, depth, funs, false, count as usize, at),
+            check_stmts(tree, names, depth, funs, false, count as usize, at),
             Script { names, count, at },
         ),
     }

@@ -5,9 +5,9 @@ use Prim.Native.Nat.{ℕ}
 use native.Mathlib.Omega.{arith}
 use lib.ListN.{length}
 use Rattle.rules.specs.TreeFile.{read-names}
-use Rattle.tree.specs.Places.{place}
+use Rattle.tree_small.specs.Places.{place}
 use Rattle.tree.specs.Checked.{ends}
-use Rattle.tree.proofs.Places.{cut, there}
+use Rattle.tree_small.proofs.Places.{cut, there}
 use Rattle.tree.proofs.Whole.{file-cut, mark-not, too-many, names-bad, to-the-end, checked-bad}
 use borrow.Author.Needs.{needs}
 use Rattle.tree.proofs.read_within.Statement.{statement}
