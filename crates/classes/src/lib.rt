@@ -15,8 +15,10 @@ use fields::span_at;
 use fields::u8_at;
 use fields::u16_at;
 use op::Op;
+use rules::Name;
 use rules::Refusal;
 use rules::Span;
+use state::Kind;
 use step_bytes::emit_op;
 use step_bytes::emit_op_name;
 use step_names::define_name;
@@ -25,27 +27,28 @@ use step_scopes::begin_scope;
 use step_scopes::declare_local;
 use step_scopes::define_local;
 use step_scopes::end_scope;
+use steps::Class;
 use steps::Step;
 
 // What a method of this name is: `init` is an initializer.
 pub fn method_kind(name: u16) -> u8
     ensures { λ r. ⌜ (type-of r ≡ method-type name) × (0 < r) ⌝ }
 {
-    if name == 2 {
-        return 3;
+    if name == Name::INIT {
+        return Kind::INITIALIZER;
     }
-    2
+    Kind::METHOD
 }
 
-// The class that the methods are in, as the code has it: 1 without a superclass, 2 with one.
+// The class that the methods are in.
 pub fn inner_class(tree: &[u8], at: usize) -> u8
     requires { ⌜ ClassHead (now tree) at ⌝ }
     ensures { λ r. ⌜ InnerClass (now (tree .entry)) at r ⌝ }
 {
     if u8_at(tree, at + 12) == 1 {
-        return 2;
+        return Class::WITH_SUPER;
     }
-    1
+    Class::ALONE
 }
 
 // ## The superclass
@@ -71,16 +74,36 @@ fn inherit(
         return Step::Stop(Refusal::ClassInheritFromSelf(span, name));
     }
     begin_scope(t, level);
-    let d = declare_local(t, level, 1, Span { start: 0, end: 0 }, 0);
+    let d = declare_local(t, level, Name::SUPER, Span { start: 0, end: 0 }, 0);
     let Step::Next(_) = d else {
         return d;
     };
     define_local(t, level);
-    let a = get_variable(t, code, spans, level, limit, 2, parent, place, 0);
+    let a = get_variable(
+        t,
+        code,
+        spans,
+        level,
+        limit,
+        Class::WITH_SUPER,
+        parent,
+        place,
+        0,
+    );
     let Step::Next(_) = a else {
         return a;
     };
-    let b = get_variable(t, code, spans, level, limit, 2, name, span, 0);
+    let b = get_variable(
+        t,
+        code,
+        spans,
+        level,
+        limit,
+        Class::WITH_SUPER,
+        name,
+        span,
+        0,
+    );
     let Step::Next(_) = b else {
         return b;
     };

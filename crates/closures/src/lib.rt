@@ -12,8 +12,11 @@ ghost use Rattle.parts.specs.Output.{largest};
 ghost use Rattle.closures.specs.Functions.{NamesThere, FunHead, declare-named, Named, ParamsDeclared, FunctionOpened, Filed, FunctionClosed};
 use fields::u16_at;
 use op::Op;
+use rules::Limit;
+use rules::Name;
 use rules::Refusal;
 use rules::Span;
+use state::Kind;
 use state::Table;
 use step_bytes::emit_constant;
 use step_bytes::emit_op;
@@ -30,8 +33,8 @@ use writer::put_function;
 fn slot_zero(name: u16, kind: u8) -> u16
     ensures { λ r. ⌜ r ≡ slot-zero (type-of kind) name ⌝ }
 {
-    if 1 < kind {
-        return 0;
+    if Kind::FUNCTION < kind {
+        return Name::THIS;
     }
     name
 }
@@ -91,7 +94,7 @@ pub fn open_function(
 {
     let name = u16_at(tree, at + 10);
     let count = u16_at(tree, at + 12);
-    if 255 < count {
+    if Limit::PARAMS < count {
         return Step::Stop(Refusal::TooManyParams(span));
     }
     state_levels::begin_ctx(t, level, name, (count % 256) as u8, kind);

@@ -17,7 +17,7 @@ use Rattle.rules.specs.Compiler.{Compiler, go-on, _>>=_, _>>_, return, done, re
 use Rattle.rules.specs.Compiler.{compile-return, compile-stmt}
 use Rattle.fields.specs.Words.{word8, word16, letters, span-of}
 use Rattle.parsed.proofs.Statements.{SomeAt, return-at}
-use Rattle.state.specs.Layout.{type-of}
+use Rattle.state.specs.Layout.{type-of, type-place, level-words}
 use Rattle.steps.specs.View.{Mem, steady, Did, Tried}
 use Rattle.steps.proofs.Steps.{valued, next, stop, halt, then-on, ask, ask-refused}
 use Rattle.step_returns.proofs.Returns.{told-type}
@@ -53,7 +53,7 @@ module _ (span : Span) (s : Compiler) where
 
 module _ (l n : ℕ) (span : Span) (t : List ℕ) where
   abbrev kind : ℕ
-  kind = getD t (l * 1024 + 776) 0
+  kind = getD t (l * level-words + type-place) 0
 
   pub kind-outside : kind ≡ 0 → Tried l n steady (may-return span) t t (Stop (ReturnOutsideFunction span))
   unfolding may-return refuse

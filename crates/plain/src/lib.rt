@@ -17,6 +17,8 @@ use fields::u16_at;
 use op::Op;
 use rules::Refusal;
 use rules::Span;
+use state::Kind;
+use state::Table;
 use step_bytes::emit_op;
 use step_bytes::emit_op_name;
 use step_returns::return_nothing;
@@ -24,6 +26,11 @@ use step_scopes::declare_local;
 use step_scopes::define_local;
 use step_scopes::is_global;
 use steps::Step;
+
+// As words of the table.
+const SCRIPT: u64 = Kind::SCRIPT as u64;
+
+const INITIALIZER: u64 = Kind::INITIALIZER as u64;
 
 // ## An expression, and what is done with its value
 
@@ -181,11 +188,11 @@ fn return_kind(t: &[u64], level: usize, span: Span, next: usize) -> Step
     requires { ⌜ (level < levels) × (Wf (now t)) ⌝ }
     ensures { λ r. ⌜ Tried level next steady (may-return span) (now (t .entry)) (now (t .entry)) r ⌝ }
 {
-    let kind = t[level * 1024 + 776];
-    if kind == 0 {
+    let kind = t[level * Table::LEVEL_WORDS + Table::TYPE];
+    if kind == SCRIPT {
         return Step::Stop(Refusal::ReturnOutsideFunction(span));
     }
-    if 3 <= kind {
+    if INITIALIZER <= kind {
         return Step::Stop(Refusal::ReturnInInitializer(span));
     }
     Step::Next(next)

@@ -1,5 +1,56 @@
-// What comes back, as types: a refusal by its name, and the answer's five numbers. specs/ computes with these same types, so that code and
+// What comes back, as types: a refusal by its name, and the answer's five numbers; and the numbers that mean something in all crates, by name. specs/ computes with these same types, so that code and
 // rules cannot mean two things by one name; specs/Answer.antt gives each refusal its number and fields.
+
+// The limits, for the code. specs/ has them where they belong: Limits.antt, and the steps that refuse what passes one.
+pub struct Limit {
+    pub most: usize,
+}
+
+impl Limit {
+    // Records inside one another, and functions inside one another.
+    pub const DEPTH: usize = 128;
+
+    pub const FUNS: usize = 16;
+
+    // Of a tree file.
+    pub const TREE_BYTES: usize = 1048576;
+
+    pub const NAMES: u16 = 4096;
+
+    // Of the open functions' code.
+    pub const CODE_BYTES: usize = 262144;
+
+    // Of one function, and of a call.
+    pub const LOCALS: usize = 256;
+
+    pub const UPVALUES: usize = 256;
+
+    pub const CONSTANTS: usize = 256;
+
+    pub const PARAMS: u16 = 255;
+
+    pub const ARGS: u16 = 255;
+
+    // Of a jump's operand, and of a run's count.
+    pub const JUMP: usize = 65535;
+
+    pub const RUN: u32 = 255;
+}
+
+// The names that are never written: specs/Tree.antt has them under these names.
+pub struct Name {
+    pub number: u16,
+}
+
+impl Name {
+    pub const THIS: u16 = 0;
+
+    pub const SUPER: u16 = 1;
+
+    pub const INIT: u16 = 2;
+
+    pub const SCRIPT: u16 = 3;
+}
 
 // Where a statement or expression stands in the text: any two numbers.
 pub struct Span {

@@ -1,5 +1,6 @@
 // Where the compiler's state lies in the table that the caller lends, and what its functions answer: they are in state_scan, state_names, state_code and
 // state_levels. specs/Layout.antt says how the state lies there, specs/Contracts.antt what each function does in the rules' terms.
+use rules::Limit;
 
 // Where things lie in the table: the one place that has these numbers for the code. specs/Layout.antt has them for the contracts.
 pub struct Table {
@@ -8,7 +9,7 @@ pub struct Table {
 
 impl Table {
     // The script, and the functions that may be open in one another.
-    pub const LEVELS: usize = 17;
+    pub const LEVELS: usize = Limit::FUNS + 1;
 
     // Of a level, whose locals start at 0.
     pub const LEVEL_WORDS: usize = 1024;
@@ -46,6 +47,21 @@ impl Table {
 
     // All of it.
     pub const WORDS: usize = Table::CODE_END + 4;
+}
+
+// What a function is, as the table has it: `type-of` in specs/Layout.antt.
+pub struct Kind {
+    pub number: u8,
+}
+
+impl Kind {
+    pub const SCRIPT: u8 = 0;
+
+    pub const FUNCTION: u8 = 1;
+
+    pub const METHOD: u8 = 2;
+
+    pub const INITIALIZER: u8 = 3;
 }
 
 pub enum Slot {

@@ -4,6 +4,7 @@ ghost use Prim.Native.Nat.{_*_, _≤_, _<_};
 ghost use lib.ListN.{length};
 ghost use Rattle.state.specs.Layout.{levels, Wf, Coded};
 ghost use Rattle.state.specs.Contracts.{last-grows, Wrote, Constants};
+use rules::Limit;
 use rules::Span;
 use state::Constanted;
 use state::Emitted;
@@ -25,7 +26,7 @@ pub fn can_grow(spans: &[u32], first: usize, m: usize, span: Span) -> bool
     if spans[at + 1] != span.end {
         return false;
     }
-    spans[at + 2] < 255
+    spans[at + 2] < Limit::RUN
 }
 
 pub fn emit_u8(
@@ -72,7 +73,7 @@ pub fn write_constant(t: &mut [u64], level: usize, w: u64) -> Constanted
     if place < n {
         return Constanted::At(place as u8);
     }
-    if 256 <= n {
+    if Limit::CONSTANTS <= n {
         return Constanted::Full;
     }
     t[base + n] = w;

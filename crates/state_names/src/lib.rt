@@ -6,6 +6,7 @@ ghost use lib.ListN.{length, getD};
 ghost use Rattle.rules.specs.Compiler.{declared};
 ghost use Rattle.state.specs.Layout.{levels, localOf, stack, Wf, level-words, local-count-place};
 ghost use Rattle.state.specs.Contracts.{Looked, Added, Captured, DeclaredAt, DefinedAt, Dropped};
+use rules::Limit;
 use state::Declared;
 use state::Slot;
 use state::Table;
@@ -51,7 +52,7 @@ pub fn add_upvalue(t: &mut [u64], level: usize, is_local: u8, index: u8) -> Up
     if place < n {
         return Up::At(place as u8);
     }
-    if 256 <= n {
+    if Limit::UPVALUES <= n {
         return Up::Full;
     }
     t[base + n] = w;
@@ -113,7 +114,7 @@ pub fn declare_local(t: &mut [u64], level: usize, name: u16) -> Declared
     if 0 < clashing(&t[..], base, n, depth, name as u64) {
         return Declared::Already;
     }
-    if 256 <= n {
+    if Limit::LOCALS <= n {
         return Declared::Full;
     }
     t[base + n] = depth * 262144 + (name as u64);

@@ -6,6 +6,7 @@ ghost use Rattle.rules.specs.Compiler.{emit-jump, patch-jump, emit-loop};
 ghost use Rattle.state.specs.Layout.{levels, table-words, codeFrom, codeEnd};
 ghost use Rattle.steps.specs.View.{mem, Fit, code-len, steady, Did, Opened, Measured};
 use op::Op;
+use rules::Limit;
 use rules::Refusal;
 use rules::Span;
 use state::Table;
@@ -68,7 +69,7 @@ pub fn patch_jump(
     let from = t[level * Table::LEVEL_WORDS + Table::CODE_FROM] as usize;
     let end = t[Table::CODE_END] as usize;
     let distance = end - from - 2 - place;
-    if 65535 < distance {
+    if Limit::JUMP < distance {
         return Step::Stop(Refusal::JumpTooLarge(span));
     }
     let at = from + place;
@@ -92,7 +93,7 @@ pub fn emit_loop(
     ensures { λ r. ⌜ ((class : ℕ) → Did class limit level next steady (emit-loop limit start span) (mem (now (t .entry)) (now (code .entry)) (now (spans .entry))) (mem (now (t .exit)) (now (code .exit)) (now (spans .exit))) r) ⌝ }
 {
     let distance = code_length(&t[..], level) + 3 - start;
-    if 65535 < distance {
+    if Limit::JUMP < distance {
         return Step::Stop(Refusal::JumpTooLarge(span));
     }
     let a = emit_op(t, code, spans, level, limit, Op::LOOP, span, next);

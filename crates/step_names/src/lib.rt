@@ -8,6 +8,7 @@ ghost use Rattle.rules.specs.Tree.{this};
 ghost use Rattle.state.specs.Layout.{levels, Wf};
 ghost use Rattle.steps.specs.View.{mem, Fit, steady, Did, Placed};
 use op::Op;
+use rules::Name;
 use rules::Refusal;
 use rules::Span;
 use step_bytes::emit_op_name;
@@ -15,6 +16,7 @@ use step_bytes::emit_op_u8;
 use step_scopes::declare_local;
 use step_scopes::define_local;
 use step_scopes::is_global;
+use steps::Class;
 use steps::Place;
 use steps::Step;
 
@@ -37,14 +39,14 @@ pub fn resolve(t: &mut [u64], level: usize, name: u16, span: Span) -> Place
     }
 }
 
-// `this` where no class is around. `class` is the innermost one: 0 none, 1 without a superclass, 2 with one.
+// `this` where no class is around.
 pub fn lost_this(name: u16, class: u8) -> bool
     ensures { λ r. ⌜ r ≡ (eqb name this && eqb class 0) ⌝ }
 {
-    if name != 0 {
+    if name != Name::THIS {
         return false;
     }
-    class == 0
+    class == Class::NONE
 }
 
 pub fn get_variable(

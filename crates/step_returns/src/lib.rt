@@ -7,21 +7,31 @@ ghost use Rattle.rules.specs.Compiler.{need-super, return-value, compile-return
 ghost use Rattle.state.specs.Layout.{levels, table-words, type-of, codeEnd, upvaluesOf};
 ghost use Rattle.steps.specs.View.{mem, Fit, steady, Did, Judged, Ending, Started, PairedAt};
 use op::Op;
+use rules::Name;
 use rules::Refusal;
 use rules::Span;
+use state::Kind;
 use state::Table;
 use step_bytes::emit_op;
 use step_bytes::emit_op_u8;
+use steps::Class;
 use steps::Step;
+
+// As words of the table.
+const SCRIPT: u64 = Kind::SCRIPT as u64;
+
+const INITIALIZER: u64 = Kind::INITIALIZER as u64;
+
+const SCRIPT_NAME: u64 = Name::SCRIPT as u64;
 
 // `super`, which a class with a superclass must be around.
 pub fn need_super(class: u8, span: Span, next: usize) -> Step
     ensures { λ r. ⌜ Judged class next (need-super span) r ⌝ }
 {
-    if class == 0 {
+    if class == Class::NONE {
         return Step::Stop(Refusal::SuperOutsideClass(span));
     }
-    if class == 1 {
+    if class == Class::ALONE {
         return Step::Stop(Refusal::SuperWithoutSuperclass(span));
     }
     Step::Next(next)
@@ -54,7 +64,7 @@ pub fn emit_nothing(
     requires { ⌜ (Fit (mem (now t) (now code) (now spans)) level limit) × (0 < kind) ⌝ }
     ensures { λ r. ⌜ ((class : ℕ) → Did class limit level next steady (return-value limit (type-of kind) none span) (mem (now (t .entry)) (now (code .entry)) (now (spans .entry))) (mem (now (t .exit)) (now (code .exit)) (now (spans .exit))) r) ⌝ }
 {
-    if 3 <= kind {
+    if INITIALIZER <= kind {
         return emit_op_u8(t, code, spans, level, limit, Op::GET_LOCAL, 0, span, next);
     }
     emit_op(t, code, spans, level, limit, Op::NIL, span, next)
@@ -74,7 +84,7 @@ pub fn return_nothing(
     ensures { λ r. ⌜ ((class : ℕ) → Did class limit level next steady (compile-return limit none span) (mem (now (t .entry)) (now (code .entry)) (now (spans .entry))) (mem (now (t .exit)) (now (code .exit)) (now (spans .exit))) r) ⌝ }
 {
     let kind = t[level * Table::LEVEL_WORDS + Table::TYPE];
-    if kind == 0 {
+    if kind == SCRIPT {
         return Step::Stop(Refusal::ReturnOutsideFunction(span));
     }
     let a = emit_nothing(t, code, spans, level, limit, kind, span, next);
@@ -161,11 +171,11 @@ pub fn begin_script(t: &mut [u64])
     ensures { λ r. ⌜ Started (now (t .exit)) ⌝ }
 {
     state_levels::clear_levels(t);
-    t[Table::NAME] = 3;
+    t[Table::NAME] = SCRIPT_NAME;
     t[Table::CODE_FROM] = 0;
     t[Table::RUNS_FROM] = 0;
     t[Table::ARITY] = 0;
-    t[Table::TYPE] = 0;
+    t[Table::TYPE] = SCRIPT;
     t[Table::CODE_END] = 0;
     t[Table::RUNS_END] = 0;
     t[Table::FUNCTIONS] = 0;

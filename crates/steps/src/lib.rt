@@ -4,6 +4,19 @@
 // apart and made anew: one that is only handed on is copied through memory, and the copy waits for the stores.
 use rules::Refusal;
 
+// The innermost class around a function, as the code has it.
+pub struct Class {
+    pub number: u8,
+}
+
+impl Class {
+    pub const NONE: u8 = 0;
+
+    pub const ALONE: u8 = 1;
+
+    pub const WITH_SUPER: u8 = 2;
+}
+
 // Where to read on, or why the compiler stops.
 pub enum Step {
     Next(usize),

@@ -4,6 +4,7 @@ ghost use mathlib.Core.Path.{_≡_};
 ghost use Rattle.rules.specs.TreeFile.{read-tree};
 ghost use Rattle.tree.specs.Checked.{ends, checked, checked-file};
 use fields::Mark;
+use rules::Limit;
 use rules::Refusal;
 use tree_names::check_names;
 use tree_small::Step;
@@ -33,7 +34,7 @@ pub fn read_within(tree: &[u8], depth: usize, funs: usize) -> Checked
     }
     let names = fields::u16_at(tree, 2);
     let count = fields::u16_at(tree, 4);
-    if 4096 < names {
+    if Limit::NAMES < names {
         return Checked::Bad(Refusal::TreeForm(0));
     }
     match check_names(tree, names, 6) {
@@ -61,19 +62,12 @@ fn to_the_end(tree: &[u8], step: Step, script: Script) -> Checked
     }
 }
 
-// The limits that the rules set.
-const DEPTH: usize = 128;
-
-const FUNS: usize = 16;
-
-const MAX_TREE: usize = 1048576;
-
 // The whole file, with 2 before all else.
 pub fn read(tree: &[u8]) -> Checked
     ensures { λ r. ⌜ r ≡ checked-file (now (tree .entry)) ⌝ }
 {
-    if MAX_TREE < tree.len() {
+    if Limit::TREE_BYTES < tree.len() {
         return Checked::Bad(Refusal::TreeTooLong);
     }
-    read_within(tree, DEPTH, FUNS)
+    read_within(tree, Limit::DEPTH, Limit::FUNS)
 }
