@@ -111,9 +111,8 @@ module _ (G : Type 0) (I : G → Compiler → Type 0) (limit : ℕ) where
   abbrev pub Keeps : {A : Type 0} → Compile A → Type 0
   Keeps m = (g : G) → Triple (I g) m (λ _. I g)
 
-  -- the laws of the instructions and the small steps; `waits at g` has one more jump that waits for its target, with its operand at `at`,
-  -- `backs at g` one more place to go back to, and `opens g` one more open function
-  pub record Laws (waits backs : ℕ → G → G) (opens : G → G) : Type 0 where
+  -- the laws of what expressions are made of; `waits at g` has one more jump that waits for its target, with its operand at `at`
+  pub record ExprLaws (waits : ℕ → G → G) : Type 0 where
     pub emit-op : (b : ℕ) (span : Span) → operands-of b ≡ some Plain → Keeps (c.emit-op limit b span)
     pub emit-op-u8 : (b n : ℕ) (span : Span) → operands-of b ≡ some Byte → n < 256 → Keeps (c.emit-op-u8 limit b n span)
     pub emit-number : (bits : ℕ) (span : Span) → Keeps (c.emit-op-constant limit op.CONSTANT (CN bits) span)
@@ -124,22 +123,27 @@ module _ (G : Type 0) (I : G → Compiler → Type 0) (limit : ℕ) where
     pub set-variable : (name : ℕ) (span : Span) → Keeps (c.set-variable limit name span)
     pub emit-jump : (b : ℕ) (span : Span) → operands-of b ≡ some Ahead → (g : G) → Triple (I g) (c.emit-jump limit b span) (λ at. I (waits at g))
     pub patch-jump : (at : ℕ) (span : Span) (g : G) → Triple (I (waits at g)) (c.patch-jump at span) (λ _. I g)
+    pub swap-waits : (i j : ℕ) (g : G) (s : Compiler) → I (waits i (waits j g)) s → I (waits j (waits i g)) s
+
+  -- and of the other small steps; `backs at g` has one more place to go back to, `opens g` one more open function, `enters b g` one more class
+  -- around the place
+  pub record Laws (waits backs : ℕ → G → G) (opens : G → G) (enters : Bool → G → G) : Type 0 where
+    pub exprs : ExprLaws waits
     pub code-length : (g : G) → Triple (I g) c.code-length (λ at. I (backs at g))
     pub emit-loop : (at : ℕ) (span : Span) (g : G) → Triple (I (backs at g)) (c.emit-loop limit at span) (λ _. I g)
     pub declare-local : (name : ℕ) (span : Span) → Keeps (c.declare-local name span)
     pub define-local : Keeps c.define-local
     pub begin-scope : Keeps c.begin-scope
     pub end-scope : (span : Span) → Keeps (c.end-scope limit span)
-    pub push-class-ctx : (b : Bool) → Keeps (c.push-class-ctx b)
-    pub pop-class-ctx : Keeps c.pop-class-ctx
+    pub push-class-ctx : (b : Bool) (g : G) → Triple (I g) (c.push-class-ctx b) (λ _. I (enters b g))
+    pub pop-class-ctx : (b : Bool) (g : G) → Triple (I (enters b g)) c.pop-class-ctx (λ _. I g)
     pub begin-ctx : (name arity depth : ℕ) (type : FunctionType) (g : G) →
         Triple (I g) (c.begin-ctx (c.new-ctx name arity type depth)) (λ _. I (opens g))
     pub end-function : (span : Span) (g : G) → Triple (I (opens g)) (c.end-function limit span) (λ _. I g)
-    pub swap-waits : (i j : ℕ) (g : G) (s : Compiler) → I (waits i (waits j g)) s → I (waits j (waits i g)) s
     pub swap-backs : (i j : ℕ) (g : G) (s : Compiler) → I (waits i (backs j g)) s → I (backs j (waits i g)) s
 
-  module _ (waits backs : ℕ → G → G) (opens : G → G) (l : Laws waits backs opens) where
-    open Laws l using (emit-op, emit-op-u8, emit-number, emit-string, emit-text, emit-invoke, get-variable, set-variable, emit-jump, patch-jump, code-length, emit-loop, declare-local, define-local, begin-scope, end-scope, push-class-ctx, pop-class-ctx, begin-ctx, end-function, swap-waits, swap-backs)
+  module _ (waits : ℕ → G → G) (l : ExprLaws waits) where
+    open ExprLaws l using (emit-op, emit-op-u8, emit-number, emit-string, emit-text, emit-invoke, get-variable, set-variable, emit-jump, patch-jump, swap-waits)
 
     prefix-plain : (o : OpPrefix) → operands-of (c.prefix-op o) ≡ some Plain
     unfolding c.prefix-op op.computes
@@ -268,18 +272,22 @@ module _ (G : Type 0) (I : G → Compiler → Type 0) (limit : ℕ) where
         compile-expr e g
         compile-exprs es g
 
-    compile-value : (v : Option Expr) (span : Span) → Keeps (c.compile-value limit v span)
+    pub compile-value : (v : Option Expr) (span : Span) → Keeps (c.compile-value limit v span)
     unfolding c.compile-value op.computes
     compile-value none span g = emit-op _ _ refl g
     compile-value (some value) span g = compile-expr value g
+
+  module _ (waits backs : ℕ → G → G) (opens : G → G) (enters : Bool → G → G) (l : Laws waits backs opens enters) where
+    open ExprLaws (l .exprs) using (emit-op, emit-op-u8, emit-text, get-variable, emit-jump, patch-jump, swap-waits)
+    open Laws l using (code-length, emit-loop, declare-local, define-local, begin-scope, end-scope, push-class-ctx, pop-class-ctx, begin-ctx, end-function, swap-backs)
 
     return-value : (t : FunctionType) (v : Option Expr) (span : Span) → Keeps (c.return-value limit t v span)
     unfolding c.return-value op.computes
     return-value Script v span g = refuse _
     return-value Initializer (some value) span g = refuse _
     return-value Initializer none span g = emit-op-u8 _ _ _ refl (omega arith) g
-    return-value Function v span g = compile-value v span g
-    return-value Method v span g = compile-value v span g
+    return-value Function v span g = compile-value waits (l .exprs) v span g
+    return-value Method v span g = compile-value waits (l .exprs) v span g
 
     compile-return : (v : Option Expr) (span : Span) → Keeps (c.compile-return limit v span)
     unfolding c.compile-return op.computes
@@ -302,20 +310,20 @@ module _ (G : Type 0) (I : G → Compiler → Type 0) (limit : ℕ) where
       global ← is-global g
       either global
           (do
-            compile-value v _ g
+            compile-value waits (l .exprs) v _ g
             define-global _ _ g)
           (do
             declare-local _ _ g
-            compile-value v _ g
+            compile-value waits (l .exprs) v _ g
             define-local g)
 
-    define-name : (name : ℕ) (span : Span) → Keeps (c.define-name limit name span)
+    pub define-name : (name : ℕ) (span : Span) → Keeps (c.define-name limit name span)
     unfolding c.define-name
     define-name name span g = do
       global ← is-global g
       either global (define-global _ _ g) (declare-local _ _ g >> define-local g)
 
-    compile-superclass : (class : ℕ) (sup : Option Superclass) (span : Span) → Keeps (c.compile-superclass limit class sup span)
+    pub compile-superclass : (class : ℕ) (sup : Option Superclass) (span : Span) → Keeps (c.compile-superclass limit class sup span)
     unfolding c.compile-superclass op.computes
     compile-superclass class none span g = skip
     compile-superclass class (some sup) span g = do
@@ -327,7 +335,7 @@ module _ (G : Type 0) (I : G → Compiler → Type 0) (limit : ℕ) where
       get-variable _ _ g
       emit-op _ _ refl g
 
-    end-superclass : (sup : Option Superclass) → Keeps (c.end-superclass limit sup)
+    pub end-superclass : (sup : Option Superclass) → Keeps (c.end-superclass limit sup)
     unfolding c.end-superclass
     end-superclass none g = skip
     end-superclass (some sup) g = end-scope _ g
@@ -341,7 +349,7 @@ module _ (G : Type 0) (I : G → Compiler → Type 0) (limit : ℕ) where
     unfolding c.for-cond waits-if op.computes
     for-cond none span g = gives none
     for-cond (some cond) span g = do
-      compile-expr cond g
+      compile-expr waits (l .exprs) cond g
       j ← emit-jump _ _ refl g
       emit-op _ _ refl _
       gives (some j)
@@ -350,7 +358,7 @@ module _ (G : Type 0) (I : G → Compiler → Type 0) (limit : ℕ) where
     unfolding c.for-incr op.computes
     for-incr none span g = skip
     for-incr (some incr) span g = do
-      compile-expr incr g
+      compile-expr waits (l .exprs) incr g
       emit-op _ _ refl g
 
     for-end : (j : Option ℕ) (span : Span) (g : G) → Triple (I (waits-if j g)) (c.for-end limit j span) (λ _. I g)
@@ -365,7 +373,7 @@ module _ (G : Type 0) (I : G → Compiler → Type 0) (limit : ℕ) where
     for-loop none at span g = emit-loop at span g
     for-loop (some j) at span g = given (swap-backs j at g) (emit-loop at span (waits j g))
 
-    declare-params : (ps : List ℕ) (span : Span) → Keeps (c.declare-params ps span)
+    pub declare-params : (ps : List ℕ) (span : Span) → Keeps (c.declare-params ps span)
     unfolding c.declare-params
     declare-params [] span g = skip
     declare-params (p ∷ ps) span g = do
@@ -373,7 +381,7 @@ module _ (G : Type 0) (I : G → Compiler → Type 0) (limit : ℕ) where
       define-local g
       declare-params ps span g
 
-    implicit-return : Keeps (c.implicit-return limit)
+    pub implicit-return : Keeps (c.implicit-return limit)
     unfolding c.implicit-return
     implicit-return g = do
       ops ← the _
@@ -405,17 +413,17 @@ module _ (G : Type 0) (I : G → Compiler → Type 0) (limit : ℕ) where
         emit-text _ _ _ refl g
         define-name _ _ g
         push-class-ctx _ g
-        compile-superclass _ sup _ g
+        compile-superclass _ sup _ _
         either (c.some-methods methods)
             (do
-              get-variable _ _ g
-              compile-methods methods g
-              emit-op _ _ refl g)
+              get-variable _ _ _
+              compile-methods methods _
+              emit-op _ _ refl _)
             skip
-        end-superclass sup g
-        pop-class-ctx g
+        end-superclass sup _
+        pop-class-ctx (c.is-some sup) g
       compile-stmt (StmtExpr span value) g = do
-        compile-expr value g
+        compile-expr waits (l .exprs) value g
         emit-op _ _ refl g
       compile-stmt (StmtFor span init cond body incr) g = do
         begin-scope g
@@ -431,7 +439,7 @@ module _ (G : Type 0) (I : G → Compiler → Type 0) (limit : ℕ) where
         compile-function f _ _ g
         define-name _ _ g
       compile-stmt (StmtIf span cond a b) g = do
-        compile-expr cond g
+        compile-expr waits (l .exprs) cond g
         j ← emit-jump _ _ refl g
         emit-op _ _ refl _
         compile-stmt a _
@@ -441,13 +449,13 @@ module _ (G : Type 0) (I : G → Compiler → Type 0) (limit : ℕ) where
         compile-stmts b _
         patch-jump e _ g
       compile-stmt (StmtPrint span value) g = do
-        compile-expr value g
+        compile-expr waits (l .exprs) value g
         emit-op _ _ refl g
       compile-stmt (StmtReturn span value) g = compile-return value span g
       compile-stmt (StmtVar span name value) g = compile-var name value span g
       compile-stmt (StmtWhile span cond body) g = do
         at ← code-length g
-        compile-expr cond _
+        compile-expr waits (l .exprs) cond _
         j ← emit-jump _ _ refl _
         emit-op _ _ refl _
         compile-stmt body _

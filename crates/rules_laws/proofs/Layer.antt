@@ -698,20 +698,24 @@ module _ (K : Type 0) (P : K → Fact) (start : K) (waits backs : ℕ → K → 
   I g = Now (P (g .now)) (g .around)
 
   laws : Laws (Open K) I limit (λ at g. record { now = waits at (g .now); around = g .around }) (λ at g. record { now = backs at (g .now); around = g .around })
-      (λ g. record { now = start; around = g .now ∷ g .around })
+      (λ g. record { now = start; around = g .now ∷ g .around }) (λ _ g. g)
   unfolding op.computes
   laws =
       record {
-        emit-op = λ b span e g. emit-op b span e (g .now) (g .around);
-        emit-op-u8 = λ b n span e bound g. given (so K P start _ _ (g .around) (λ opened fs n ch x. (byte bound, x))) (emit-op-u8 Byte still-byte b n span e (g .now) (g .around));
-        emit-number = λ n span g. emit-op-constant Value still-value _ _ span refl a-number (λ fs m place cs e. value-at e a-number) (g .now) (g .around);
-        emit-string = λ n span g. emit-op-constant Value still-value _ _ span refl a-string (λ fs m place cs e. value-at e a-string) (g .now) (g .around);
-        emit-text = λ b n span e g. emit-op-constant Text still-text b _ span e a-string (text n) (g .now) (g .around);
-        emit-invoke = λ b n m span e bound g. emit-invoke b n m span e bound (g .now) (g .around);
-        get-variable = λ n span g. get-variable n span (g .now) (g .around);
-        set-variable = λ n span g. set-variable n span (g .now) (g .around);
-        emit-jump = λ b span e g. emit-jump b span e (g .now) (g .around);
-        patch-jump = λ at span g. patch-jump at span (g .now) (g .around);
+        exprs =
+            record {
+              emit-op = λ b span e g. emit-op b span e (g .now) (g .around);
+              emit-op-u8 = λ b n span e bound g. given (so K P start _ _ (g .around) (λ opened fs n ch x. (byte bound, x))) (emit-op-u8 Byte still-byte b n span e (g .now) (g .around));
+              emit-number = λ n span g. emit-op-constant Value still-value _ _ span refl a-number (λ fs m place cs e. value-at e a-number) (g .now) (g .around);
+              emit-string = λ n span g. emit-op-constant Value still-value _ _ span refl a-string (λ fs m place cs e. value-at e a-string) (g .now) (g .around);
+              emit-text = λ b n span e g. emit-op-constant Text still-text b _ span e a-string (text n) (g .now) (g .around);
+              emit-invoke = λ b n m span e bound g. emit-invoke b n m span e bound (g .now) (g .around);
+              get-variable = λ n span g. get-variable n span (g .now) (g .around);
+              set-variable = λ n span g. set-variable n span (g .now) (g .around);
+              emit-jump = λ b span e g. emit-jump b span e (g .now) (g .around);
+              patch-jump = λ at span g. patch-jump at span (g .now) (g .around);
+              swap-waits = λ i j g s a. so K P start _ _ (g .around) (λ opened fs n ch x. l .swap-waits i j (g .now) opened fs n ch x) s a;
+            };
         code-length = λ g. loop-start (g .now) (g .around);
         emit-loop = λ at span g. emit-loop at span (g .now) (g .around);
         declare-local = λ n span g. declare-local n span (g .now) (g .around);
@@ -719,10 +723,9 @@ module _ (K : Type 0) (P : K → Fact) (start : K) (waits backs : ℕ → K → 
         begin-scope = λ g. begin-scope (g .now) (g .around);
         end-scope = λ span g. end-scope span (g .now) (g .around);
         push-class-ctx = λ b g. push-class-ctx b (g .now) (g .around);
-        pop-class-ctx = λ g. pop-class-ctx (g .now) (g .around);
+        pop-class-ctx = λ b g. pop-class-ctx (g .now) (g .around);
         begin-ctx = λ n a d t g. begin-ctx n a d t (g .now) (g .around);
         end-function = λ span g. end-function span (g .now) (g .around);
-        swap-waits = λ i j g s a. so K P start _ _ (g .around) (λ opened fs n ch x. l .swap-waits i j (g .now) opened fs n ch x) s a;
         swap-backs = λ i j g s a. so K P start _ _ (g .around) (λ opened fs n ch x. l .swap-backs i j (g .now) opened fs n ch x) s a;
       }
 
@@ -772,7 +775,7 @@ module _ (K : Type 0) (P : K → Fact) (start : K) (waits backs : ℕ → K → 
           }
 
       script-then-all : Triple (I begin) (c._>>_ (c.compile-script limit stmts) (c.the λ s. s .functions ++ (c.finish (s .ctx) ∷ []))) (λ fs _. Whole fs)
-      script-then-all = keeps.compile-script (Open K) I limit _ _ _ laws stmts begin >> all-of
+      script-then-all = keeps.compile-script (Open K) I limit _ _ _ _ laws stmts begin >> all-of
 
   -- where `P` stays as more functions are finished, each has it, seen with all
   finished-all : ((opened fs gs : List ObjectFunction) (n : ℕ) (ch : Chunk) → P start opened fs n ch → P start opened (fs ++ gs) n ch) →

@@ -28,3 +28,5 @@ pub mod Exactly
 pub mod Bounds
 pub mod Lookups
 pub mod OneResult
+pub mod UpTo
+pub mod Impossible
