@@ -11,11 +11,13 @@ use lib.Seq.{getD-set-same, getD-set-other}
 use borrow.Author.Tests.{eq-eqb, ne-eqb, eqb-true, eqb-false}
 use Rattle.rules.specs.Division.{Kind, Instruction, followed-by}
 use Rattle.rules.specs.Op.{Operands}
+use Rattle.rules.specs.Op as Op
 use Rattle.code.specs.Forms.{computes, operands-by, form-of, width}
 use Rattle.rules.specs.Checker.{closes, closures}
 use Rattle.code.specs.Table.{instruction-at, from, instructions, is-some, Closing, Counted, kinds-in}
 use Rattle.code.proofs.Steps.{passed, ended, within-code, has-width, no-true}
 use Rattle.code.proofs.Turns.{begins, goes-on, fits-in}
+use Rattle.code.proofs.Forms.{closure-only, closure-form}
 use Rattle.code.proofs.Fitting.{two-wide, first-is}
 
 closings-onto : (i : Instruction) (r : Option (List Instruction)) (place : ℕ) → is-some r ≡ true
@@ -74,16 +76,22 @@ module _ (table code : List ℕ) where
         below = λ p l. let b = c .below p l in omega arith;
       }
 
-  module _ (named : List ℕ) (at skip w f : ℕ) (c : Closing kind code named at skip) (z : skip ≡ 0) (h : at < length code)
-      (e : w ≡ width kind (getD code at 0) (drop (at + 1) code)) (known : f ≡ form-of (getD code at 0)) where
+  module _ (named : List ℕ) (at skip w : ℕ) (c : Closing kind code named at skip) (z : skip ≡ 0) (h : at < length code)
+      (e : w ≡ width kind (getD code at 0) (drop (at + 1) code)) where
+    abbrev op : ℕ
+    op = getD code at 0
+
     pub closing-width : 0 < w
     closing-width = has-width kind code at w h e (rw z at (c .divides))
 
     pub closing-fits : at + w ≤ length code
     closing-fits = fits-in kind code at skip w z h e (c .divides)
 
-    pub closing-two : f ≡ 8 → 2 ≤ w
-    closing-two k = let p : 0 < w = closing-width in rw (← e) at (two-wide table code at 0 f known (omega arith) (rw e at p))
+    pub closing-two : op ≡ Op.CLOSURE → 2 ≤ w
+    closing-two k =
+        let p : 0 < w = closing-width in
+        let f = closure-form op k in
+        rw (← e) at (two-wide table code at 0 (form-of op) refl (omega (arith, f)) (rw e at p))
 
     on : is-some (from kind code (at + 1) (w - 1)) ≡ true
     on = let p = closing-width in goes-on kind code at skip w (w - 1) z h e (omega arith) (c .divides)
@@ -91,28 +99,28 @@ module _ (table code : List ℕ) where
     abbrev bytes : List ℕ
     bytes = take (width kind (getD code at 0) (drop (at + 1) code) - 1) (drop (at + 1) code)
 
-    split : (place : ℕ) → closures place (instructions (from kind code at skip)) ≡ closes place (operands-by f) bytes + closures place (instructions (from kind code (at + 1) (w - 1)))
+    split : (place : ℕ) → closures place (instructions (from kind code at skip)) ≡ closes place (operands-by (form-of op)) bytes + closures place (instructions (from kind code (at + 1) (w - 1)))
     unfolding instruction-at
     split place =
         let p = closing-width in
         ap (λ (r : Option (List Instruction)). closures place (instructions r)) (begins kind code at skip w (w - 1) z h e (omega arith))
-        ∙ closings-onto _ _ place on ∙ rw known refl
+        ∙ closings-onto _ _ place on
 
-    pub closing-other : (f ≡ 8 → ⊥) → Closing kind code named (at + 1) (w - 1)
+    pub closing-other : (op ≡ Op.CLOSURE → ⊥) → Closing kind code named (at + 1) (w - 1)
     closing-other n =
         record {
           size = c .size;
           within = omega arith;
           divides = on;
-          counted = λ p l. (let a = c .counted p l in let b = split p in let d = closes-other f bytes p n in omega arith);
+          counted = λ p l. (let a = c .counted p l in let b = split p in let d = closes-other (form-of op) bytes p (λ x. n (closure-only op x)) in omega arith);
           below = λ p l. let b = c .below p l in omega arith;
         }
 
-    pub closing-here : (place : ℕ) → f ≡ 8 → place ≡ getD code (at + 1) 0 → place < 256
+    pub closing-here : (place : ℕ) → op ≡ Op.CLOSURE → place ≡ getD code (at + 1) 0 → place < 256
         → Closing kind code (set named place (getD named place 0 + 1)) (at + 1) (w - 1)
     closing-here place k q l =
         let two = rw e at (closing-two k) in
-        let first : getD bytes 0 0 ≡ place = first-is table code at 0 f known place (getD table place 0) two q refl in
+        let first : getD bytes 0 0 ≡ place = first-is table code at 0 (form-of op) refl place (getD table place 0) two q refl in
         let room : place < length named = omega (arith, c .size) in
         record {
           size = length-set named place _ ∙ c .size;
@@ -123,12 +131,12 @@ module _ (table code : List ℕ) where
               (λ (v : ℕ). closures p (instructions (from kind code 0 0)) ≡ v + closures p (instructions (from kind code (at + 1) (w - 1)))) room
               (λ (s : p ≡ place).
               let a = c .counted p m in let b = split p in
-              let d : closes p (operands-by f) bytes ≡ 1 = rw k (closes-at bytes p (first ∙ sym s)) in
+              let d : closes p (operands-by (form-of op)) bytes ≡ 1 = rw (closure-form op k) (closes-at bytes p (first ∙ sym s)) in
               let t : getD named p 0 ≡ getD named place 0 = ap (λ (x : ℕ). getD named x 0) s in
               omega arith)
               (λ (s : p ≡ place → ⊥).
               let a = c .counted p m in let b = split p in
-              let d : closes p (operands-by f) bytes ≡ 0 = rw k (closes-not bytes p (λ (x : getD bytes 0 0 ≡ p). s (sym x ∙ first))) in
+              let d : closes p (operands-by (form-of op)) bytes ≡ 0 = rw (closure-form op k) (closes-not bytes p (λ (x : getD bytes 0 0 ≡ p). s (sym x ∙ first))) in
               omega arith)
               (eqb p place) refl;
           below =

@@ -5,12 +5,13 @@ use mathlib.Core.Option.{Option, none, some}
 use mathlib.Core.List.{List, [], _∷_}
 use Prim.Native.Nat.{ℕ, zero, suc, _+_, _-_, _*_, _<_, _≤_}
 use native.Mathlib.Omega.{arith}
-use native.Mathlib.Nat.{add-zero}
+use native.Mathlib.Nat.{add-zero, eq-or-lt-of-le}
+use mathlib.Core.Logic.{⊎-elim}
 use native.Mathlib.Decide.{decLt}
-use lib.Dec.{T, ltb, eqb, eqb→eq, ltb→lt}
+use lib.Dec.{T, ltb, leb, eqb, eqb→eq, ltb→lt, leb→le}
 use lib.ListN.{length, getD, take, drop, List·getD-eq-default}
 use lib.Seq.{getD-drop}
-use borrow.Author.Tests.{ne-eqb}
+use borrow.Author.Tests.{eq-eqb, ne-eqb}
 use Rattle.op.proofs.Ranges.{below}
 use Rattle.code.specs.Forms.{computes, form, form-of, by-form, width-by, width}
 use Rattle.rules.specs.Base.{if_then_else_, all-below, lookup}
@@ -70,14 +71,42 @@ by-form-is (some Closure) = refl
 
 -- ## Widths: those of the rules' table, where a CLOSURE finds a function
 
--- CLOSURE alone has such operands
-closure-only : (op : ℕ) → form-of op ≡ 8 → op ≡ Op.CLOSURE
-unfolding Op.computes form form-of
-closure-only op e = by-place (decLt op 40)
+-- what is so of every opcode of a form, by one test over the table
+only : (f : ℕ) (q : ℕ → Bool) → T (all-below 40 (λ i. if eqb (form-of i) f then q i else true)) → f < 9 → (op : ℕ) → form-of op ≡ f → T (q op)
+only f q t h op e = by-place (decLt op 40)
   where
-    by-place : Dec (op < 40) → op ≡ Op.CLOSURE
-    by-place (yes h) = eqb→eq _ _ (rw e at (below 40 (λ i. if eqb (form-of i) 8 then eqb i Op.CLOSURE else true) tt op h))
-    by-place (no h) = let u : 9 ≡ form-of op = form-unknown op (omega arith) in absurd (omega (arith, u, e))
+    by-place : Dec (op < 40) → T (q op)
+    by-place (yes l) =
+        let here = below 40 (λ i. if eqb (form-of i) f then q i else true) t op l in
+        rw (eq-eqb (form-of op) f e) at here
+    by-place (no l) = let u : 9 ≡ form-of op = form-unknown op (omega arith) in absurd (omega (arith, u, e))
+
+pub closure-only : (op : ℕ) → form-of op ≡ 8 → op ≡ Op.CLOSURE
+unfolding Op.computes form form-of
+closure-only op e = eqb→eq _ _ (only 8 (λ i. eqb i Op.CLOSURE) tt (omega arith) op e)
+
+pub ahead-only : (op : ℕ) → form-of op ≡ 6 → (Op.JUMP ≤ op) × (op < Op.LOOP)
+unfolding Op.computes form form-of
+ahead-only op e =
+    (leb→le _ _ (only 6 (λ i. leb Op.JUMP i) tt (omega arith) op e), ltb→lt _ _ (only 6 (λ i. ltb i Op.LOOP) tt (omega arith) op e))
+
+pub back-only : (op : ℕ) → form-of op ≡ 7 → op ≡ Op.LOOP
+unfolding Op.computes form form-of
+back-only op e = eqb→eq _ _ (only 7 (λ i. eqb i Op.LOOP) tt (omega arith) op e)
+
+pub closure-form : (op : ℕ) → op ≡ Op.CLOSURE → form-of op ≡ 8
+unfolding Op.computes form form-of
+closure-form op e = rw e refl
+
+pub ahead-form : (op : ℕ) → Op.JUMP ≤ op → op < Op.LOOP → form-of op ≡ 6
+unfolding Op.computes form form-of
+ahead-form op l h =
+    ⊎-elim (λ (e : op ≡ Op.JUMP-IF-FALSE). rw e refl) (λ (m : op < Op.JUMP-IF-FALSE). let e : op ≡ Op.JUMP = omega arith in rw e refl)
+    (eq-or-lt-of-le (omega arith))
+
+pub back-form : (op : ℕ) → op ≡ Op.LOOP → form-of op ≡ 7
+unfolding Op.computes form form-of
+back-form op e = rw e refl
 
 fixed : (o : Option Operands) (k : Kind) → (form o ≡ 8 → ⊥) → Op.width-of o 0 ≡ width-by (form o) k
 unfolding computes form Op.width-of
@@ -91,10 +120,6 @@ fixed (some Invoke) k n = refl
 fixed (some Ahead) k n = refl
 fixed (some Back) k n = refl
 fixed (some Closure) k n = absurd (n refl)
-
-closure-form : form-of Op.CLOSURE ≡ 8
-unfolding Op.computes form form-of
-closure-form = refl
 
 missed : (k : ℕ) → k < 3 → 0 ≡ width-by 8 (kind-of k)
 unfolding computes kind-of
@@ -119,11 +144,11 @@ module _ (code table : List ℕ) (at op : ℕ) (is-op : op ≡ getD code at 0) w
   module _ (k : ℕ) (is-kind : kind-of k ≡ kinds-in table (getD (drop (at + 1) code) 0 0)) (c : op ≡ Op.CLOSURE) where
     pub width-missed : k < 3 → 0 ≡ its
     unfolding width
-    width-missed h = rw (← is-op, ← is-kind, c, closure-form) (missed k h)
+    width-missed h = rw (← is-op, ← is-kind, closure-form op c) (missed k h)
 
     pub width-found : (n r : ℕ) → k ≡ suc (suc (suc n)) → r ≡ Op.width op n → r ≡ its
     unfolding width
-    width-found n r m e = rw (e, ← is-op, ← is-kind, c, closure-form, m) (found n)
+    width-found n r m e = rw (e, ← is-op, ← is-kind, closure-form op c, c, m) (found n)
 
 pub kind-found : (code table : List ℕ) (at : ℕ) (place : ℕ) → place ≡ getD code (at + 1) 0
     → kind-of (getD table place 0) ≡ kinds-in table (getD (drop (at + 1) code) 0 0)

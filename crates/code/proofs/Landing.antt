@@ -12,8 +12,10 @@ use lib.Dec.{ltb, leb, eqb}
 use lib.Seq.{getD-drop}
 use borrow.Author.Tests.{eq-eqb, ne-eqb, le-leb, lt-leb}
 use Rattle.rules.specs.Division.{Kind, Instruction, followed-by, divide, is-start, word, lands, lands-by}
-use Rattle.rules.specs.Op.{Operands}
-use Rattle.code.specs.Forms.{computes, operands-by, form-of, width, width-by}
+use Rattle.rules.specs.Op.{Operands, Plain, Byte, Captured, Value, Text, Invoke, Ahead, Back, Closure, operands-of}
+use Rattle.rules.specs.Op as Op
+use Rattle.code.specs.Forms.{computes, operands-by, form, form-of, width, width-by}
+use Rattle.code.proofs.Forms.{ahead-only, back-only, ahead-form, back-form}
 use Rattle.rules.specs.Base.{all}
 use Rattle.code.specs.Table.{instruction-at, from, instructions, is-some, bit, start-at, Filled, Near, all-land}
 use Rattle.code.proofs.Steps.{passed, here, ended, within-code, onto-other, none-start, divide-none, divide-op, no-true}
@@ -26,28 +28,19 @@ word-is (x ∷ y ∷ l) = refl
 getD-from : (l : List ℕ) (n i m : ℕ) → n + i ≡ m → getD (drop n l) i 0 ≡ getD l m 0
 getD-from l n i m e = getD-drop n l i 0 ∙ ap (λ (k : ℕ). getD l k 0) e
 
-pub other-lands : (is : List Instruction) (size at : ℕ) (f : ℕ) (bytes : List ℕ) → f < 6 → true ≡ lands-by is size at (operands-by f) bytes
-unfolding computes lands-by
-other-lands is size at zero b h = refl
-other-lands is size at (suc zero) b h = refl
-other-lands is size at (suc (suc zero)) b h = refl
-other-lands is size at (suc (suc (suc zero))) b h = refl
-other-lands is size at (suc (suc (suc (suc zero)))) b h = refl
-other-lands is size at (suc (suc (suc (suc (suc zero))))) b h = refl
-other-lands is size at (suc (suc (suc (suc (suc (suc f)))))) b h = absurd (omega arith)
-
-pub above-lands : (is : List Instruction) (size at : ℕ) (f : ℕ) (bytes : List ℕ) → 7 < f → true ≡ lands-by is size at (operands-by f) bytes
-unfolding computes lands-by
-above-lands is size at zero b h = absurd (omega arith)
-above-lands is size at (suc zero) b h = absurd (omega arith)
-above-lands is size at (suc (suc zero)) b h = absurd (omega arith)
-above-lands is size at (suc (suc (suc zero))) b h = absurd (omega arith)
-above-lands is size at (suc (suc (suc (suc zero)))) b h = absurd (omega arith)
-above-lands is size at (suc (suc (suc (suc (suc zero))))) b h = absurd (omega arith)
-above-lands is size at (suc (suc (suc (suc (suc (suc zero)))))) b h = absurd (omega arith)
-above-lands is size at (suc (suc (suc (suc (suc (suc (suc zero))))))) b h = absurd (omega arith)
-above-lands is size at (suc (suc (suc (suc (suc (suc (suc (suc zero)))))))) b h = refl
-above-lands is size at (suc (suc (suc (suc (suc (suc (suc (suc (suc f))))))))) b h = refl
+other-lands : (is : List Instruction) (size at : ℕ) (o : Option Operands) (bytes : List ℕ) → (form o ≡ 6 → ⊥) → (form o ≡ 7 → ⊥)
+    → true ≡ lands-by is size at (operands-by (form o)) bytes
+unfolding computes form lands-by
+other-lands is size at none b n m = refl
+other-lands is size at (some Plain) b n m = refl
+other-lands is size at (some Byte) b n m = refl
+other-lands is size at (some Captured) b n m = refl
+other-lands is size at (some Value) b n m = refl
+other-lands is size at (some Text) b n m = refl
+other-lands is size at (some Invoke) b n m = refl
+other-lands is size at (some Ahead) b n m = absurd (n refl)
+other-lands is size at (some Back) b n m = absurd (m refl)
+other-lands is size at (some Closure) b n m = refl
 
 or-true : (b : Bool) → (b || true) ≡ true
 or-true true = refl
@@ -82,7 +75,7 @@ module _ (kind : ℕ → Kind) where
     unfolding from
     no-start p h = beyond 0 0 (drop 0 code) p (simp length-drop (omega arith))
 
-    module _ (at f : ℕ) (known : f ≡ form-of (getD code at 0)) where
+    module _ (at op : ℕ) (known : op ≡ getD code at 0) where
       abbrev far : ℕ
       far = getD code (at + 1) 0 + 256 * getD code (at + 2) 0
 
@@ -95,13 +88,13 @@ module _ (kind : ℕ → Kind) where
       far-is : word (take 2 (drop (at + 1) code)) ≡ far
       far-is = word-is (drop (at + 1) code) ∙ rw (getD-from code (at + 1) 0 (at + 1) (omega arith), getD-from code (at + 1) 1 (at + 2) (omega arith)) refl
 
-      pub form-lands : f < 6 → true ≡ verdict
-      unfolding instruction-at lands
-      form-lands h = rw (← known) (other-lands is (length code) at f _ h)
-
-      pub form-above : 7 < f → true ≡ verdict
-      unfolding instruction-at lands
-      form-above h = rw (← known) (above-lands is (length code) at f _ h)
+      pub no-jump : (Op.JUMP ≤ op → op ≤ Op.LOOP → ⊥) → true ≡ verdict
+      unfolding instruction-at lands form-of
+      no-jump n =
+          rw (← known)
+          (other-lands is (length code) at (operands-of op) _
+          (λ (e : form-of op ≡ 6). let a = ahead-only op e in n (a .0) (omega (arith, a .1)))
+          (λ (e : form-of op ≡ 7). let a = back-only op e in n (omega arith) (omega arith)))
 
       six : (g : ℕ) → form-of g ≡ 6 → width kind g (drop (at + 1) code) ≡ 3
       unfolding computes width
@@ -111,42 +104,48 @@ module _ (kind : ℕ → Kind) where
       unfolding computes width
       seven g e = rw e refl
 
-      ahead-is : f ≡ 6 → verdict ≡ (is-start is (at + 3 + far) || eqb (at + 3 + far) (length code))
-      unfolding computes instruction-at lands lands-by
-      ahead-is e = let g : form-of (getD code at 0) ≡ 6 = sym known ∙ e in rw (six (getD code at 0) g, g, far-is) refl
+      ahead-at : Op.JUMP ≤ op → op < Op.LOOP → form-of (getD code at 0) ≡ 6
+      ahead-at l h = rw (← known) (ahead-form op l h)
 
-      back-is : f ≡ 7 → verdict ≡ (leb far (at + 3) && is-start is (at + 3 - far))
-      unfolding computes instruction-at lands lands-by
-      back-is e = let g : form-of (getD code at 0) ≡ 7 = sym known ∙ e in rw (seven (getD code at 0) g, g, far-is) refl
+      back-at : op ≡ Op.LOOP → form-of (getD code at 0) ≡ 7
+      back-at e = rw (← known) (back-form op e)
 
-      pub jump-room : 6 ≤ f → f ≤ 7 → at + width kind (getD code at 0) (drop (at + 1) code) ≤ length code → at + 3 ≤ length code
+      ahead-is : form-of (getD code at 0) ≡ 6 → verdict ≡ (is-start is (at + 3 + far) || eqb (at + 3 + far) (length code))
+      unfolding computes instruction-at lands lands-by
+      ahead-is g = rw (six (getD code at 0) g, g, far-is) refl
+
+      back-is : form-of (getD code at 0) ≡ 7 → verdict ≡ (leb far (at + 3) && is-start is (at + 3 - far))
+      unfolding computes instruction-at lands lands-by
+      back-is g = rw (seven (getD code at 0) g, g, far-is) refl
+
+      pub jump-room : Op.JUMP ≤ op → op ≤ Op.LOOP → at + width kind (getD code at 0) (drop (at + 1) code) ≤ length code → at + 3 ≤ length code
       jump-room l u fits =
-          ⊎-elim (λ (e : f ≡ 7). rw (seven (getD code at 0) (sym known ∙ e)) at fits)
-          (λ (h : f < 7). let e : f ≡ 6 = omega arith in rw (six (getD code at 0) (sym known ∙ e)) at fits)
+          ⊎-elim (λ (e : op ≡ Op.LOOP). rw (seven (getD code at 0) (back-at e)) at fits)
+          (λ (h : op < Op.LOOP). rw (six (getD code at 0) (ahead-at l h)) at fits)
           (eq-or-lt-of-le u)
 
       module _ (d : ℕ) (is-far : d ≡ far) where
-        pub ahead-end : f ≡ 6 → at + 3 + d ≡ length code → true ≡ verdict
-        ahead-end e h = sym (ahead-is e ∙ rw (← is-far, eq-eqb _ _ h) (or-true (is-start is (at + 3 + d))))
+        pub ahead-end : Op.JUMP ≤ op → op < Op.LOOP → at + 3 + d ≡ length code → true ≡ verdict
+        ahead-end l u h = sym (ahead-is (ahead-at l u) ∙ rw (← is-far, eq-eqb _ _ h) (or-true (is-start is (at + 3 + d))))
 
-        pub ahead-past : f ≡ 6 → length code < at + 3 + d → false ≡ verdict
-        ahead-past e h =
+        pub ahead-past : Op.JUMP ≤ op → op < Op.LOOP → length code < at + 3 + d → false ≡ verdict
+        ahead-past l u h =
             let n : at + 3 + d ≡ length code → ⊥ = λ q. omega arith in
-            sym (ahead-is e ∙ rw (← is-far, ne-eqb _ _ n, no-start (at + 3 + d) (omega arith)) refl)
+            sym (ahead-is (ahead-at l u) ∙ rw (← is-far, ne-eqb _ _ n, no-start (at + 3 + d) (omega arith)) refl)
 
-        pub ahead-near : (ring : List ℕ) → Near kind code ring at → d ≤ 65535 → f ≡ 6 → at + 3 + d < length code
+        pub ahead-near : (ring : List ℕ) → Near kind code ring at → d ≤ 65535 → Op.JUMP ≤ op → op < Op.LOOP → at + 3 + d < length code
             → eqb (getD ring ((at + 3 + d) % 131072) 0) 1 ≡ verdict
-        ahead-near ring near small e h =
+        ahead-near ring near small l u h =
             let n : at + 3 + d ≡ length code → ⊥ = λ q. omega arith in
-            sym (ahead-is e ∙ rw (← is-far, ne-eqb _ _ n, near .near (at + 3 + d) h (omega arith) (omega arith), bit-is) (or-false (start-at kind code (at + 3 + d))))
+            sym (ahead-is (ahead-at l u) ∙ rw (← is-far, ne-eqb _ _ n, near .near (at + 3 + d) h (omega arith) (omega arith), bit-is) (or-false (start-at kind code (at + 3 + d))))
 
-        pub back-far : f ≡ 7 → at + 3 < d → false ≡ verdict
-        back-far e h = sym (back-is e ∙ rw (← is-far, lt-leb _ _ h) refl)
+        pub back-far : op ≡ Op.LOOP → at + 3 < d → false ≡ verdict
+        back-far e h = sym (back-is (back-at e) ∙ rw (← is-far, lt-leb _ _ h) refl)
 
-        pub back-past : f ≡ 7 → d ≤ at + 3 → length code ≤ at + 3 - d → false ≡ verdict
-        back-past e l h = sym (back-is e ∙ rw (← is-far, le-leb _ _ l, no-start (at + 3 - d) h) refl)
+        pub back-past : op ≡ Op.LOOP → d ≤ at + 3 → length code ≤ at + 3 - d → false ≡ verdict
+        back-past e l h = sym (back-is (back-at e) ∙ rw (← is-far, le-leb _ _ l, no-start (at + 3 - d) h) refl)
 
-        pub back-near : (ring : List ℕ) → Near kind code ring at → d ≤ 65535 → f ≡ 7 → d ≤ at + 3 → at + 3 - d < length code
+        pub back-near : (ring : List ℕ) → Near kind code ring at → d ≤ 65535 → op ≡ Op.LOOP → d ≤ at + 3 → at + 3 - d < length code
             → eqb (getD ring ((at + 3 - d) % 131072) 0) 1 ≡ verdict
         back-near ring near small e l h =
-            sym (back-is e ∙ rw (← is-far, le-leb _ _ l, near .near (at + 3 - d) h (omega arith) (omega arith), bit-is) refl)
+            sym (back-is (back-at e) ∙ rw (← is-far, le-leb _ _ l, near .near (at + 3 - d) h (omega arith) (omega arith), bit-is) refl)

@@ -282,16 +282,16 @@ fn lands(code: &[u8], at: usize, kinds: &[u32; 256], ring: &[u8; 131072]) -> boo
     requires { ⌜ Near (kinds-in (now kinds)) (now code) (now ring) at ⌝ }
     ensures { λ r. ⌜ r ≡ Division.lands (instructions (from (kinds-in (now (kinds .entry))) (now (code .entry)) 0 0)) (length (now (code .entry))) (instruction-at (kinds-in (now (kinds .entry))) (now (code .entry)) at) ⌝ }
 {
-    let form = form_of(code[at]);
-    if form < Form::AHEAD {
+    let op = code[at];
+    if op < Op::JUMP {
         return true;
     }
-    if form > Form::BACK {
+    if op > Op::LOOP {
         return true;
     }
     let far = fields::wide(code[at + 1]) + 256 * fields::wide(code[at + 2]);
     let next = at + 3;
-    if form == Form::AHEAD {
+    if op < Op::LOOP {
         let to = next + far;
         if to == code.len() {
             return true;
@@ -354,7 +354,7 @@ fn closures(code: &[u8], kinds: &[u32; 256], named: &mut [u64; 256])
             at += 1;
         } else {
             let w = width_at(code, at, kinds);
-            if form_of(code[at]) == Form::CLOSURE {
+            if code[at] == Op::CLOSURE {
                 let place = fields::wide(code[at + 1]);
                 let before = named[place];
                 named[place] = before + 1;
