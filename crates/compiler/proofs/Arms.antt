@@ -1,11 +1,11 @@
--- The arms of `compile_any`: from what is known of its steps, that the expression that was read is compiled. One law for each way out.
+-- The arms of `compile_expr`: from what is known of its steps, that the expression that was read is compiled. One law for each way out.
 use mathlib.Core.Path.{_≡_, sym, ap, ap₂, subst, _∙_}
 use mathlib.Core.Bool.{true, false}
 use mathlib.Core.Option.{some}
-use mathlib.Core.Logic.{⊎-elim}
 use mathlib.Core.List.{List}
-use Prim.Native.Nat.{ℕ, _+_, _-_, _*_, _^_, _≤_, _<_}
+use Prim.Native.Nat.{ℕ, _+_, _-_, _^_, _≤_, _<_}
 use native.Mathlib.Omega.{arith}
+use lib.ListN.{length}
 use borrow.Author.Tests.{lt-ltb}
 use Rattle.rules.specs.Base.{lookup}
 use Rattle.rules.specs.Limits.{max-bits}
@@ -13,36 +13,28 @@ use Rattle.rules.specs.declared.Span.{Span}
 use Rattle.rules.specs.declared.Refusal.{Refusal}
 use Rattle.rules.specs.Tree.{Expr, Exprs, ExprAssign, ExprCall, ExprGet, ExprInfix, Literal, ExprPrefix, ExprSet, ExprSuper, ExprVar, ExprLiteral, LitBool, LitNil, LitNumber, LitString, OpInfix}
 use Rattle.rules.specs.Reader.{Read, got}
-use Rattle.rules.specs.TreeFile.{expr-marks, read-exprs, infix-ops, prefix-ops}
+use Rattle.rules.specs.TreeFile.{read-exprs, infix-ops, prefix-ops}
 use Rattle.rules.specs.Op as op
 use Rattle.rules.specs.Chunk.{Constant, CN, CS}
 use Rattle.rules.specs.Compiler.{Compile, _>>=_, _>>_, emit-op, emit-op-constant, get-variable, set-variable, compile-literal, compile-super, compile-expr, compile-exprs}
 use Rattle.fields.specs.Words.{word8, word16, word64, letters, span-of}
-use Rattle.parsed.proofs.Taken.{row, no-row}
-use Rattle.parsed.proofs.Expressions.{LiteralAt, count-read, any-at, prefix-at, infix-at, get-at, assign-at, set-at, var-at, super-at, call-at, literal-at, false-at, true-at, nil-at, number-at, string-at}
+use Rattle.parsed.proofs.Expressions.{LiteralAt, count-read, any-at, prefix-at, infix-at, get-at, assign-at, set-at, var-at, super-at, call-at, literal-at, false-at, true-at, nil-at, number-at}
+use Rattle.parsed.proofs.Expressions.{string-at, last-mark}
+use Rattle.parsed.proofs.Later.{later-expr}
 use Rattle.state.specs.Layout.{constantOf}
 use Rattle.steps.specs.View.{Mem, Fit, code-len, steady, Gave, Refused, Did}
-use Rattle.steps.proofs.Steps.{went, valued, stop, halt, then-on, did-bind, did-seq, refused-bind, refused-seq, gave-refused-seq}
+use Rattle.steps.proofs.Steps.{went, valued, still, stop, halt, then-on, did-bind, did-seq, refused-bind, refused-seq, gave-refused-seq}
 use Rattle.steps.specs.declared.Step.{Step}
 use Rattle.steps.specs.declared.Step.the-variants.{Next, Stop}
-use Rattle.compiler.specs.Exprs.{There, expr-at, Ran, PrefixOp, before-right, after-right, BegunAs, BegunBy, Begun, Closed, callee-of, parts, first-part, part-count, call-open, call-close, CallOpened, CallParts, CallClosed}
+use Rattle.compiler.specs.Exprs.{There, Somewhere, expr-at, Ran, PrefixOp, before-right, after-right, BegunAs, BegunBy, Begun, Closed, callee-of, parts, first-part, part-count, call-open}
+use Rattle.compiler.specs.Exprs.{call-close, CallOpened, CallParts, CallClosed}
 use Rattle.compiler.proofs.Monad.{like, on-to}
 use Rattle.compiler.proofs.Operators.{infix-cut}
-use Rattle.compiler.proofs.Calls.{call-cut, parts-read, Walk, walk-stop, walk-done}
+use Rattle.compiler.proofs.Calls.{call-cut, first-on, parts-read, Walk, walk-stop, walk-done}
 
 -- a number's word is the number
 number-word : (n : ℕ) → n ≤ max-bits → constantOf n ≡ CN n
 number-word n h = let b : n < 2 ^ 63 = omega arith in rw (lt-ltb n (2 ^ 63) b)
-
--- the measure falls, from a level to the next one in and within one
-pub falls : (d t : ℕ) → 1 ≤ d → 3 * d ≡ t → 3 * (d - 1) + 2 < t
-falls d t h e = omega arith
-
-pub to-any : (d t : ℕ) → 3 * d + 2 ≡ t → 3 * d + 1 < t
-to-any d t e = omega arith
-
-pub to-arm : (d t : ℕ) → 3 * d + 1 ≡ t → 3 * d < t
-to-arm d t e = omega arith
 
 same-stop : {class limit l n : ℕ} {m : Compile Unit} {before now : Mem} {r : Step} {x : Refusal} → r ≡ Stop x → Refused class l m before x → Did class limit l n steady m before now r
 same-stop {class} {limit} {l} {n} {m} {before} {now} q h = subst (λ (s : Step). Did class limit l n steady m before now s) (sym q) (stop now h)
@@ -52,6 +44,7 @@ module _ {class limit l : ℕ} {before : Mem} where
   by : {n : ℕ} {e e′ : Expr} {now : Mem} {r : Step} → e ≡ e′ → Did class limit l n steady (compile-expr limit e′) before now r → Did class limit l n steady (compile-expr limit e) before now r
   by {n} {now = now} {r = r} q x = subst (λ (z : Expr). Did class limit l n steady (compile-expr limit z) before now r) (sym q) x
 
+  -- the answer, made anew
   pub same-answer : {x : Read Expr} {now : Mem} {r r′ : Step} → r ≡ r′ → Ran class limit l x before now r → Ran class limit l x before now r′
   same-answer {x} {now} q a = subst (λ (s : Step). Ran class limit l x before now s) q a
 
@@ -105,7 +98,8 @@ module _ {class limit l : ℕ} {before : Mem} where
           on-to (sym (i .end)) (by (i .is ∙ ap₂ ExprVar (sym s) (sym p)) x);
     }
 
-    pub super-done : {now : Mem} {r : Step} → letters tree at ≡ 0x4555 → Did class limit l (at + 12) steady (compile-super limit name sp) before now r → Ran class limit l (expr-at tree d at) before now r
+    pub super-done : {now : Mem} {r : Step} → letters tree at ≡ 0x4555 → Did class limit l (at + 12) steady (compile-super limit name sp) before now r
+        → Ran class limit l (expr-at tree d at) before now r
     unfolding compile-expr
     super-done m x = record {
       did = λ e n z.
@@ -149,19 +143,23 @@ module _ {class limit l : ℕ} {before : Mem} where
 
   module _ (tree : List ℕ) (d at : ℕ) where
     -- the first child stopped
-    pub assign-stop : {now : Mem} {r : Step} {x : Refusal} → letters tree at ≡ 0x4541 → Ran class limit l (expr-at tree (d - 1) (at + 12)) before now r → r ≡ Stop x → Ran class limit l (expr-at tree d at) before now r
+    pub assign-stop : {now : Mem} {r : Step} {x : Refusal} → letters tree at ≡ 0x4541 → Ran class limit l (expr-at tree (d - 1) (at + 12)) before now r → r ≡ Stop x
+        → Ran class limit l (expr-at tree d at) before now r
     unfolding compile-expr
     assign-stop m a q = record { did = λ e n z. let i = assign-at tree (word16 tree 2) d at m z in by (i .is) (halt _ (a .did (i .value) n (i .one)) q) }
 
-    pub get-stop : {now : Mem} {r : Step} {x : Refusal} → letters tree at ≡ 0x4547 → Ran class limit l (expr-at tree (d - 1) (at + 12)) before now r → r ≡ Stop x → Ran class limit l (expr-at tree d at) before now r
+    pub get-stop : {now : Mem} {r : Step} {x : Refusal} → letters tree at ≡ 0x4547 → Ran class limit l (expr-at tree (d - 1) (at + 12)) before now r → r ≡ Stop x
+        → Ran class limit l (expr-at tree d at) before now r
     unfolding compile-expr
     get-stop m a q = record { did = λ e n z. let i = get-at tree (word16 tree 2) d at m z in by (i .is) (halt _ (a .did (i .object) n (i .one)) q) }
 
-    pub set-stop : {now : Mem} {r : Step} {x : Refusal} → letters tree at ≡ 0x4553 → Ran class limit l (expr-at tree (d - 1) (at + 12)) before now r → r ≡ Stop x → Ran class limit l (expr-at tree d at) before now r
+    pub set-stop : {now : Mem} {r : Step} {x : Refusal} → letters tree at ≡ 0x4553 → Ran class limit l (expr-at tree (d - 1) (at + 12)) before now r → r ≡ Stop x
+        → Ran class limit l (expr-at tree d at) before now r
     unfolding compile-expr
     set-stop m a q = record { did = λ e n z. let i = set-at tree (word16 tree 2) d at m z in by (i .is) (halt _ (a .did (i .value) (i .mid) (i .one)) q) }
 
-    pub set-second : {mid : Mem} {r : Step} {v n : ℕ} {e : Expr} → letters tree at ≡ 0x4553 → expr-at tree d at ≡ got e n → Ran class limit l (expr-at tree (d - 1) (at + 12)) before mid r → r ≡ Next v → There (expr-at tree (d - 1) v)
+    pub set-second : {mid : Mem} {r : Step} {v n : ℕ} {e : Expr} → letters tree at ≡ 0x4553 → expr-at tree d at ≡ got e n → Ran class limit l (expr-at tree (d - 1) (at + 12)) before mid r
+        → r ≡ Next v → There (expr-at tree (d - 1) v)
     set-second m z a q =
         let i = set-at tree (word16 tree 2) d at m z in
         record { thing = i .object; next = _; is = ap (expr-at tree (d - 1)) (valued (a .did (i .value) (i .mid) (i .one)) q) ∙ i .two }
@@ -179,12 +177,15 @@ module _ {class limit l : ℕ} {before : Mem} where
 
     -- ## Operators
 
-    pub prefix-stop : {now : Mem} {r : Step} {x : Refusal} → letters tree at ≡ 0x4550 → Ran class limit l (expr-at tree (d - 1) (at + 11)) before now r → r ≡ Stop x → Ran class limit l (expr-at tree d at) before now r
+    pub prefix-stop : {now : Mem} {r : Step} {x : Refusal} → letters tree at ≡ 0x4550 → Ran class limit l (expr-at tree (d - 1) (at + 11)) before now r → r ≡ Stop x
+        → Ran class limit l (expr-at tree d at) before now r
     unfolding compile-expr
     prefix-stop m a q = record { did = λ e n z. let i = prefix-at tree (word16 tree 2) d at m z in by (i .is) (halt _ (a .did (i .rt) n (i .one)) q) }
 
-    pub prefix-done : {mid now : Mem} {r r′ : Step} {v : ℕ} (byte operator : ℕ) (sp : Span) → sp ≡ span-of tree (at + 2) → operator ≡ word8 tree (at + 10) → PrefixOp operator byte → letters tree at ≡ 0x4550
-        → Ran class limit l (expr-at tree (d - 1) (at + 11)) before mid r → r ≡ Next v → Did class limit l v steady (emit-op limit byte sp) mid now r′ → Ran class limit l (expr-at tree d at) before now r′
+    pub prefix-done : {mid now : Mem} {r r′ : Step} {v : ℕ} (byte operator : ℕ) (sp : Span) → sp ≡ span-of tree (at + 2) → operator ≡ word8 tree (at + 10) → PrefixOp operator byte
+        → letters tree at ≡ 0x4550
+        → Ran class limit l (expr-at tree (d - 1) (at + 11)) before mid r → r ≡ Next v → Did class limit l v steady (emit-op limit byte sp) mid now r′
+        → Ran class limit l (expr-at tree d at) before now r′
     unfolding compile-expr
     prefix-done {mid} {now} {r′ = r′} {v = v} byte operator sp s w p m a q b = record {
       did = λ e n z.
@@ -195,11 +196,13 @@ module _ {class limit l : ℕ} {before : Mem} where
           (then-on _ c q (on-to (valued c q) (subst (λ (k : ℕ). Did class limit l v steady (emit-op limit k sp) mid now r′) y b)));
     }
 
-    pub infix-stop : {now : Mem} {r : Step} {x : Refusal} → letters tree at ≡ 0x4549 → Ran class limit l (expr-at tree (d - 1) (at + 11)) before now r → r ≡ Stop x → Ran class limit l (expr-at tree d at) before now r
+    pub infix-stop : {now : Mem} {r : Step} {x : Refusal} → letters tree at ≡ 0x4549 → Ran class limit l (expr-at tree (d - 1) (at + 11)) before now r → r ≡ Stop x
+        → Ran class limit l (expr-at tree d at) before now r
     unfolding compile-expr
     infix-stop m a q = record { did = λ e n z. let i = infix-at tree (word16 tree 2) d at m z in by (i .is) (halt _ (a .did (i .lt) (i .mid) (i .one)) q) }
 
-    pub infix-second : {mid : Mem} {r : Step} {v n : ℕ} {e : Expr} → letters tree at ≡ 0x4549 → expr-at tree d at ≡ got e n → Ran class limit l (expr-at tree (d - 1) (at + 11)) before mid r → r ≡ Next v → There (expr-at tree (d - 1) v)
+    pub infix-second : {mid : Mem} {r : Step} {v n : ℕ} {e : Expr} → letters tree at ≡ 0x4549 → expr-at tree d at ≡ got e n → Ran class limit l (expr-at tree (d - 1) (at + 11)) before mid r
+        → r ≡ Next v → There (expr-at tree (d - 1) v)
     infix-second m z a q =
         let i = infix-at tree (word16 tree 2) d at m z in
         record { thing = i .rt; next = _; is = ap (expr-at tree (d - 1)) (valued (a .did (i .lt) (i .mid) (i .one)) q) ∙ i .two }
@@ -238,7 +241,8 @@ module _ {class limit l : ℕ} {before mid : Mem} (tree : List ℕ) (d at operat
   infix-done b q′ f q″ g = infix-by (λ o rt n h z. let c = f .did rt n z in did-bind (begun-gave (b .did o h) q′ .0) _ (then-on _ c q″ (on-to (valued c q″) (g .did o h))))
 
 -- what the steps after the left side need
-pub begun-fit : {class limit l operator place : ℕ} (tree : List ℕ) (d at : ℕ) {sp : Span} {e : Expr} {n : ℕ} {before now : Mem} {r : Step} → operator ≡ word8 tree (at + 10) → letters tree at ≡ 0x4549 → expr-at tree d at ≡ got e n
+pub begun-fit : {class limit l operator place : ℕ} (tree : List ℕ) (d at : ℕ) {sp : Span} {e : Expr} {n : ℕ} {before now : Mem} {r : Step} → operator ≡ word8 tree (at + 10) → letters tree at ≡ 0x4549
+    → expr-at tree d at ≡ got e n
     → Begun class limit l operator sp before now r → r ≡ Next place → Fit now l limit × (10 ≤ operator → place + 2 ≤ code-len now l)
 begun-fit tree d at w m z b q =
     let i = infix-at tree (word16 tree 2) d at m z in
@@ -253,7 +257,9 @@ callee-there tree d at m z = let i = call-at tree (word16 tree 2) d at m z in re
 module _ {class limit l : ℕ} {before : Mem} (tree : List ℕ) (d at : ℕ) (sp : Span) (s : sp ≡ span-of tree (at + 2)) (m : letters tree at ≡ 0x4543) where
   call-by : {now : Mem} {r : Step} → ((callee : Expr) (args : Exprs) (mid n : ℕ) → expr-at tree (d - 1) (at + 12) ≡ got callee mid
       → read-exprs (part-count (callee-of callee) (word16 tree (at + 10))) (expr-at tree (d - 1)) (first-part (callee-of callee) at) ≡ got (parts (callee-of callee) callee args) n
-      → Did class limit l n steady (call-open limit (callee-of callee) (word16 tree (at + 10)) sp >> (compile-exprs limit (parts (callee-of callee) callee args) >> call-close limit (callee-of callee) (word16 tree (at + 10)) sp)) before now r)
+      → Did class limit l n steady
+      (call-open limit (callee-of callee) (word16 tree (at + 10)) sp >> (compile-exprs limit (parts (callee-of callee) callee args) >> call-close limit (callee-of callee) (word16 tree (at + 10)) sp))
+      before now r)
       → Ran class limit l (expr-at tree d at) before now r
   call-by {now} {r} f = record {
     did = λ e n z.
@@ -263,7 +269,9 @@ module _ {class limit l : ℕ} {before : Mem} (tree : List ℕ) (d at : ℕ) (sp
         let c = count-read (expr-at tree (d - 1)) (word16 tree (at + 10)) (i .mid) (i .many) in
         by (i .is ∙ ap (λ (w : Span). ExprCall w (i .callee) (i .args)) (sym s))
         (like (call-cut limit sp (i .callee) (i .args))
-        (subst (λ (j : ℕ). Did class limit l n steady (call-open limit (callee-of (i .callee)) j sp >> (compile-exprs limit (parts (callee-of (i .callee)) (i .callee) (i .args)) >> call-close limit (callee-of (i .callee)) j sp)) before now r) (sym c) x));
+        (subst (λ (j : ℕ). Did class limit l n steady
+        (call-open limit (callee-of (i .callee)) j sp >> (compile-exprs limit (parts (callee-of (i .callee)) (i .callee) (i .args)) >> call-close limit (callee-of (i .callee)) j sp)) before now r)
+        (sym c) x));
   }
 
   pub call-stop : {now : Mem} {r : Step} {x : Refusal} → CallOpened class limit l tree at sp before now r → r ≡ Stop x → Ran class limit l (expr-at tree d at) before now r
@@ -283,6 +291,13 @@ module _ {class limit l : ℕ} {before : Mem} (tree : List ℕ) (d at : ℕ) (sp
     pub opened-fit : {e : Expr} {n : ℕ} → expr-at tree d at ≡ got e n → Fit mid l limit
     opened-fit z = let i = callee-there tree d at m z in went (o .did (d - 1) (i .thing) (i .next) (i .is)) q .ahead .fit
 
+    pub opened-on : {e : Expr} {n : ℕ} → expr-at tree d at ≡ got e n → at < from
+    opened-on z =
+        let i = callee-there tree d at m z in
+        let v = valued (o .did (d - 1) (i .thing) (i .next) (i .is)) q in
+        let h = first-on (callee-of (i .thing)) at in
+        omega (arith, v, h)
+
     module _ {late : Mem} {next left : ℕ} (w : Walk class limit l (expr-at tree (d - 1)) count from mid late next left) where
       pub part-stop : {now : Mem} {r′ : Step} {x : Refusal} → 0 < left → Ran class limit l (expr-at tree (d - 1) next) late now r′ → r′ ≡ Stop x → Ran class limit l (expr-at tree d at) before now r′
       part-stop h b q′ = call-by (λ callee args k n z y.
@@ -294,34 +309,85 @@ module _ {class limit l : ℕ} {before : Mem} (tree : List ℕ) (d at : ℕ) (sp
           let g = walk-done w (parts-at callee args z y) h in
           then-on _ (o .did (d - 1) callee k z) q (did-seq (g .0) _ (on-to (sym (g .1)) (b .did (d - 1) callee k z))))
 
--- ## A set's children
+-- ## Children
+
+-- less of the file is left further on
+fewer : (len at next t : ℕ) → at < len → at < next → len - at ≡ t → len - next < t
+fewer len at next t h g q = omega arith
+
+-- what `compile_expr` asks at a child: fewer bytes are left, and an expression was read there
+pub record Child (tree : List ℕ) (t next : ℕ) : Type 0 where
+  pub less : length tree - next < t
+  pub there : Somewhere tree next
+
+module _ (tree : List ℕ) (d at : ℕ) {e : Expr} {n : ℕ} (z : expr-at tree d at ≡ got e n) {t : ℕ} (q : length tree - at ≡ t) where
+  inside : at < length tree
+  inside = let b = any-at tree (word16 tree 2) d at z .bound in omega (arith, b)
+
+  pub child : {next : ℕ} → at < next → There (expr-at tree (d - 1) next) → Child tree t next
+  child {next} h x = record { less = fewer (length tree) at next t inside h q; there = record { depth = d - 1; there = x } }
+
+  eleven-on : at < at + 11
+  eleven-on = omega arith
+
+  twelve-on : at < at + 12
+  twelve-on = omega arith
+
+  pub prefix-child : letters tree at ≡ 0x4550 → Child tree t (at + 11)
+  prefix-child m = let i = prefix-at tree (word16 tree 2) d at m z in child eleven-on (record { thing = i .rt; next = n; is = i .one })
+
+  pub infix-left : letters tree at ≡ 0x4549 → Child tree t (at + 11)
+  infix-left m = let i = infix-at tree (word16 tree 2) d at m z in child eleven-on (record { thing = i .lt; next = i .mid; is = i .one })
+
+  pub assign-child : letters tree at ≡ 0x4541 → Child tree t (at + 12)
+  assign-child m = let i = assign-at tree (word16 tree 2) d at m z in child twelve-on (record { thing = i .value; next = n; is = i .one })
+
+  pub get-child : letters tree at ≡ 0x4547 → Child tree t (at + 12)
+  get-child m = let i = get-at tree (word16 tree 2) d at m z in child twelve-on (record { thing = i .object; next = n; is = i .one })
+
+  pub set-value : letters tree at ≡ 0x4553 → Child tree t (at + 12)
+  set-value m = let i = set-at tree (word16 tree 2) d at m z in child twelve-on (record { thing = i .value; next = i .mid; is = i .one })
+
+  module _ {class limit l : ℕ} {before mid : Mem} {r : Step} {v : ℕ} where
+    -- a second child stands where the first ended
+    pub infix-right : letters tree at ≡ 0x4549 → Ran class limit l (expr-at tree (d - 1) (at + 11)) before mid r → r ≡ Next v → Child tree t v
+    infix-right m a w =
+        let i = infix-at tree (word16 tree 2) d at m z in
+        let p = valued (a .did (i .lt) (i .mid) (i .one)) w in
+        let g = later-expr tree (word16 tree 2) (d - 1) (at + 11) (i .one) in
+        child (omega (arith, p, g)) (infix-second tree d at m z a w)
+
+    pub set-object : letters tree at ≡ 0x4553 → Ran class limit l (expr-at tree (d - 1) (at + 12)) before mid r → r ≡ Next v → Child tree t v
+    set-object m a w =
+        let i = set-at tree (word16 tree 2) d at m z in
+        let p = valued (a .did (i .value) (i .mid) (i .one)) w in
+        let g = later-expr tree (word16 tree 2) (d - 1) (at + 12) (i .one) in
+        child (omega (arith, p, g)) (set-second tree d at m z a w)
+
+-- after a child: the areas fit, what was there still is, and its end stands further on
+module _ {class limit l next v : ℕ} {tree : List ℕ} {before now : Mem} {r : Step} (s : Somewhere tree next)
+    (a : (d : ℕ) → Ran class limit l (expr-at tree d next) before now r) (q : r ≡ Next v) where
+  pub ran-fit : Fit now l limit
+  ran-fit = went (a (s .depth) .did (s .there .thing) (s .there .next) (s .there .is)) q .ahead .fit
+
+  pub ran-still : (place : ℕ) → place + 2 ≤ code-len before l → place + 2 ≤ code-len now l
+  ran-still place h = still place h (went (a (s .depth) .did (s .there .thing) (s .there .next) (s .there .is)) q)
+
+  pub ran-on : {at : ℕ} → at < next → at < v
+  ran-on h =
+      let p = valued (a (s .depth) .did (s .there .thing) (s .there .next) (s .there .is)) q in
+      let g = later-expr tree (word16 tree 2) (s .depth) next (s .there .is) in
+      omega (arith, p, g, h)
 
 -- something that follows from both
 pub of-both : {A B C : Type 0} → (A → B → C) → A → B → C
 of-both f a b = f a b
 
-pub set-first : (tree : List ℕ) (d at : ℕ) → letters tree at ≡ 0x4553 → {e : Expr} {n : ℕ} → expr-at tree d at ≡ got e n → There (expr-at tree (d - 1) (at + 12))
-set-first tree d at m z = let i = set-at tree (word16 tree 2) d at m z in record { thing = i .value; next = i .mid; is = i .one }
-
 -- ## Which kind
-
-pub room : (tree : List ℕ) (d at : ℕ) {e : Expr} {n : ℕ} → expr-at tree d at ≡ got e n → 1 ≤ d
-room tree d at z = any-at tree (word16 tree 2) d at z .room
 
 -- none of the other eight
 pub last-kind : (tree : List ℕ) (d at mark : ℕ) {e : Expr} {n : ℕ} → mark ≡ letters tree at → expr-at tree d at ≡ got e n
     → (mark ≡ 0x454C → ⊥) → (mark ≡ 0x4556 → ⊥) → (mark ≡ 0x4549 → ⊥) → (mark ≡ 0x4550 → ⊥) → (mark ≡ 0x4543 → ⊥) → (mark ≡ 0x4555 → ⊥) → (mark ≡ 0x4541 → ⊥) → (mark ≡ 0x4547 → ⊥)
     → letters tree at ≡ 0x4553
-unfolding expr-marks
 last-kind tree d at mark q z l v i p c u a g =
-    ⊎-elim (λ h. absurd (a (q ∙ h))) (λ h.
-    ⊎-elim (λ h. absurd (c (q ∙ h))) (λ h.
-    ⊎-elim (λ h. absurd (g (q ∙ h))) (λ h.
-    ⊎-elim (λ h. absurd (i (q ∙ h))) (λ h.
-    ⊎-elim (λ h. absurd (l (q ∙ h))) (λ h.
-    ⊎-elim (λ h. absurd (p (q ∙ h))) (λ h.
-    ⊎-elim (λ h. h) (λ h.
-    ⊎-elim (λ h. absurd (u (q ∙ h))) (λ h.
-    ⊎-elim (λ h. absurd (v (q ∙ h))) (λ h. absurd (no-row _ h))
-    (row _ _ _ _ h)) (row _ _ _ _ h)) (row _ _ _ _ h)) (row _ _ _ _ h)) (row _ _ _ _ h)) (row _ _ _ _ h)) (row _ _ _ _ h)) (row _ _ _ _ h))
-    (row _ _ _ _ (any-at tree (word16 tree 2) d at z .look))
+    last-mark tree (word16 tree 2) d at z (λ h. l (q ∙ h)) (λ h. v (q ∙ h)) (λ h. i (q ∙ h)) (λ h. p (q ∙ h)) (λ h. c (q ∙ h)) (λ h. u (q ∙ h)) (λ h. a (q ∙ h)) (λ h. g (q ∙ h))

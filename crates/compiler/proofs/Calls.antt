@@ -17,7 +17,8 @@ use Rattle.rules.specs.Reader.{got, Reader}
 use Rattle.rules.specs.TreeFile.{expr-marks, read-exprs, read-expr}
 use Rattle.rules.specs.Op as op
 use Rattle.rules.specs.Chunk.{CS}
-use Rattle.rules.specs.Compiler.{Compiler, Outcome, ok, err, Compile, go-on, _>>_, return, done, need, emit-op-u8, emit-invoke, need-super, get-variable, call-method, call-super, call-value, compile-expr, compile-exprs}
+use Rattle.rules.specs.Compiler.{Compiler, Outcome, ok, err, Compile, go-on, _>>_, return, done, need, emit-op-u8, emit-invoke, need-super, get-variable, call-method, call-super, call-value}
+use Rattle.rules.specs.Compiler.{compile-expr, compile-exprs}
 use Rattle.fields.specs.Words.{word16, letters}
 use Rattle.parsed.proofs.Taken.{row, no-row}
 use Rattle.parsed.proofs.Expressions.{RowAt, none-left, one-more, row-read, any-at, prefix-at, infix-at, get-at, assign-at, set-at, var-at, super-at, call-at, literal-at}
@@ -26,7 +27,8 @@ use Rattle.steps.specs.View.{Mem, Rest, view, Agrees, Fit, steady, Ahead, Gave,
 use Rattle.steps.proofs.Steps.{went, valued, stuck, next, stop, halt, then-on, ahead-then, refused-seq, ask-seq, passed, failed}
 use Rattle.steps.specs.declared.Step.{Step}
 use Rattle.steps.specs.declared.Step.the-variants.{Next, Stop}
-use Rattle.compiler.specs.Exprs.{There, expr-at, Ran, Callee, on-object, on-super, on-value, callee-of, parts, first-part, part-count, open-callee, call-open, call-close, CallOpened, CallParts, CallClosed}
+use Rattle.compiler.specs.Exprs.{There, expr-at, Ran, Callee, on-object, on-super, on-value, callee-of, parts, first-part, part-count, open-callee, call-open, call-close, CallOpened, CallParts}
+use Rattle.compiler.specs.Exprs.{CallClosed}
 use Rattle.compiler.proofs.Monad.{regroup, nothing, stays}
 
 -- ## The parts make the whole
@@ -83,9 +85,6 @@ module _ (tree : List ℕ) (names d at : ℕ) {e : Expr} {n : ℕ} (r : read-exp
       (row _ _ _ _ (any-at tree names d at r .look))
 
 -- a callee's fields, counted from the call's record
-pub callee-bound : (at : ℕ) {len : ℕ} → at + 12 + 12 ≤ len → at + 24 ≤ len
-callee-bound at h = omega arith
-
 twenty-two : (at : ℕ) → at + 12 + 10 ≡ at + 22
 twenty-two at = omega arith
 
@@ -95,6 +94,13 @@ twenty-four at = omega arith
 -- a number of arguments that is a byte
 pub low-byte : {n w : ℕ} → n ≡ w → w ≤ 255 → n % 256 ≡ w
 low-byte {n} {w} q h = let b : n < 256 = omega arith in omega (arith, mod-eq-of-lt b)
+
+-- every part stands after the call's first bytes
+pub first-on : (k : Callee) (at : ℕ) → at < first-part k at
+unfolding first-part
+first-on (on-object name object) at = omega arith
+first-on (on-super name) at = omega arith
+first-on on-value at = omega arith
 
 -- ## The parts as they are read
 
@@ -161,7 +167,8 @@ module _ {class limit l : ℕ} (tree : List ℕ) (at : ℕ) (span : Span) {befor
   super-stop h m d q = few-open h (λ k e n r. as-open at span (super-of tree _ k (at + 12) r m) (halt _ d q))
 
   pub super-open : {mid now : Mem} {r r′ : Step} {v k : ℕ} → word16 tree (at + 10) ≤ 255 → letters tree (at + 12) ≡ 0x4555
-      → Did class limit l k steady (need-super span) before mid r → r ≡ Next v → Did class limit l (at + 24) steady (get-variable limit this span) mid now r′ → CallOpened class limit l tree at span before now r′
+      → Did class limit l k steady (need-super span) before mid r → r ≡ Next v → Did class limit l (at + 24) steady (get-variable limit this span) mid now r′
+      → CallOpened class limit l tree at span before now r′
   unfolding open-callee first-part
   super-open h m d q d′ = few-open h (λ k e n r. as-open at span (super-of tree _ k (at + 12) r m) (then-on _ d q d′))
 
@@ -169,17 +176,20 @@ module _ {class limit l : ℕ} (tree : List ℕ) (at : ℕ) (span : Span) {befor
   unfolding open-callee first-part
   object-open fit h m = few-open h (λ k e n r. as-open at span (object-of tree _ k (at + 12) r m) (next (nothing fit)))
 
-  pub value-open : Fit before l limit → word16 tree (at + 10) ≤ 255 → (letters tree (at + 12) ≡ 0x4547 → ⊥) → (letters tree (at + 12) ≡ 0x4555 → ⊥) → CallOpened class limit l tree at span before before (Next (at + 12))
+  pub value-open : Fit before l limit → word16 tree (at + 10) ≤ 255 → (letters tree (at + 12) ≡ 0x4547 → ⊥) → (letters tree (at + 12) ≡ 0x4555 → ⊥)
+      → CallOpened class limit l tree at span before before (Next (at + 12))
   unfolding open-callee first-part
   value-open fit h g u = few-open h (λ k e n r. as-open at span (value-of tree _ k (at + 12) r g u) (next (nothing fit)))
 
-  pub close-super-stop : (next : ℕ) {now : Mem} {r : Step} {x : Refusal} {k : ℕ} → letters tree (at + 12) ≡ 0x4555 → Did class limit l k steady (get-variable limit super span) before now r → r ≡ Stop x
+  pub close-super-stop : (next : ℕ) {now : Mem} {r : Step} {x : Refusal} {k : ℕ} → letters tree (at + 12) ≡ 0x4555 → Did class limit l k steady (get-variable limit super span) before now r
+      → r ≡ Stop x
       → CallClosed class limit l tree at next span before now r
   unfolding call-close
   close-super-stop next m d q = record { did = λ k e n r. as-close _ span (super-of tree _ k (at + 12) r m) (halt _ d q) }
 
   module _ (next name count : ℕ) (c : count ≡ word16 tree (at + 10)) where
-    pub close-super : {mid now : Mem} {r r′ : Step} {k v : ℕ} → letters tree (at + 12) ≡ 0x4555 → name ≡ word16 tree (at + 22) → Did class limit l k steady (get-variable limit super span) before mid r → r ≡ Next v
+    pub close-super : {mid now : Mem} {r r′ : Step} {k v : ℕ} → letters tree (at + 12) ≡ 0x4555 → name ≡ word16 tree (at + 22)
+        → Did class limit l k steady (get-variable limit super span) before mid r → r ≡ Next v
         → Did class limit l next steady (emit-invoke limit op.SUPER-INVOKE (CS name) count span) mid now r′ → CallClosed class limit l tree at next span before now r′
     unfolding call-close
     close-super {mid} {now} {r′ = r′} m p d q d′ = record {
@@ -280,13 +290,11 @@ module _ {class limit l : ℕ} {expr : Reader Expr} {count from : ℕ} {before :
         record {
           es = i .others;
           is = ap (read-exprs (left - 1) expr) (valued d q) ∙ i .tail;
-          same = λ rest z. o .same rest z ∙ ap (λ (x : Exprs). compile-exprs limit x (view now l rest)) (i .is) ∙ ap (λ (x : Outcome Unit). go-on x (λ _. compile-exprs limit (i .others))) (g .comes rest (o .agrees rest z));
+          same = λ rest z. o .same rest z ∙ ap (λ (x : Exprs). compile-exprs limit x (view now l rest)) (i .is) ∙ ap (λ (x : Outcome Unit). go-on x (λ _. compile-exprs limit (i .others)))
+              (g .comes rest (o .agrees rest z));
           agrees = λ rest z. g .agrees rest (o .agrees rest z);
           ahead = ahead-then (o .ahead) (g .ahead);
         }
 
-    pub walk-step : There (read-exprs count expr from) → Walk class limit l expr count from before now′ v (left - 1)
-    walk-step t = record {
-      fit = let i = head-of w (t .is) h in went (b .did (i .one) (i .mid) (i .head)) q .ahead .fit;
-      to = λ es n r. step-left r;
-    }
+    pub walk-step : Fit now′ l limit → Walk class limit l expr count from before now′ v (left - 1)
+    walk-step fit = record { fit = fit; to = λ es n r. step-left r }

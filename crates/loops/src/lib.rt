@@ -1,7 +1,7 @@
 // The condition and the increment of a `for`. Either may be missing; the record's byte `parts` says which of them are there.
+ghost use Prim.Native.Nat.{ℕ};
 ghost use Rattle.steps.specs.View.{mem, Fit};
-ghost use Rattle.compiler.specs.Exprs.{There};
-ghost use Rattle.loops.specs.Loops.{cond-at, incr-at, Conditioned, Incremented};
+ghost use Rattle.loops.specs.Loops.{cond-at, incr-at, CondThere, IncrThere, Conditioned, Incremented};
 use compiler::compile_expr;
 use compiler::open_jump;
 use op::Op;
@@ -20,7 +20,6 @@ pub struct Cond {
 pub fn for_cond(
     tree: &[u8],
     at: usize,
-    left: usize,
     parts: u8,
     t: &mut [u64],
     code: &mut [u8],
@@ -30,8 +29,8 @@ pub fn for_cond(
     class: u8,
     span: Span,
 ) -> Cond
-    requires { ⌜ (There (cond-at (now tree) parts left at)) × (Fit (mem (now t) (now code) (now spans)) level limit) ⌝ }
-    ensures { λ r. ⌜ Conditioned class limit level (cond-at (now (tree .entry)) parts left at) span (mem (now (t .entry)) (now (code .entry)) (now (spans .entry))) (mem (now (t .exit)) (now (code .exit)) (now (spans .exit))) r ⌝ }
+    requires { ⌜ (CondThere (now tree) parts at) × (Fit (mem (now t) (now code) (now spans)) level limit) ⌝ }
+    ensures { λ r. ⌜ ((d : ℕ) → Conditioned class limit level (cond-at (now (tree .entry)) parts d at) span (mem (now (t .entry)) (now (code .entry)) (now (spans .entry))) (mem (now (t .exit)) (now (code .exit)) (now (spans .exit))) r) ⌝ }
 {
     if parts / 2 % 2 != 1 {
         return Cond {
@@ -40,7 +39,7 @@ pub fn for_cond(
             place: 0,
         };
     }
-    let a = compile_expr(tree, at, left, t, code, spans, level, limit, class);
+    let a = compile_expr(tree, at, t, code, spans, level, limit, class);
     let Step::Next(end) = a else {
         return Cond {
             step: a,
@@ -67,7 +66,6 @@ pub fn for_cond(
 pub fn for_incr(
     tree: &[u8],
     at: usize,
-    left: usize,
     parts: u8,
     t: &mut [u64],
     code: &mut [u8],
@@ -77,13 +75,13 @@ pub fn for_incr(
     class: u8,
     span: Span,
 ) -> Step
-    requires { ⌜ (There (incr-at (now tree) parts left at)) × (Fit (mem (now t) (now code) (now spans)) level limit) ⌝ }
-    ensures { λ r. ⌜ Incremented class limit level (incr-at (now (tree .entry)) parts left at) span (mem (now (t .entry)) (now (code .entry)) (now (spans .entry))) (mem (now (t .exit)) (now (code .exit)) (now (spans .exit))) r ⌝ }
+    requires { ⌜ (IncrThere (now tree) parts at) × (Fit (mem (now t) (now code) (now spans)) level limit) ⌝ }
+    ensures { λ r. ⌜ ((d : ℕ) → Incremented class limit level (incr-at (now (tree .entry)) parts d at) span (mem (now (t .entry)) (now (code .entry)) (now (spans .entry))) (mem (now (t .exit)) (now (code .exit)) (now (spans .exit))) r) ⌝ }
 {
     if parts / 4 != 1 {
         return Step::Next(at);
     }
-    let a = compile_expr(tree, at, left, t, code, spans, level, limit, class);
+    let a = compile_expr(tree, at, t, code, spans, level, limit, class);
     let Step::Next(end) = a else {
         return a;
     };

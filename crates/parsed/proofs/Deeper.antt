@@ -9,7 +9,8 @@ use Rattle.rules.specs.declared.Refusal.{Refusal}
 use Rattle.rules.specs.declared.Refusal.the-variants.{TreeForm}
 use Rattle.rules.specs.Tree.{Expr}
 use Rattle.rules.specs.Reader.{got, Reader, go-on, _>>=_, here, u8, u16, one-of, span}
-use Rattle.rules.specs.TreeFile.{ExprMark, EA, EC, EG, EI, EL, EP, ES, EU, EV, infix-ops, prefix-ops, name, read-exprs, assign-fields, call-fields, get-fields, infix-fields, prefix-fields, set-fields, expr-fields, expr-mark, expr-record, read-expr}
+use Rattle.rules.specs.TreeFile.{ExprMark, EA, EC, EG, EI, EL, EP, ES, EU, EV, infix-ops, prefix-ops, name, read-exprs, assign-fields, call-fields, get-fields, infix-fields, prefix-fields, set-fields}
+use Rattle.rules.specs.TreeFile.{expr-fields, expr-mark, expr-record, read-expr}
 use Rattle.fields.proofs.Reading.{then-on}
 use Rattle.parsed.proofs.Taken.{first}
 use Rattle.parsed.proofs.Expressions.{never}
@@ -18,7 +19,7 @@ use Rattle.parsed.proofs.Expressions.{never}
 pub record Covers {A : Type 0} (one more : Reader A) : Type 0 where
   pub gives : (at : ℕ) {a : A} {n : ℕ} → one at ≡ got a n → more at ≡ got a n
 
-both-do : {A B : Type 0} {one more : Reader A} → Covers one more → (f g : A → Reader B) → ((a : A) → Covers (f a) (g a)) → Covers (one >>= f) (more >>= g)
+pub both-do : {A B : Type 0} {one more : Reader A} → Covers one more → (f g : A → Reader B) → ((a : A) → Covers (f a) (g a)) → Covers (one >>= f) (more >>= g)
 unfolding _>>=_
 both-do {one = one} c f g h = record {
   gives = λ at e.
@@ -26,10 +27,10 @@ both-do {one = one} c f g h = record {
       then-on g (c .gives at (x .is)) ∙ h (x .thing) .gives (x .next) (x .rest);
 }
 
-same : {A : Type 0} (one : Reader A) → Covers one one
+pub same : {A : Type 0} (one : Reader A) → Covers one one
 same one = record { gives = λ at e. e }
 
-then : {A B : Type 0} (one : Reader A) (f g : A → Reader B) → ((a : A) → Covers (f a) (g a)) → Covers (one >>= f) (one >>= g)
+pub then : {A B : Type 0} (one : Reader A) (f g : A → Reader B) → ((a : A) → Covers (f a) (g a)) → Covers (one >>= f) (one >>= g)
 then one = both-do (same one)
 
 row : {one more : Reader Expr} → Covers one more → (count : ℕ) → Covers (read-exprs count one) (read-exprs count more)
@@ -55,7 +56,7 @@ module _ (tree : List ℕ) (names : ℕ) {one more : Reader Expr} (c : Covers on
   whole = then (expr-mark tree names x) _ _ (λ k. then (span tree x) _ _ (fields k))
 
 module _ (tree : List ℕ) (names : ℕ) where
-  one-deeper : (d : ℕ) → Covers (read-expr tree names d) (read-expr tree names (suc d))
+  pub one-deeper : (d : ℕ) → Covers (read-expr tree names d) (read-expr tree names (suc d))
   unfolding read-expr _>>=_ here go-on
   one-deeper zero = record { gives = λ at e. absurd (never tree names at e) }
   one-deeper (suc d) = record { gives = λ at e. whole tree names (one-deeper d) (TreeForm at) .gives at e }

@@ -3,4 +3,5 @@ pub mod Taken
 pub mod Expressions
 pub mod Deeper
 pub mod Statements
+pub mod Depths
 pub mod Later

@@ -225,25 +225,34 @@ module _ (tree : List ℕ) (names : ℕ) where
       ap (λ (j : ℕ). stmt-fields tree names (kids j funs) (TreeForm at) k (span-of tree (at + 2)) (at + 10)) (pred-suc d) ∙
       on (stmt-fields tree names (kids d funs) (TreeForm at) k) y g
 
+  -- what each mark gives
+  pub by-mark : {P : Type 0} (d funs at : ℕ) {s : Stmt} {n : ℕ} → read-stmt tree names d funs at ≡ got s n
+      → (letters tree at ≡ 0x5342 → P) → (letters tree at ≡ 0x5343 → P) → (letters tree at ≡ 0x5345 → P) → (letters tree at ≡ 0x5346 → P) → (letters tree at ≡ 0x5349 → P)
+      → (letters tree at ≡ 0x534F → P) → (letters tree at ≡ 0x5350 → P) → (letters tree at ≡ 0x5352 → P) → (letters tree at ≡ 0x5356 → P) → (letters tree at ≡ 0x5357 → P)
+      → P
+  unfolding stmt-marks
+  by-mark d funs at r b c e f i o p t v w =
+      ⊎-elim b (λ h.
+      ⊎-elim c (λ h.
+      ⊎-elim e (λ h.
+      ⊎-elim f (λ h.
+      ⊎-elim i (λ h.
+      ⊎-elim o (λ h.
+      ⊎-elim p (λ h.
+      ⊎-elim t (λ h.
+      ⊎-elim v (λ h.
+      ⊎-elim w (λ h. absurd (no-row _ h))
+      (row _ _ _ _ h)) (row _ _ _ _ h)) (row _ _ _ _ h)) (row _ _ _ _ h)) (row _ _ _ _ h)) (row _ _ _ _ h)) (row _ _ _ _ h)) (row _ _ _ _ h)) (row _ _ _ _ h))
+      (row _ _ _ _ (any-stmt-at d funs at r .look))
+
   -- no other mark is left
   pub class-left : (d funs at : ℕ) {s : Stmt} {n : ℕ} → read-stmt tree names d funs at ≡ got s n
       → (letters tree at ≡ 0x5345 → ⊥) → (letters tree at ≡ 0x5350 → ⊥) → (letters tree at ≡ 0x5356 → ⊥) → (letters tree at ≡ 0x5342 → ⊥) → (letters tree at ≡ 0x5349 → ⊥)
       → (letters tree at ≡ 0x5357 → ⊥) → (letters tree at ≡ 0x534F → ⊥) → (letters tree at ≡ 0x5352 → ⊥) → (letters tree at ≡ 0x5346 → ⊥)
       → letters tree at ≡ 0x5343
-  unfolding stmt-marks
   class-left d funs at r e p v b i w o t f =
-      ⊎-elim (λ h. absurd (b h)) (λ h.
-      ⊎-elim (λ h. h) (λ h.
-      ⊎-elim (λ h. absurd (e h)) (λ h.
-      ⊎-elim (λ h. absurd (f h)) (λ h.
-      ⊎-elim (λ h. absurd (i h)) (λ h.
-      ⊎-elim (λ h. absurd (o h)) (λ h.
-      ⊎-elim (λ h. absurd (p h)) (λ h.
-      ⊎-elim (λ h. absurd (t h)) (λ h.
-      ⊎-elim (λ h. absurd (v h)) (λ h.
-      ⊎-elim (λ h. absurd (w h)) (λ h. absurd (no-row _ h))
-      (row _ _ _ _ h)) (row _ _ _ _ h)) (row _ _ _ _ h)) (row _ _ _ _ h)) (row _ _ _ _ h)) (row _ _ _ _ h)) (row _ _ _ _ h)) (row _ _ _ _ h)) (row _ _ _ _ h))
-      (row _ _ _ _ (any-stmt-at d funs at r .look))
+      by-mark d funs at r (λ h. absurd (b h)) (λ h. h) (λ h. absurd (e h)) (λ h. absurd (f h)) (λ h. absurd (i h)) (λ h. absurd (o h)) (λ h. absurd (p h)) (λ h. absurd (t h)) (λ h. absurd (v h))
+      (λ h. absurd (w h))
 
   -- ## Fields
 

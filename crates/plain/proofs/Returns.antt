@@ -13,7 +13,8 @@ use Rattle.rules.specs.Tree.{Expr, Stmt, StmtReturn}
 use Rattle.rules.specs.Reader.{got}
 use Rattle.rules.specs.TreeFile.{flags, read-expr}
 use Rattle.rules.specs.Op as op
-use Rattle.rules.specs.Compiler.{Compiler, go-on, _>>=_, _>>_, return, done, refuse, the, FunctionType, Function, Initializer, Method, Script, emit-op, compile-expr, compile-value, return-value, compile-return, compile-stmt}
+use Rattle.rules.specs.Compiler.{Compiler, go-on, _>>=_, _>>_, return, done, refuse, the, FunctionType, Function, Initializer, Method, Script, emit-op, compile-expr, compile-value, return-value}
+use Rattle.rules.specs.Compiler.{compile-return, compile-stmt}
 use Rattle.fields.specs.Words.{word8, word16, letters, span-of}
 use Rattle.parsed.proofs.Statements.{SomeAt, return-at}
 use Rattle.state.specs.Layout.{type-of}
@@ -22,10 +23,10 @@ use Rattle.steps.proofs.Steps.{valued, next, stop, halt, then-on, ask, ask-refu
 use Rattle.steps.proofs.Returns.{told-type}
 use Rattle.steps.specs.declared.Step.{Step}
 use Rattle.steps.specs.declared.Step.the-variants.{Next, Stop}
-use Rattle.compiler.specs.Exprs.{There, expr-at, Ran}
+use Rattle.compiler.specs.Exprs.{Somewhere, expr-at, Ran}
 use Rattle.compiler.proofs.Monad.{like, on-to, nothing}
 use Rattle.parts.specs.Output.{funs-left, stmt-at}
-use Rattle.plain.specs.Plain.{Plainly, Flagged, return-kind, may-return}
+use Rattle.plain.specs.Plain.{StmtSomewhere, Plainly, Flagged, return-kind, may-return}
 use Rattle.plain.proofs.Values.{by-stmt, flagged-no, flagged-yes}
 
 -- ## The kind of function
@@ -68,7 +69,8 @@ module _ (l n : ℕ) (span : Span) (t : List ℕ) where
 -- ## The whole
 
 module _ (limit : ℕ) (e : Expr) (span : Span) where
-  by-type : (type : FunctionType) (s : Compiler) → (return-value limit type (some e) span >> emit-op limit op.RETURN span) s ≡ (return-kind type span >> (compile-expr limit e >> emit-op limit op.RETURN span)) s
+  by-type : (type : FunctionType) (s : Compiler)
+      → (return-value limit type (some e) span >> emit-op limit op.RETURN span) s ≡ (return-kind type span >> (compile-expr limit e >> emit-op limit op.RETURN span)) s
   unfolding return-value compile-value return-kind refuse done return _>>_ go-on
   by-type Script s = refl
   by-type Initializer s = refl
@@ -79,10 +81,10 @@ module _ (limit : ℕ) (e : Expr) (span : Span) where
   unfolding compile-return may-return the _>>=_ _>>_ go-on
   whole s = by-type (s .ctx .type) s
 
-module _ (tree : List ℕ) (left l at : ℕ) (m : letters tree at ≡ 0x5352) where
-  pub return-bound : There (stmt-at tree left l at) → at + 11 ≤ length tree
-  return-bound w = return-at tree (word16 tree 2) left (funs-left l) at m (w .is) .bound
+pub return-bound : {tree : List ℕ} {l at : ℕ} → letters tree at ≡ 0x5352 → StmtSomewhere tree l at → at + 11 ≤ length tree
+return-bound {tree} {l} {at} m w = return-at tree (word16 tree 2) (w .left) (funs-left l) at m (w .there .is) .bound
 
+module _ (tree : List ℕ) (left l at : ℕ) (m : letters tree at ≡ 0x5352) where
   module _ (flag : ℕ) (f : flag ≡ word8 tree (at + 10)) where
     announced : {s : Stmt} {n : ℕ} → (z : stmt-at tree left l at ≡ got s n) → Flagged tree (left - 1) (at + 11) flag (return-at tree (word16 tree 2) left (funs-left l) at m z .value) n
     announced z = let i = return-at tree (word16 tree 2) left (funs-left l) at m z in record { has = i .has; look = ap (λ (k : ℕ). lookup k flags) f ∙ i .look; one = i .one }
@@ -94,7 +96,8 @@ module _ (tree : List ℕ) (left l at : ℕ) (m : letters tree at ≡ 0x5352) wh
     unfolding compile-stmt
     by-return sp h z q d = by-stmt (return-at tree (word16 tree 2) left (funs-left l) at m z .is ∙ ap₂ StmtReturn (sym h) q) d
 
-    pub return-none : {class limit : ℕ} {before now : Mem} {r : Step} (sp : Span) → sp ≡ span-of tree (at + 2) → flag ≡ 0 → Did class limit l (at + 11) steady (compile-return limit none sp) before now r
+    pub return-none : {class limit : ℕ} {before now : Mem} {r : Step} (sp : Span) → sp ≡ span-of tree (at + 2) → flag ≡ 0
+        → Did class limit l (at + 11) steady (compile-return limit none sp) before now r
         → Plainly class limit l (stmt-at tree left l at) before now r
     return-none sp h e d = record {
       did = λ s n z.
@@ -103,11 +106,9 @@ module _ (tree : List ℕ) (left l at : ℕ) (m : letters tree at ≡ 0x5352) wh
     }
 
     module _ (e : flag ≡ 0 → ⊥) where
-      valued-at : {s : Stmt} {n : ℕ} → (z : stmt-at tree left l at ≡ got s n) → SomeAt (read-expr tree (word16 tree 2) (left - 1)) (at + 11) (return-at tree (word16 tree 2) left (funs-left l) at m z .value) n
+      valued-at : {s : Stmt} {n : ℕ} → (z : stmt-at tree left l at ≡ got s n)
+          → SomeAt (read-expr tree (word16 tree 2) (left - 1)) (at + 11) (return-at tree (word16 tree 2) left (funs-left l) at m z .value) n
       valued-at z = flagged-yes tree (left - 1) (at + 11) flag e (announced z)
-
-      pub return-there : There (stmt-at tree left l at) → There (expr-at tree (left - 1) (at + 11))
-      return-there w = let i = valued-at (w .is) in record { thing = i .thing; next = w .next; is = i .one-is }
 
       module _ {class limit : ℕ} (sp : Span) (h : sp ≡ span-of tree (at + 2)) {before : Mem} where
         by-parts : {s : Stmt} {n : ℕ} {now : Mem} {r : Step} (z : stmt-at tree left l at ≡ got s n)
@@ -115,11 +116,13 @@ module _ (tree : List ℕ) (left l at : ℕ) (m : letters tree at ≡ 0x5352) wh
             → Did class limit l n steady (compile-stmt limit s) before now r
         by-parts z d = let i = valued-at z in by-return sp h z (i .is) (like (whole limit (i .thing) sp) d)
 
-        pub return-stop : {k : ℕ} {now : Mem} {r : Step} {x : Refusal} → Did class limit l k steady (may-return sp) before now r → r ≡ Stop x → Plainly class limit l (stmt-at tree left l at) before now r
+        pub return-stop : {k : ℕ} {now : Mem} {r : Step} {x : Refusal} → Did class limit l k steady (may-return sp) before now r → r ≡ Stop x
+            → Plainly class limit l (stmt-at tree left l at) before now r
         return-stop a q = record { did = λ s n z. by-parts z (halt _ a q) }
 
         module _ {k v : ℕ} {mid : Mem} {r : Step} (a : Did class limit l k steady (may-return sp) before mid r) (q : r ≡ Next v) where
-          pub return-value-stop : {now : Mem} {r′ : Step} {x : Refusal} → Ran class limit l (expr-at tree (left - 1) (at + 11)) mid now r′ → r′ ≡ Stop x → Plainly class limit l (stmt-at tree left l at) before now r′
+          pub return-value-stop : {now : Mem} {r′ : Step} {x : Refusal} → Ran class limit l (expr-at tree (left - 1) (at + 11)) mid now r′ → r′ ≡ Stop x
+              → Plainly class limit l (stmt-at tree left l at) before now r′
           return-value-stop b q′ = record { did = λ s n z. let i = valued-at z in by-parts z (then-on _ a q (halt _ (b .did (i .thing) n (i .one-is)) q′)) }
 
           pub return-done : {late now : Mem} {r′ r″ : Step} {v′ : ℕ} → Ran class limit l (expr-at tree (left - 1) (at + 11)) mid late r′ → r′ ≡ Next v′
@@ -130,3 +133,8 @@ module _ (tree : List ℕ) (left l at : ℕ) (m : letters tree at ≡ 0x5352) wh
                 let c = b .did (i .thing) n (i .one-is) in
                 by-parts z (then-on _ a q (then-on _ c q′ (on-to (valued c q′) d)));
           }
+
+pub return-there : {tree : List ℕ} {l at : ℕ} → letters tree at ≡ 0x5352 → (flag : ℕ) → flag ≡ word8 tree (at + 10) → (flag ≡ 0 → ⊥) → StmtSomewhere tree l at → Somewhere tree (at + 11)
+return-there {tree} {l} {at} m flag f e w =
+    let i = valued-at tree (w .left) l at m flag f e (w .there .is) in
+    record { depth = w .left - 1; there = record { thing = i .thing; next = w .there .next; is = i .one-is } }

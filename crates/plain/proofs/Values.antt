@@ -5,7 +5,6 @@ use mathlib.Core.Option.{Option, none, some}
 use mathlib.Core.Logic.{⊎-elim}
 use mathlib.Core.List.{List}
 use Prim.Native.Nat.{ℕ, _+_, _-_, _≤_}
-use native.Mathlib.Omega.{arith}
 use lib.ListN.{length}
 use Rattle.rules.specs.Base.{lookup}
 use Rattle.rules.specs.declared.Span.{Span}
@@ -16,26 +15,31 @@ use Rattle.rules.specs.TreeFile.{flags, maybe, read-expr}
 use Rattle.rules.specs.Op as op
 use Rattle.rules.specs.Compiler.{_>>_, emit-op, compile-expr, compile-value, compile-stmt}
 use Rattle.fields.specs.Words.{word16, letters, span-of}
-use Rattle.parsed.proofs.Statements.{ValueAt, SomeAt, any-stmt-at, expression-at, print-at, maybe-yes, maybe-no, flag-on, flag-off, flag-is}
-use Rattle.steps.specs.View.{Mem, Fit, steady, Did}
-use Rattle.steps.proofs.Steps.{went, valued, halt, then-on, by-name}
+use Rattle.parsed.proofs.Statements.{ValueAt, SomeAt, any-stmt-at, by-mark, expression-at, print-at, maybe-yes, maybe-no, flag-on, flag-off, flag-is}
+use Rattle.steps.specs.View.{Mem, steady, Did}
+use Rattle.steps.proofs.Steps.{valued, halt, then-on, by-name}
 use Rattle.steps.specs.declared.Step.{Step}
 use Rattle.steps.specs.declared.Step.the-variants.{Next, Stop}
-use Rattle.compiler.specs.Exprs.{There, expr-at, Ran}
+use Rattle.compiler.specs.Exprs.{There, Somewhere, expr-at, Ran}
 use Rattle.compiler.proofs.Monad.{on-to}
 use Rattle.parts.specs.Output.{funs-left, stmt-at}
-use Rattle.plain.specs.Plain.{Plainly, Flagged, Announced, ValueRan}
+use Rattle.plain.specs.Plain.{StmtSomewhere, NoOther, Plainly, Flagged, Announced, ValueRan}
 
 -- ## What is known of any statement
 
-pub room : (tree : List ℕ) (left l at : ℕ) → There (stmt-at tree left l at) → 1 ≤ left
-room tree left l at w = let h = any-stmt-at tree (word16 tree 2) left (funs-left l) at (w .is) .room in omega arith
+pub bound : {tree : List ℕ} {l at : ℕ} → StmtSomewhere tree l at → at + 10 ≤ length tree
+bound {tree} {l} {at} w = any-stmt-at tree (word16 tree 2) (w .left) (funs-left l) at (w .there .is) .bound
 
-pub bound : (tree : List ℕ) (left l at : ℕ) → There (stmt-at tree left l at) → at + 10 ≤ length tree
-bound tree left l at w = any-stmt-at tree (word16 tree 2) left (funs-left l) at (w .is) .bound
+-- none of the nine other marks is left
+pub last-return : {tree : List ℕ} {l at mark : ℕ} → StmtSomewhere tree l at → NoOther tree at → mark ≡ letters tree at → (mark ≡ 0x5345 → ⊥) → (mark ≡ 0x5350 → ⊥) → (mark ≡ 0x5356 → ⊥)
+    → letters tree at ≡ 0x5352
+last-return {tree} {l} {at} w o q e p v =
+    by-mark tree (word16 tree 2) (w .left) (funs-left l) at (w .there .is) (λ h. absurd (o .no-block h)) (λ h. absurd (o .no-class h)) (λ h. absurd (e (q ∙ h))) (λ h. absurd (o .no-fun h))
+    (λ h. absurd (o .no-if h)) (λ h. absurd (o .no-for h)) (λ h. absurd (p (q ∙ h))) (λ h. h) (λ h. absurd (v (q ∙ h))) (λ h. absurd (o .no-while h))
 
 -- the statement that was read is this
-pub by-stmt : {class limit l n : ℕ} {s s′ : Stmt} {before now : Mem} {r : Step} → s ≡ s′ → Did class limit l n steady (compile-stmt limit s′) before now r → Did class limit l n steady (compile-stmt limit s) before now r
+pub by-stmt : {class limit l n : ℕ} {s s′ : Stmt} {before now : Mem} {r : Step} → s ≡ s′ → Did class limit l n steady (compile-stmt limit s′) before now r
+    → Did class limit l n steady (compile-stmt limit s) before now r
 by-stmt {class} {limit} {l} {n} {before = before} {now = now} {r = r} q x = subst (λ (z : Stmt). Did class limit l n steady (compile-stmt limit z) before now r) (sym q) x
 
 -- ## An expression, and then an instruction
@@ -55,13 +59,10 @@ module _ {limit l : ℕ} (tree : List ℕ) (left at : ℕ) where
   a-print m = record { read = λ s n z. print-at tree (word16 tree 2) left (funs-left l) at m z; comes = λ w v. refl }
 
 module _ {limit l left at : ℕ} {tree : List ℕ} {make : Span → Expr → Stmt} {o : ℕ} (one : One limit l tree left at make o) where
-  pub one-there : There (stmt-at tree left l at) → There (expr-at tree (left - 1) (at + 10))
-  one-there w = let i = one .read (w .thing) (w .next) (w .is) in record { thing = i .value; next = w .next; is = i .one }
+  pub one-there : There (stmt-at tree left l at) → Somewhere tree (at + 10)
+  one-there w = let i = one .read (w .thing) (w .next) (w .is) in record { depth = left - 1; there = record { thing = i .value; next = w .next; is = i .one } }
 
   module _ {class : ℕ} {before : Mem} where
-    pub one-fit : {mid : Mem} {r : Step} {v : ℕ} → There (stmt-at tree left l at) → Ran class limit l (expr-at tree (left - 1) (at + 10)) before mid r → r ≡ Next v → Fit mid l limit
-    one-fit w a q = let x = one-there w in went (a .did (x .thing) (x .next) (x .is)) q .ahead .fit
-
     pub one-stop : {now : Mem} {r : Step} {x : Refusal} → Ran class limit l (expr-at tree (left - 1) (at + 10)) before now r → r ≡ Stop x → Plainly class limit l (stmt-at tree left l at) before now r
     one-stop a q = record {
       did = λ s n z.
@@ -92,9 +93,6 @@ module _ (tree : List ℕ) (left at flag : ℕ) where
   flagged-yes e i =
       maybe-yes (read-expr tree (word16 tree 2) left) at (ap (λ (b : Bool). maybe b (read-expr tree (word16 tree 2) left) at) (sym (flag-on flag (i .look) (is-one (i .look) e))) ∙ i .one)
 
-  pub value-there : (flag ≡ 0 → ⊥) → Announced tree left at flag → There (expr-at tree left at)
-  value-there e w = let i = flagged-yes e (w .is) in record { thing = i .thing; next = w .next; is = i .one-is }
-
   module _ {class limit l : ℕ} (span : Span) {before now : Mem} {r : Step} where
     by-value : {n : ℕ} {o o′ : Option Expr} → o ≡ o′ → Did class limit l n steady (compile-value limit o′ span) before now r → Did class limit l n steady (compile-value limit o span) before now r
     by-value {n} q x = subst (λ (z : Option Expr). Did class limit l n steady (compile-value limit z span) before now r) (sym q) x
@@ -106,3 +104,9 @@ module _ (tree : List ℕ) (left at flag : ℕ) where
     pub value-some : (flag ≡ 0 → ⊥) → Ran class limit l (expr-at tree left at) before now r → ValueRan class limit l tree left at flag span before now r
     unfolding compile-value
     value-some e x = record { did = λ o n i. let j = flagged-yes e i in by-value (j .is) (x .did (j .thing) n (j .one-is)) }
+
+-- an expression was read where the flag announces one
+pub value-there : {tree : List ℕ} {at flag : ℕ} → (flag ≡ 0 → ⊥) → Announced tree at flag → Somewhere tree at
+value-there {tree} {at} {flag} e w =
+    let i = flagged-yes tree (w .left) at flag e (w .is) in
+    record { depth = w .left; there = record { thing = i .thing; next = w .next; is = i .one-is } }

@@ -12,9 +12,25 @@ use Rattle.rules.specs.Tree.{Expr, Stmt}
 use Rattle.rules.specs.Reader.{Read, got}
 use Rattle.rules.specs.TreeFile.{flags, maybe, read-expr}
 use Rattle.rules.specs.Compiler.{Compile, _>>=_, done, refuse, the, FunctionType, Function, Initializer, Method, Script, declare-local, define-local, define-global, compile-value, compile-stmt}
-use Rattle.fields.specs.Words.{word16}
+use Rattle.fields.specs.Words.{word16, letters}
 use Rattle.steps.specs.View.{Mem, steady, Did}
 use Rattle.steps.specs.declared.Step.{Step}
+use Rattle.compiler.specs.Exprs.{There}
+use Rattle.parts.specs.Output.{stmt-at}
+
+-- a statement was read there, with some levels left
+pub record StmtSomewhere (tree : List ℕ) (l at : ℕ) : Type 0 where
+  pub left : ℕ
+  pub there : There (stmt-at tree left l at)
+
+-- its mark is none of those of the statements that hold statements
+pub record NoOther (tree : List ℕ) (at : ℕ) : Type 0 where
+  pub no-block : letters tree at ≡ 0x5342 → ⊥
+  pub no-if : letters tree at ≡ 0x5349 → ⊥
+  pub no-while : letters tree at ≡ 0x5357 → ⊥
+  pub no-for : letters tree at ≡ 0x534F → ⊥
+  pub no-fun : letters tree at ≡ 0x5346 → ⊥
+  pub no-class : letters tree at ≡ 0x5343 → ⊥
 
 -- what was read is compiled; the answer's value is where to read on
 pub record Plainly (class limit l : ℕ) (read : Read Stmt) (before now : Mem) (r : Step) : Type 0 where
@@ -27,7 +43,8 @@ pub record Flagged (tree : List ℕ) (left at flag : ℕ) (value : Option Expr) 
   pub look : lookup flag flags ≡ some has
   pub one : maybe has (read-expr tree (word16 tree 2) left) at ≡ got value n
 
-pub record Announced (tree : List ℕ) (left at flag : ℕ) : Type 0 where
+pub record Announced (tree : List ℕ) (at flag : ℕ) : Type 0 where
+  pub left : ℕ
   pub value : Option Expr
   pub next : ℕ
   pub is : Flagged tree left at flag value next

@@ -1,5 +1,5 @@
-// The statements that hold no statement, and the end of a loop. That the bytes are a tree is known, and of which kind the statement is: each function
-// says what it does where the rules' reader reads something.
+// The statements that hold no statement, and the end of a loop. That the bytes are a tree is known: each function says what it does where the rules'
+// reader reads something, and the function of a kind asks for the kind's mark.
 ghost use mathlib.Core.Path.{_≡_};
 ghost use mathlib.Core.Bool.{true};
 ghost use mathlib.Core.Option.{some, none};
@@ -8,11 +8,11 @@ ghost use Rattle.rules.specs.Base.{if_then_else_};
 ghost use Rattle.fields.specs.Words.{letters};
 ghost use Rattle.state.specs.Layout.{levels, Wf};
 ghost use Rattle.steps.specs.View.{mem, Fit, code-len, steady, Did, Tried};
-ghost use Rattle.compiler.specs.Exprs.{There};
 ghost use Rattle.parts.specs.Output.{stmt-at};
 ghost use Rattle.parts.specs.Parts.{close-loop};
-ghost use Rattle.plain.specs.Plain.{Plainly, Announced, ValueRan, open-var, close-var, may-return};
+ghost use Rattle.plain.specs.Plain.{StmtSomewhere, NoOther, Plainly, Announced, ValueRan, open-var, close-var, may-return};
 use compiler::compile_expr;
+use fields::mark_at;
 use fields::span_at;
 use fields::u8_at;
 use fields::u16_at;
@@ -61,10 +61,9 @@ pub fn close_loop(
 
 // ## An expression, and what is done with its value
 
-pub fn stmt_expr(
+fn stmt_expr(
     tree: &[u8],
     at: usize,
-    left: usize,
     t: &mut [u64],
     code: &mut [u8],
     spans: &mut [u32],
@@ -72,21 +71,20 @@ pub fn stmt_expr(
     limit: usize,
     class: u8,
 ) -> Step
-    requires { ⌜ (There (stmt-at (now tree) left level at)) × (letters (now tree) at ≡ 0x5345) × (Fit (mem (now t) (now code) (now spans)) level limit) ⌝ }
-    ensures { λ r. ⌜ Plainly class limit level (stmt-at (now (tree .entry)) left level at) (mem (now (t .entry)) (now (code .entry)) (now (spans .entry))) (mem (now (t .exit)) (now (code .exit)) (now (spans .exit))) r ⌝ }
+    requires { ⌜ (StmtSomewhere (now tree) level at) × (letters (now tree) at ≡ 0x5345) × (Fit (mem (now t) (now code) (now spans)) level limit) ⌝ }
+    ensures { λ r. ⌜ ((d : ℕ) → Plainly class limit level (stmt-at (now (tree .entry)) d level at) (mem (now (t .entry)) (now (code .entry)) (now (spans .entry))) (mem (now (t .exit)) (now (code .exit)) (now (spans .exit))) r) ⌝ }
 {
     let span = span_at(tree, at + 2);
-    let a = compile_expr(tree, at + 10, left - 1, t, code, spans, level, limit, class);
+    let a = compile_expr(tree, at + 10, t, code, spans, level, limit, class);
     let Step::Next(n) = a else {
         return a;
     };
     emit_op(t, code, spans, level, limit, Op::POP, span, n)
 }
 
-pub fn stmt_print(
+fn stmt_print(
     tree: &[u8],
     at: usize,
-    left: usize,
     t: &mut [u64],
     code: &mut [u8],
     spans: &mut [u32],
@@ -94,11 +92,11 @@ pub fn stmt_print(
     limit: usize,
     class: u8,
 ) -> Step
-    requires { ⌜ (There (stmt-at (now tree) left level at)) × (letters (now tree) at ≡ 0x5350) × (Fit (mem (now t) (now code) (now spans)) level limit) ⌝ }
-    ensures { λ r. ⌜ Plainly class limit level (stmt-at (now (tree .entry)) left level at) (mem (now (t .entry)) (now (code .entry)) (now (spans .entry))) (mem (now (t .exit)) (now (code .exit)) (now (spans .exit))) r ⌝ }
+    requires { ⌜ (StmtSomewhere (now tree) level at) × (letters (now tree) at ≡ 0x5350) × (Fit (mem (now t) (now code) (now spans)) level limit) ⌝ }
+    ensures { λ r. ⌜ ((d : ℕ) → Plainly class limit level (stmt-at (now (tree .entry)) d level at) (mem (now (t .entry)) (now (code .entry)) (now (spans .entry))) (mem (now (t .exit)) (now (code .exit)) (now (spans .exit))) r) ⌝ }
 {
     let span = span_at(tree, at + 2);
-    let a = compile_expr(tree, at + 10, left - 1, t, code, spans, level, limit, class);
+    let a = compile_expr(tree, at + 10, t, code, spans, level, limit, class);
     let Step::Next(n) = a else {
         return a;
     };
@@ -111,7 +109,6 @@ pub fn stmt_print(
 fn compile_value(
     tree: &[u8],
     at: usize,
-    left: usize,
     flag: u8,
     t: &mut [u64],
     code: &mut [u8],
@@ -121,13 +118,13 @@ fn compile_value(
     class: u8,
     span: Span,
 ) -> Step
-    requires { ⌜ (Announced (now tree) left at flag) × (Fit (mem (now t) (now code) (now spans)) level limit) ⌝ }
-    ensures { λ r. ⌜ ValueRan class limit level (now (tree .entry)) left at flag span (mem (now (t .entry)) (now (code .entry)) (now (spans .entry))) (mem (now (t .exit)) (now (code .exit)) (now (spans .exit))) r ⌝ }
+    requires { ⌜ (Announced (now tree) at flag) × (Fit (mem (now t) (now code) (now spans)) level limit) ⌝ }
+    ensures { λ r. ⌜ ((d : ℕ) → ValueRan class limit level (now (tree .entry)) d at flag span (mem (now (t .entry)) (now (code .entry)) (now (spans .entry))) (mem (now (t .exit)) (now (code .exit)) (now (spans .exit))) r) ⌝ }
 {
     if flag == 0 {
         return emit_op(t, code, spans, level, limit, Op::NIL, span, at);
     }
-    compile_expr(tree, at, left, t, code, spans, level, limit, class)
+    compile_expr(tree, at, t, code, spans, level, limit, class)
 }
 
 // A local is declared before its value, so that the value cannot name it.
@@ -172,10 +169,9 @@ fn close_var(
     Step::Next(next)
 }
 
-pub fn compile_var(
+fn compile_var(
     tree: &[u8],
     at: usize,
-    left: usize,
     t: &mut [u64],
     code: &mut [u8],
     spans: &mut [u32],
@@ -183,8 +179,8 @@ pub fn compile_var(
     limit: usize,
     class: u8,
 ) -> Step
-    requires { ⌜ (There (stmt-at (now tree) left level at)) × (letters (now tree) at ≡ 0x5356) × (Fit (mem (now t) (now code) (now spans)) level limit) ⌝ }
-    ensures { λ r. ⌜ Plainly class limit level (stmt-at (now (tree .entry)) left level at) (mem (now (t .entry)) (now (code .entry)) (now (spans .entry))) (mem (now (t .exit)) (now (code .exit)) (now (spans .exit))) r ⌝ }
+    requires { ⌜ (StmtSomewhere (now tree) level at) × (letters (now tree) at ≡ 0x5356) × (Fit (mem (now t) (now code) (now spans)) level limit) ⌝ }
+    ensures { λ r. ⌜ ((d : ℕ) → Plainly class limit level (stmt-at (now (tree .entry)) d level at) (mem (now (t .entry)) (now (code .entry)) (now (spans .entry))) (mem (now (t .exit)) (now (code .exit)) (now (spans .exit))) r) ⌝ }
 {
     let span = span_at(tree, at + 2);
     let name = u16_at(tree, at + 10);
@@ -197,7 +193,6 @@ pub fn compile_var(
     let b = compile_value(
         tree,
         at + 13,
-        left - 1,
         flag,
         t,
         code,
@@ -230,10 +225,9 @@ fn return_kind(t: &[u64], level: usize, span: Span, next: usize) -> Step
     Step::Next(next)
 }
 
-pub fn compile_return(
+fn compile_return(
     tree: &[u8],
     at: usize,
-    left: usize,
     t: &mut [u64],
     code: &mut [u8],
     spans: &mut [u32],
@@ -241,8 +235,8 @@ pub fn compile_return(
     limit: usize,
     class: u8,
 ) -> Step
-    requires { ⌜ (There (stmt-at (now tree) left level at)) × (letters (now tree) at ≡ 0x5352) × (Fit (mem (now t) (now code) (now spans)) level limit) ⌝ }
-    ensures { λ r. ⌜ Plainly class limit level (stmt-at (now (tree .entry)) left level at) (mem (now (t .entry)) (now (code .entry)) (now (spans .entry))) (mem (now (t .exit)) (now (code .exit)) (now (spans .exit))) r ⌝ }
+    requires { ⌜ (StmtSomewhere (now tree) level at) × (letters (now tree) at ≡ 0x5352) × (Fit (mem (now t) (now code) (now spans)) level limit) ⌝ }
+    ensures { λ r. ⌜ ((d : ℕ) → Plainly class limit level (stmt-at (now (tree .entry)) d level at) (mem (now (t .entry)) (now (code .entry)) (now (spans .entry))) (mem (now (t .exit)) (now (code .exit)) (now (spans .exit))) r) ⌝ }
 {
     let span = span_at(tree, at + 2);
     if u8_at(tree, at + 10) == 0 {
@@ -252,9 +246,37 @@ pub fn compile_return(
     let Step::Next(_) = a else {
         return a;
     };
-    let b = compile_expr(tree, at + 11, left - 1, t, code, spans, level, limit, class);
+    let b = compile_expr(tree, at + 11, t, code, spans, level, limit, class);
     let Step::Next(n) = b else {
         return b;
     };
     emit_op(t, code, spans, level, limit, Op::RETURN, span, n)
+}
+
+// ## Of the four kinds, the one whose mark stands there
+
+pub fn compile_plain(
+    tree: &[u8],
+    at: usize,
+    t: &mut [u64],
+    code: &mut [u8],
+    spans: &mut [u32],
+    level: usize,
+    limit: usize,
+    class: u8,
+) -> Step
+    requires { ⌜ (StmtSomewhere (now tree) level at) × (NoOther (now tree) at) × (Fit (mem (now t) (now code) (now spans)) level limit) ⌝ }
+    ensures { λ r. ⌜ ((d : ℕ) → Plainly class limit level (stmt-at (now (tree .entry)) d level at) (mem (now (t .entry)) (now (code .entry)) (now (spans .entry))) (mem (now (t .exit)) (now (code .exit)) (now (spans .exit))) r) ⌝ }
+{
+    let mark = mark_at(tree, at);
+    if mark == 0x5345 {
+        return stmt_expr(tree, at, t, code, spans, level, limit, class);
+    }
+    if mark == 0x5350 {
+        return stmt_print(tree, at, t, code, spans, level, limit, class);
+    }
+    if mark == 0x5356 {
+        return compile_var(tree, at, t, code, spans, level, limit, class);
+    }
+    compile_return(tree, at, t, code, spans, level, limit, class)
 }

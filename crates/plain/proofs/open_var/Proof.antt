@@ -1,11 +1,13 @@
 -- A global is not declared.
-use Rattle.plain.proofs.Vars as ways
 use borrow.Author.Needs.{needs}
+use Rattle.plain.proofs.Vars as ways
 use Rattle.plain.proofs.open_var.Statement.{statement}
 use Rattle.plain.proofs.open_var.Tie as tie
 
 returns : tie.Need-returns
-returns c = let a = c .before .before .args in ways.opened-global (a .level) (a .next) _ (a .name) (a .span) (a .t .now) (c .if1 .taken)
+returns c =
+    let a = c .before .before .args in
+    ways.opened-global (a .level) (a .next) _ (a .name) (a .span) (a .t .now) (c .if1 .taken)
 
 declare-local-requires : tie.Need-declare-local-requires
 declare-local-requires c κs = search needs
@@ -14,7 +16,15 @@ same-length : tie.Need-same-length
 same-length c = search needs
 
 returns-2 : tie.Need-returns-2
-returns-2 c = ways.opened-local _ _ _ _ _ (c .before .before .before .before .if1 .left) (c .before .before .declare-local .ensures)
+returns-2 c =
+    let o = c .before .before in
+    ways.opened-local _ _ _ _ _ (o .before .before .if1 .left) (o .declare-local .ensures)
 
 pub open-var-spec : {M : Type 1} → statement M
-open-var-spec = tie.close (tie.spec returns declare-local-requires same-length returns-2)
+open-var-spec =
+    tie.close
+    (tie.spec
+    returns
+    declare-local-requires
+    same-length
+    returns-2)
