@@ -17,7 +17,7 @@ use Rattle.steps.specs.declared.Step.the-variants.{Next, Stop}
 use Rattle.compiler.specs.Exprs.{There}
 use Rattle.parts.specs.Output.{funs-left, stmts-at, Walked, Ready}
 use Rattle.parts.specs.Parts.{close-loop}
-use Rattle.loops.specs.Loops.{cond-at, incr-at, place-of, Conditioned, Incremented}
+use Rattle.loops.specs.Loops.{cond-at, incr-at, place-of, CondThere, IncrThere, Conditioned, Incremented}
 use Rattle.loops.specs.declared.Cond.{Cond}
 use Rattle.arms.proofs.Calls as calls
 use Rattle.arms.proofs.Blocks as blocks
@@ -81,8 +81,8 @@ module _ {tree : List ℕ} {l at limit : ℕ} {before : Mem} (p : StmtThere tree
       pub fit : Fit (mem t1 code1 spans1) l limit
       fit = ways.for-fit tree l at (p .left) mark span o w refl (p .there)
 
-      pub cond-there : There (cond-at tree parts (p .left - 1) n1)
-      cond-there = calls.cond-as tree (p .left - 1) n1 ep (ways.for-cond-there tree l at (p .left) mark span o w refl (p .there))
+      pub cond-there : CondThere tree parts n1
+      cond-there = record { left = p .left - 1; there = calls.cond-as tree (p .left - 1) n1 ep (ways.for-cond-there tree l at (p .left) mark span o w refl (p .there)) }
 
       module _ {start : ℕ} (k : Measured t1 l start) {m2 : Mem} {b : Cond} (c : (d : ℕ) → Conditioned class limit l (cond-at tree parts d n1) span (mem t1 code1 spans1) m2 b) where
         tested : Conditioned class limit l (cond-at tree (word8 tree (at + 10)) (p .left - 1) n1) span (mem t1 code1 spans1) m2 b
@@ -106,8 +106,8 @@ module _ {tree : List ℕ} {l at limit : ℕ} {before : Mem} (p : StmtThere tree
               pub fit-2 : Fit m3 l limit
               fit-2 = ways.for-fit-2 tree l at (p .left) mark span o w refl fit (k .says class code1 spans1) tested qb (d .at-depth (p .left - 1)) qd (p .there)
 
-              pub incr-there : There (incr-at tree parts (p .left - 1) n3)
-              incr-there = calls.incr-as tree (p .left - 1) n3 ep (ways.for-incr-there tree l at (p .left) mark span o w refl fit (k .says class code1 spans1) tested qb (d .at-depth (p .left - 1)) qd (p .there))
+              pub incr-there : IncrThere tree parts n3
+              incr-there = record { left = p .left - 1; there = calls.incr-as tree (p .left - 1) n3 ep (ways.for-incr-there tree l at (p .left) mark span o w refl fit (k .says class code1 spans1) tested qb (d .at-depth (p .left - 1)) qd (p .there)) }
 
               module _ {m4 : Mem} {re : Step} (e : (d : ℕ) → Incremented class limit l (incr-at tree parts d n3) span m3 m4 re) where
                 moved : Incremented class limit l (incr-at tree (word8 tree (at + 10)) (p .left - 1) n3) span m3 m4 re

@@ -1,9 +1,9 @@
 -- Laws of the walk.
-mod Depths
+mod Blocks
+mod Fors
+mod Functions
+mod Ifs
+mod Methods
 mod Ones
 mod Walks
 mod Whiles
-mod Ifs
-mod Fors
-mod Methods
-mod Temp

@@ -1,115 +1,377 @@
--- Class
-use borrow.Author.Needs.{needs}
+-- The needs of `compile_stmt` at a class. The places first, each over the one before: of a call `-asked` is the place
+-- where it is made, `-left` the call from where its areas have come back, `-went` and `-halted` the call once its answer is known.
+use mathlib.Core.Path.{refl, _∙_}
+use Prim.Native.Nat.{ℕ}
 use native.Mathlib.Omega.{arith}
-use mathlib.Core.Path.{_≡_, refl, sym, ap, subst, _∙_}
-use Prim.Native.Nat.{_+_, _*_, _-_, _≤_}
+use borrow.Author.Needs.{needs}
 use Rattle.arms.proofs.Calls as calls
-use Rattle.arms.proofs.Blocks as blocks
-use Rattle.arms.proofs.Functions as functions
-use Rattle.statements.proofs.Walks as walks
-use Prim.Native.Nat.{ℕ, _<_}
-use borrow.Fn.Kinds.{In}
-use borrow.Fn.PlainCycle.{Measures, is, falls, and}
-use Rattle.statements.proofs.compile_function.Reads as compile-function
-use Rattle.statements.proofs.compile_function.Kinds as compile-function-kinds
-use Rattle.statements.proofs.+compile_function+compile_stmt.Lts-compile_function as compile-function-lts
-use Rattle.statements.proofs.compile_stmt.Reads as compile-stmt
-use Rattle.statements.proofs.compile_stmt.Kinds as compile-stmt-kinds
-use Rattle.statements.proofs.+compile_function+compile_stmt.Lts-compile_stmt as compile-stmt-lts
-use Rattle.classes.proofs.close_class.Reads as close-class-reads
-use Rattle.classes.proofs.inner_class.Reads as inner-class-reads
-use Rattle.classes.proofs.method_kind.Reads as method-kind-reads
-use Rattle.classes.proofs.open_class.Reads as open-class-reads
-use Rattle.closures.proofs.close_function.Reads as close-function-reads
-use Rattle.closures.proofs.open_function.Reads as open-function-reads
-use Rattle.compiler.proofs.compile_expr.Reads as compile-expr-reads
-use Rattle.compiler.proofs.open_jump.Reads as open-jump-reads
-use Rattle.compiler.proofs.turn_jump.Reads as turn-jump-reads
-use Rattle.fields.proofs.mark_at.Reads as mark-at-reads
-use Rattle.fields.proofs.span_at.Reads as span-at-reads
-use Rattle.fields.proofs.u16_at.Reads as u16-at-reads
-use Rattle.fields.proofs.u8_at.Reads as u8-at-reads
-use Rattle.loops.proofs.for_cond.Reads as for-cond-reads
-use Rattle.loops.proofs.for_incr.Reads as for-incr-reads
-use Rattle.plain.proofs.close_loop.Reads as close-loop-reads
-use Rattle.plain.proofs.compile_return.Reads as compile-return-reads
-use Rattle.plain.proofs.compile_var.Reads as compile-var-reads
-use Rattle.plain.proofs.stmt_expr.Reads as stmt-expr-reads
-use Rattle.plain.proofs.stmt_print.Reads as stmt-print-reads
-use Rattle.steps.proofs.begin_scope.Reads as begin-scope-reads
-use Rattle.steps.proofs.code_length.Reads as code-length-reads
-use Rattle.steps.proofs.define_name.Reads as define-name-reads
-use Rattle.steps.proofs.emit_op_name.Reads as emit-op-name-reads
-use Rattle.steps.proofs.end_scope.Reads as end-scope-reads
-use Rattle.steps.proofs.patch_jump.Reads as patch-jump-reads
-use Rattle.statements.proofs.+compile_function+compile_stmt.Proof.Shared.{μ-compile-function, μ-compile-stmt, compile-function-at, compile-function-below, compile-stmt-at, compile-stmt-below, compile-function-Inv-loop, compile-function-μ-loop, compile-stmt-Inv-loop, compile-stmt-μ-loop, compile-stmt-Inv-loop2, compile-stmt-μ-loop2, compile-function-claims, compile-stmt-claims}
-
-use Rattle.statements.proofs.Whiles as whiles
-use Rattle.statements.proofs.Ifs as ifs
-use Rattle.statements.proofs.Fors as fors
 use Rattle.statements.proofs.Methods as methods
-use Rattle.statements.proofs.Temp as temp
-use mathlib.Core.Logic.{⊎-elim}
-use lib.ListN.{length}
-use Rattle.steps.specs.View.{mem}
+use Rattle.statements.proofs.+compile_function+compile_stmt.Lts-compile_stmt as lts
+use Rattle.statements.proofs.+compile_function+compile_stmt.Proof.Shared.{here, mark-6, spanned-6, start-6}
 
-pub compile-stmt-open-class-requires : (t : ℕ) → compile-stmt-lts.Need-open-class-requires (compile-stmt-claims t) (compile-stmt-at t) compile-stmt.Post compile-stmt-Inv-loop compile-stmt-μ-loop compile-stmt-Inv-loop2 compile-stmt-μ-loop2
-compile-stmt-open-class-requires t c κs = (methods.head (c .before .before .before .before .before .before .before .before .before .before .before .before .before .before .before .before .before .before .before .pre .1) (calls.last-kind _ _ _ _ (c .before .before .before .before .before .before .before .before .before .before .before .before .before .before .before .before .before .before .before .pre .1 .there) (λ e. c .before .before .before .before .before .before .before .before .before .before .before .before .if1 .left (c .before .before .before .before .before .before .before .before .before .before .before .before .before .mark-at .ensures ∙ e)) (λ e. c .before .before .before .before .before .before .before .before .before .before .before .if2 .left (c .before .before .before .before .before .before .before .before .before .before .before .before .before .mark-at .ensures ∙ e)) (λ e. c .before .before .before .before .before .before .before .before .before .before .if3 .left (c .before .before .before .before .before .before .before .before .before .before .before .before .before .mark-at .ensures ∙ e)) (λ e. c .before .before .before .before .before .before .before .before .before .if4 .left (c .before .before .before .before .before .before .before .before .before .before .before .before .before .mark-at .ensures ∙ e)) (λ e. c .before .before .before .before .before .before .before .if5 .left (c .before .before .before .before .before .before .before .before .before .before .before .before .before .mark-at .ensures ∙ e)) (λ e. c .before .before .before .before .before .before .if6 .left (c .before .before .before .before .before .before .before .before .before .before .before .before .before .mark-at .ensures ∙ e)) (λ e. c .before .before .before .before .before .if8 .left (c .before .before .before .before .before .before .before .before .before .before .before .before .before .mark-at .ensures ∙ e)) (λ e. c .before .before .before .before .if9 .left (c .before .before .before .before .before .before .before .before .before .before .before .before .before .mark-at .ensures ∙ e)) (λ e. c .before .before .before .if11 .left (c .before .before .before .before .before .before .before .before .before .before .before .before .before .mark-at .ensures ∙ e))), c .before .before .before .before .before .before .before .before .before .before .before .before .before .before .before .before .before .before .before .pre .1 .ready .fit, calls.scope-room _ _ _ _ _ (calls.room _ _ _ _ (c .before .before .before .before .before .before .before .before .before .before .before .before .before .before .before .before .before .before .before .pre .1 .there)) (c .before .before .before .before .before .before .before .before .before .before .before .before .before .before .before .before .before .before .before .pre .1 .ready))
+module _ (t : ℕ) where
+  abbrev opening-asked : here lts.After-open-class-arg3 t → here lts.Then8 t
+  opening-asked c = c .before .before .before
 
-pub compile-stmt-returns-26 : (t : ℕ) → compile-stmt-lts.Need-returns-26 (compile-stmt-claims t) (compile-stmt-at t) compile-stmt.Post compile-stmt-Inv-loop compile-stmt-μ-loop compile-stmt-Inv-loop2 compile-stmt-μ-loop2
-compile-stmt-returns-26 t c = methods.stop (c .before .before .before .before .before .before .before .before .before .before .before .before .before .before .before .before .before .before .before .before .before .before .before .before .before .before .before .before .pre .1) (calls.last-kind _ _ _ _ (c .before .before .before .before .before .before .before .before .before .before .before .before .before .before .before .before .before .before .before .before .before .before .before .before .before .before .before .before .pre .1 .there) (λ e. c .before .before .before .before .before .before .before .before .before .before .before .before .before .before .before .before .before .before .before .before .before .if1 .left (c .before .before .before .before .before .before .before .before .before .before .before .before .before .before .before .before .before .before .before .before .before .before .mark-at .ensures ∙ e)) (λ e. c .before .before .before .before .before .before .before .before .before .before .before .before .before .before .before .before .before .before .before .before .if2 .left (c .before .before .before .before .before .before .before .before .before .before .before .before .before .before .before .before .before .before .before .before .before .before .mark-at .ensures ∙ e)) (λ e. c .before .before .before .before .before .before .before .before .before .before .before .before .before .before .before .before .before .before .before .if3 .left (c .before .before .before .before .before .before .before .before .before .before .before .before .before .before .before .before .before .before .before .before .before .before .mark-at .ensures ∙ e)) (λ e. c .before .before .before .before .before .before .before .before .before .before .before .before .before .before .before .before .before .before .if4 .left (c .before .before .before .before .before .before .before .before .before .before .before .before .before .before .before .before .before .before .before .before .before .before .mark-at .ensures ∙ e)) (λ e. c .before .before .before .before .before .before .before .before .before .before .before .before .before .before .before .before .if5 .left (c .before .before .before .before .before .before .before .before .before .before .before .before .before .before .before .before .before .before .before .before .before .before .mark-at .ensures ∙ e)) (λ e. c .before .before .before .before .before .before .before .before .before .before .before .before .before .before .before .if6 .left (c .before .before .before .before .before .before .before .before .before .before .before .before .before .before .before .before .before .before .before .before .before .before .mark-at .ensures ∙ e)) (λ e. c .before .before .before .before .before .before .before .before .before .before .before .before .before .before .if8 .left (c .before .before .before .before .before .before .before .before .before .before .before .before .before .before .before .before .before .before .before .before .before .before .mark-at .ensures ∙ e)) (λ e. c .before .before .before .before .before .before .before .before .before .before .before .before .before .if9 .left (c .before .before .before .before .before .before .before .before .before .before .before .before .before .before .before .before .before .before .before .before .before .before .mark-at .ensures ∙ e)) (λ e. c .before .before .before .before .before .before .before .before .before .before .before .before .if11 .left (c .before .before .before .before .before .before .before .before .before .before .before .before .before .before .before .before .before .before .before .before .before .before .mark-at .ensures ∙ e))) (c .before .before .before .before .before .before .before .before .before .before .before .before .before .before .before .before .before .span-at .ensures) (c .before .before .before .before .before .before .before .before .open-class .ensures) _ (c .enum-told17 .given .1)
+  abbrev opening-half : here lts.After-slice-known79 t → here lts.After-code22 t
+  opening-half c = c .before .before .before
 
-pub compile-stmt-inner-class-requires : (t : ℕ) → compile-stmt-lts.Need-inner-class-requires (compile-stmt-claims t) (compile-stmt-at t) compile-stmt.Post compile-stmt-Inv-loop compile-stmt-μ-loop compile-stmt-Inv-loop2 compile-stmt-μ-loop2
-compile-stmt-inner-class-requires t c κs = methods.head (c .before .before .before .before .before .before .before .before .before .before .before .before .before .before .before .before .before .before .before .before .before .before .before .before .before .before .before .before .before .pre .1) (calls.last-kind _ _ _ _ (c .before .before .before .before .before .before .before .before .before .before .before .before .before .before .before .before .before .before .before .before .before .before .before .before .before .before .before .before .before .pre .1 .there) (λ e. c .before .before .before .before .before .before .before .before .before .before .before .before .before .before .before .before .before .before .before .before .before .before .if1 .left (c .before .before .before .before .before .before .before .before .before .before .before .before .before .before .before .before .before .before .before .before .before .before .before .mark-at .ensures ∙ e)) (λ e. c .before .before .before .before .before .before .before .before .before .before .before .before .before .before .before .before .before .before .before .before .before .if2 .left (c .before .before .before .before .before .before .before .before .before .before .before .before .before .before .before .before .before .before .before .before .before .before .before .mark-at .ensures ∙ e)) (λ e. c .before .before .before .before .before .before .before .before .before .before .before .before .before .before .before .before .before .before .before .before .if3 .left (c .before .before .before .before .before .before .before .before .before .before .before .before .before .before .before .before .before .before .before .before .before .before .before .mark-at .ensures ∙ e)) (λ e. c .before .before .before .before .before .before .before .before .before .before .before .before .before .before .before .before .before .before .before .if4 .left (c .before .before .before .before .before .before .before .before .before .before .before .before .before .before .before .before .before .before .before .before .before .before .before .mark-at .ensures ∙ e)) (λ e. c .before .before .before .before .before .before .before .before .before .before .before .before .before .before .before .before .before .if5 .left (c .before .before .before .before .before .before .before .before .before .before .before .before .before .before .before .before .before .before .before .before .before .before .before .mark-at .ensures ∙ e)) (λ e. c .before .before .before .before .before .before .before .before .before .before .before .before .before .before .before .before .if6 .left (c .before .before .before .before .before .before .before .before .before .before .before .before .before .before .before .before .before .before .before .before .before .before .before .mark-at .ensures ∙ e)) (λ e. c .before .before .before .before .before .before .before .before .before .before .before .before .before .before .before .if8 .left (c .before .before .before .before .before .before .before .before .before .before .before .before .before .before .before .before .before .before .before .before .before .before .before .mark-at .ensures ∙ e)) (λ e. c .before .before .before .before .before .before .before .before .before .before .before .before .before .before .if9 .left (c .before .before .before .before .before .before .before .before .before .before .before .before .before .before .before .before .before .before .before .before .before .before .before .mark-at .ensures ∙ e)) (λ e. c .before .before .before .before .before .before .before .before .before .before .before .before .before .if11 .left (c .before .before .before .before .before .before .before .before .before .before .before .before .before .before .before .before .before .before .before .before .before .before .before .mark-at .ensures ∙ e)))
+  abbrev opening-left : here lts.After-slice-known79 t → here lts.After-open-class t
+  opening-left c = opening-half c .before .before .before
 
-pub compile-stmt-add-u16-at-3 : (t : ℕ) → compile-stmt-lts.Need-add-u16-at-3 (compile-stmt-claims t) (compile-stmt-at t) compile-stmt.Post compile-stmt-Inv-loop compile-stmt-μ-loop compile-stmt-Inv-loop2 compile-stmt-μ-loop2
-compile-stmt-add-u16-at-3 t c = let b = methods.head (c .before .before .before .before .before .before .before .before .before .before .before .before .before .before .before .before .before .before .before .before .before .before .before .before .before .before .before .before .before .before .pre .1) (calls.last-kind _ _ _ _ (c .before .before .before .before .before .before .before .before .before .before .before .before .before .before .before .before .before .before .before .before .before .before .before .before .before .before .before .before .before .before .pre .1 .there) (λ e. c .before .before .before .before .before .before .before .before .before .before .before .before .before .before .before .before .before .before .before .before .before .before .before .if1 .left (c .before .before .before .before .before .before .before .before .before .before .before .before .before .before .before .before .before .before .before .before .before .before .before .before .mark-at .ensures ∙ e)) (λ e. c .before .before .before .before .before .before .before .before .before .before .before .before .before .before .before .before .before .before .before .before .before .before .if2 .left (c .before .before .before .before .before .before .before .before .before .before .before .before .before .before .before .before .before .before .before .before .before .before .before .before .mark-at .ensures ∙ e)) (λ e. c .before .before .before .before .before .before .before .before .before .before .before .before .before .before .before .before .before .before .before .before .before .if3 .left (c .before .before .before .before .before .before .before .before .before .before .before .before .before .before .before .before .before .before .before .before .before .before .before .before .mark-at .ensures ∙ e)) (λ e. c .before .before .before .before .before .before .before .before .before .before .before .before .before .before .before .before .before .before .before .before .if4 .left (c .before .before .before .before .before .before .before .before .before .before .before .before .before .before .before .before .before .before .before .before .before .before .before .before .mark-at .ensures ∙ e)) (λ e. c .before .before .before .before .before .before .before .before .before .before .before .before .before .before .before .before .before .before .if5 .left (c .before .before .before .before .before .before .before .before .before .before .before .before .before .before .before .before .before .before .before .before .before .before .before .before .mark-at .ensures ∙ e)) (λ e. c .before .before .before .before .before .before .before .before .before .before .before .before .before .before .before .before .before .if6 .left (c .before .before .before .before .before .before .before .before .before .before .before .before .before .before .before .before .before .before .before .before .before .before .before .before .mark-at .ensures ∙ e)) (λ e. c .before .before .before .before .before .before .before .before .before .before .before .before .before .before .before .before .if8 .left (c .before .before .before .before .before .before .before .before .before .before .before .before .before .before .before .before .before .before .before .before .before .before .before .before .mark-at .ensures ∙ e)) (λ e. c .before .before .before .before .before .before .before .before .before .before .before .before .before .before .before .if9 .left (c .before .before .before .before .before .before .before .before .before .before .before .before .before .before .before .before .before .before .before .before .before .before .before .before .mark-at .ensures ∙ e)) (λ e. c .before .before .before .before .before .before .before .before .before .before .before .before .before .before .if11 .left (c .before .before .before .before .before .before .before .before .before .before .before .before .before .before .before .before .before .before .before .before .before .before .before .before .mark-at .ensures ∙ e))) .bound in omega (arith, b, c .before .before .before .before .before .before .before .before .before .before .before .before .before .before .before .before .before .before .before .before .before .before .before .before .before .before .before .before .before .before .good)
+  abbrev opening-halted : here lts.After-enum-told17 t → here lts.After-open-class t
+  opening-halted c = opening-left (c .before .before)
 
-pub compile-stmt-u16-at-requires-3 : (t : ℕ) → compile-stmt-lts.Need-u16-at-requires-3 (compile-stmt-claims t) (compile-stmt-at t) compile-stmt.Post compile-stmt-Inv-loop compile-stmt-μ-loop compile-stmt-Inv-loop2 compile-stmt-μ-loop2
-compile-stmt-u16-at-requires-3 t c κs = let b = methods.head (c .before .before .before .before .before .before .before .before .before .before .before .before .before .before .before .before .before .before .before .before .before .before .before .before .before .before .before .before .before .before .pre .1) (calls.last-kind _ _ _ _ (c .before .before .before .before .before .before .before .before .before .before .before .before .before .before .before .before .before .before .before .before .before .before .before .before .before .before .before .before .before .before .pre .1 .there) (λ e. c .before .before .before .before .before .before .before .before .before .before .before .before .before .before .before .before .before .before .before .before .before .before .before .if1 .left (c .before .before .before .before .before .before .before .before .before .before .before .before .before .before .before .before .before .before .before .before .before .before .before .before .mark-at .ensures ∙ e)) (λ e. c .before .before .before .before .before .before .before .before .before .before .before .before .before .before .before .before .before .before .before .before .before .before .if2 .left (c .before .before .before .before .before .before .before .before .before .before .before .before .before .before .before .before .before .before .before .before .before .before .before .before .mark-at .ensures ∙ e)) (λ e. c .before .before .before .before .before .before .before .before .before .before .before .before .before .before .before .before .before .before .before .before .before .if3 .left (c .before .before .before .before .before .before .before .before .before .before .before .before .before .before .before .before .before .before .before .before .before .before .before .before .mark-at .ensures ∙ e)) (λ e. c .before .before .before .before .before .before .before .before .before .before .before .before .before .before .before .before .before .before .before .before .if4 .left (c .before .before .before .before .before .before .before .before .before .before .before .before .before .before .before .before .before .before .before .before .before .before .before .before .mark-at .ensures ∙ e)) (λ e. c .before .before .before .before .before .before .before .before .before .before .before .before .before .before .before .before .before .before .if5 .left (c .before .before .before .before .before .before .before .before .before .before .before .before .before .before .before .before .before .before .before .before .before .before .before .before .mark-at .ensures ∙ e)) (λ e. c .before .before .before .before .before .before .before .before .before .before .before .before .before .before .before .before .before .if6 .left (c .before .before .before .before .before .before .before .before .before .before .before .before .before .before .before .before .before .before .before .before .before .before .before .before .mark-at .ensures ∙ e)) (λ e. c .before .before .before .before .before .before .before .before .before .before .before .before .before .before .before .before .if8 .left (c .before .before .before .before .before .before .before .before .before .before .before .before .before .before .before .before .before .before .before .before .before .before .before .before .mark-at .ensures ∙ e)) (λ e. c .before .before .before .before .before .before .before .before .before .before .before .before .before .before .before .if9 .left (c .before .before .before .before .before .before .before .before .before .before .before .before .before .before .before .before .before .before .before .before .before .before .before .before .mark-at .ensures ∙ e)) (λ e. c .before .before .before .before .before .before .before .before .before .before .before .before .before .before .if11 .left (c .before .before .before .before .before .before .before .before .before .before .before .before .before .before .before .before .before .before .before .before .before .before .before .before .mark-at .ensures ∙ e))) .bound in omega (arith, b)
+  abbrev opening-went : here lts.After-known-told15 t → here lts.After-open-class t
+  opening-went c = opening-left (c .before .before .before)
 
-pub compile-stmt-loop2-holds : (t : ℕ) → compile-stmt-lts.Need-loop2-holds (compile-stmt-claims t) (compile-stmt-at t) compile-stmt.Post compile-stmt-Inv-loop compile-stmt-μ-loop compile-stmt-Inv-loop2 compile-stmt-μ-loop2
-compile-stmt-loop2-holds t c = (methods.start (c .before .before .before .before .before .before .before .before .before .before .before .before .before .before .before .before .before .before .before .before .before .before .before .before .before .before .before .before .before .before .before .pre .1) (calls.last-kind _ _ _ _ (c .before .before .before .before .before .before .before .before .before .before .before .before .before .before .before .before .before .before .before .before .before .before .before .before .before .before .before .before .before .before .before .pre .1 .there) (λ e. c .before .before .before .before .before .before .before .before .before .before .before .before .before .before .before .before .before .before .before .before .before .before .before .before .if1 .left (c .before .before .before .before .before .before .before .before .before .before .before .before .before .before .before .before .before .before .before .before .before .before .before .before .before .mark-at .ensures ∙ e)) (λ e. c .before .before .before .before .before .before .before .before .before .before .before .before .before .before .before .before .before .before .before .before .before .before .before .if2 .left (c .before .before .before .before .before .before .before .before .before .before .before .before .before .before .before .before .before .before .before .before .before .before .before .before .before .mark-at .ensures ∙ e)) (λ e. c .before .before .before .before .before .before .before .before .before .before .before .before .before .before .before .before .before .before .before .before .before .before .if3 .left (c .before .before .before .before .before .before .before .before .before .before .before .before .before .before .before .before .before .before .before .before .before .before .before .before .before .mark-at .ensures ∙ e)) (λ e. c .before .before .before .before .before .before .before .before .before .before .before .before .before .before .before .before .before .before .before .before .before .if4 .left (c .before .before .before .before .before .before .before .before .before .before .before .before .before .before .before .before .before .before .before .before .before .before .before .before .before .mark-at .ensures ∙ e)) (λ e. c .before .before .before .before .before .before .before .before .before .before .before .before .before .before .before .before .before .before .before .if5 .left (c .before .before .before .before .before .before .before .before .before .before .before .before .before .before .before .before .before .before .before .before .before .before .before .before .before .mark-at .ensures ∙ e)) (λ e. c .before .before .before .before .before .before .before .before .before .before .before .before .before .before .before .before .before .before .if6 .left (c .before .before .before .before .before .before .before .before .before .before .before .before .before .before .before .before .before .before .before .before .before .before .before .before .before .mark-at .ensures ∙ e)) (λ e. c .before .before .before .before .before .before .before .before .before .before .before .before .before .before .before .before .before .if8 .left (c .before .before .before .before .before .before .before .before .before .before .before .before .before .before .before .before .before .before .before .before .before .before .before .before .before .mark-at .ensures ∙ e)) (λ e. c .before .before .before .before .before .before .before .before .before .before .before .before .before .before .before .before .if9 .left (c .before .before .before .before .before .before .before .before .before .before .before .before .before .before .before .before .before .before .before .before .before .before .before .before .before .mark-at .ensures ∙ e)) (λ e. c .before .before .before .before .before .before .before .before .before .before .before .before .before .before .before .if11 .left (c .before .before .before .before .before .before .before .before .before .before .before .before .before .before .before .before .before .before .before .before .before .before .before .before .before .mark-at .ensures ∙ e))) (c .before .before .before .before .before .before .before .before .before .before .before .before .before .before .before .before .before .before .before .before .span-at .ensures) (c .before .before .before .before .before .before .before .before .before .before .before .open-class .ensures) (c .before .before .before .a6 .given .1) _ (c .u16-at3 .ensures), refl, refl, refl, refl)
+  abbrev method-args : here lts.After-compile-function-arg8 t → here lts.After-compile-function-arg5 t
+  method-args c = c .before .before .before
 
-pub compile-stmt-add-u16-at-4 : (t : ℕ) → compile-stmt-lts.Need-add-u16-at-4 (compile-stmt-claims t) (compile-stmt-at t) compile-stmt.Post compile-stmt-Inv-loop compile-stmt-μ-loop compile-stmt-Inv-loop2 compile-stmt-μ-loop2
-compile-stmt-add-u16-at-4 t c = let b = methods.method-bound (c .before .before .before .before .before .before .before .before .before .before .before .before .before .before .before .before .before .before .before .before .before .before .before .before .before .before .before .before .before .before .before .before .before .pre .1) (calls.last-kind _ _ _ _ (c .before .before .before .before .before .before .before .before .before .before .before .before .before .before .before .before .before .before .before .before .before .before .before .before .before .before .before .before .before .before .before .before .before .pre .1 .there) (λ e. c .before .before .before .before .before .before .before .before .before .before .before .before .before .before .before .before .before .before .before .before .before .before .before .before .before .before .if1 .left (c .before .before .before .before .before .before .before .before .before .before .before .before .before .before .before .before .before .before .before .before .before .before .before .before .before .before .before .mark-at .ensures ∙ e)) (λ e. c .before .before .before .before .before .before .before .before .before .before .before .before .before .before .before .before .before .before .before .before .before .before .before .before .before .if2 .left (c .before .before .before .before .before .before .before .before .before .before .before .before .before .before .before .before .before .before .before .before .before .before .before .before .before .before .before .mark-at .ensures ∙ e)) (λ e. c .before .before .before .before .before .before .before .before .before .before .before .before .before .before .before .before .before .before .before .before .before .before .before .before .if3 .left (c .before .before .before .before .before .before .before .before .before .before .before .before .before .before .before .before .before .before .before .before .before .before .before .before .before .before .before .mark-at .ensures ∙ e)) (λ e. c .before .before .before .before .before .before .before .before .before .before .before .before .before .before .before .before .before .before .before .before .before .before .before .if4 .left (c .before .before .before .before .before .before .before .before .before .before .before .before .before .before .before .before .before .before .before .before .before .before .before .before .before .before .before .mark-at .ensures ∙ e)) (λ e. c .before .before .before .before .before .before .before .before .before .before .before .before .before .before .before .before .before .before .before .before .before .if5 .left (c .before .before .before .before .before .before .before .before .before .before .before .before .before .before .before .before .before .before .before .before .before .before .before .before .before .before .before .mark-at .ensures ∙ e)) (λ e. c .before .before .before .before .before .before .before .before .before .before .before .before .before .before .before .before .before .before .before .before .if6 .left (c .before .before .before .before .before .before .before .before .before .before .before .before .before .before .before .before .before .before .before .before .before .before .before .before .before .before .before .mark-at .ensures ∙ e)) (λ e. c .before .before .before .before .before .before .before .before .before .before .before .before .before .before .before .before .before .before .before .if8 .left (c .before .before .before .before .before .before .before .before .before .before .before .before .before .before .before .before .before .before .before .before .before .before .before .before .before .before .before .mark-at .ensures ∙ e)) (λ e. c .before .before .before .before .before .before .before .before .before .before .before .before .before .before .before .before .before .before .if9 .left (c .before .before .before .before .before .before .before .before .before .before .before .before .before .before .before .before .before .before .before .before .before .before .before .before .before .before .before .mark-at .ensures ∙ e)) (λ e. c .before .before .before .before .before .before .before .before .before .before .before .before .before .before .before .before .before .if11 .left (c .before .before .before .before .before .before .before .before .before .before .before .before .before .before .before .before .before .before .before .before .before .before .before .before .before .before .before .mark-at .ensures ∙ e))) (c .before .before .before .before .before .before .before .before .before .before .before .before .before .before .before .before .before .before .before .before .before .before .span-at .ensures) (c .before .before .before .before .before .before .before .before .before .before .before .before .before .open-class .ensures) (c .before .before .before .before .before .a6 .given .1) (c .before .loop2 .inv .0) (c .loop2-test .taken) in omega (arith, b, c .before .before .before .before .before .before .before .before .before .before .before .before .before .before .before .before .before .before .before .before .before .before .before .before .before .before .before .before .before .before .before .before .before .good)
+  abbrev method-asked : here lts.After-compile-function-arg8 t → here lts.After-span-at2 t
+  method-asked c = method-args c .before
 
-pub compile-stmt-u16-at-requires-4 : (t : ℕ) → compile-stmt-lts.Need-u16-at-requires-4 (compile-stmt-claims t) (compile-stmt-at t) compile-stmt.Post compile-stmt-Inv-loop compile-stmt-μ-loop compile-stmt-Inv-loop2 compile-stmt-μ-loop2
-compile-stmt-u16-at-requires-4 t c κs = let b = methods.method-bound (c .before .before .before .before .before .before .before .before .before .before .before .before .before .before .before .before .before .before .before .before .before .before .before .before .before .before .before .before .before .before .before .before .before .pre .1) (calls.last-kind _ _ _ _ (c .before .before .before .before .before .before .before .before .before .before .before .before .before .before .before .before .before .before .before .before .before .before .before .before .before .before .before .before .before .before .before .before .before .pre .1 .there) (λ e. c .before .before .before .before .before .before .before .before .before .before .before .before .before .before .before .before .before .before .before .before .before .before .before .before .before .before .if1 .left (c .before .before .before .before .before .before .before .before .before .before .before .before .before .before .before .before .before .before .before .before .before .before .before .before .before .before .before .mark-at .ensures ∙ e)) (λ e. c .before .before .before .before .before .before .before .before .before .before .before .before .before .before .before .before .before .before .before .before .before .before .before .before .before .if2 .left (c .before .before .before .before .before .before .before .before .before .before .before .before .before .before .before .before .before .before .before .before .before .before .before .before .before .before .before .mark-at .ensures ∙ e)) (λ e. c .before .before .before .before .before .before .before .before .before .before .before .before .before .before .before .before .before .before .before .before .before .before .before .before .if3 .left (c .before .before .before .before .before .before .before .before .before .before .before .before .before .before .before .before .before .before .before .before .before .before .before .before .before .before .before .mark-at .ensures ∙ e)) (λ e. c .before .before .before .before .before .before .before .before .before .before .before .before .before .before .before .before .before .before .before .before .before .before .before .if4 .left (c .before .before .before .before .before .before .before .before .before .before .before .before .before .before .before .before .before .before .before .before .before .before .before .before .before .before .before .mark-at .ensures ∙ e)) (λ e. c .before .before .before .before .before .before .before .before .before .before .before .before .before .before .before .before .before .before .before .before .before .if5 .left (c .before .before .before .before .before .before .before .before .before .before .before .before .before .before .before .before .before .before .before .before .before .before .before .before .before .before .before .mark-at .ensures ∙ e)) (λ e. c .before .before .before .before .before .before .before .before .before .before .before .before .before .before .before .before .before .before .before .before .if6 .left (c .before .before .before .before .before .before .before .before .before .before .before .before .before .before .before .before .before .before .before .before .before .before .before .before .before .before .before .mark-at .ensures ∙ e)) (λ e. c .before .before .before .before .before .before .before .before .before .before .before .before .before .before .before .before .before .before .before .if8 .left (c .before .before .before .before .before .before .before .before .before .before .before .before .before .before .before .before .before .before .before .before .before .before .before .before .before .before .before .mark-at .ensures ∙ e)) (λ e. c .before .before .before .before .before .before .before .before .before .before .before .before .before .before .before .before .before .before .if9 .left (c .before .before .before .before .before .before .before .before .before .before .before .before .before .before .before .before .before .before .before .before .before .before .before .before .before .before .before .mark-at .ensures ∙ e)) (λ e. c .before .before .before .before .before .before .before .before .before .before .before .before .before .before .before .before .before .if11 .left (c .before .before .before .before .before .before .before .before .before .before .before .before .before .before .before .before .before .before .before .before .before .before .before .before .before .before .before .mark-at .ensures ∙ e))) (c .before .before .before .before .before .before .before .before .before .before .before .before .before .before .before .before .before .before .before .before .before .before .span-at .ensures) (c .before .before .before .before .before .before .before .before .before .before .before .before .before .open-class .ensures) (c .before .before .before .before .before .a6 .given .1) (c .before .loop2 .inv .0) (c .loop2-test .taken) in omega (arith, b)
+  abbrev method-some : here lts.After-slice-known83 t → here lts.After-spans23 t
+  method-some c = c .before .before .before
 
-pub compile-stmt-add-span-at-2 : (t : ℕ) → compile-stmt-lts.Need-add-span-at-2 (compile-stmt-claims t) (compile-stmt-at t) compile-stmt.Post compile-stmt-Inv-loop compile-stmt-μ-loop compile-stmt-Inv-loop2 compile-stmt-μ-loop2
-compile-stmt-add-span-at-2 t c = let b = methods.method-bound (c .before .before .before .before .before .before .before .before .before .before .before .before .before .before .before .before .before .before .before .before .before .before .before .before .before .before .before .before .before .before .before .before .before .before .pre .1) (calls.last-kind _ _ _ _ (c .before .before .before .before .before .before .before .before .before .before .before .before .before .before .before .before .before .before .before .before .before .before .before .before .before .before .before .before .before .before .before .before .before .before .pre .1 .there) (λ e. c .before .before .before .before .before .before .before .before .before .before .before .before .before .before .before .before .before .before .before .before .before .before .before .before .before .before .before .if1 .left (c .before .before .before .before .before .before .before .before .before .before .before .before .before .before .before .before .before .before .before .before .before .before .before .before .before .before .before .before .mark-at .ensures ∙ e)) (λ e. c .before .before .before .before .before .before .before .before .before .before .before .before .before .before .before .before .before .before .before .before .before .before .before .before .before .before .if2 .left (c .before .before .before .before .before .before .before .before .before .before .before .before .before .before .before .before .before .before .before .before .before .before .before .before .before .before .before .before .mark-at .ensures ∙ e)) (λ e. c .before .before .before .before .before .before .before .before .before .before .before .before .before .before .before .before .before .before .before .before .before .before .before .before .before .if3 .left (c .before .before .before .before .before .before .before .before .before .before .before .before .before .before .before .before .before .before .before .before .before .before .before .before .before .before .before .before .mark-at .ensures ∙ e)) (λ e. c .before .before .before .before .before .before .before .before .before .before .before .before .before .before .before .before .before .before .before .before .before .before .before .before .if4 .left (c .before .before .before .before .before .before .before .before .before .before .before .before .before .before .before .before .before .before .before .before .before .before .before .before .before .before .before .before .mark-at .ensures ∙ e)) (λ e. c .before .before .before .before .before .before .before .before .before .before .before .before .before .before .before .before .before .before .before .before .before .before .if5 .left (c .before .before .before .before .before .before .before .before .before .before .before .before .before .before .before .before .before .before .before .before .before .before .before .before .before .before .before .before .mark-at .ensures ∙ e)) (λ e. c .before .before .before .before .before .before .before .before .before .before .before .before .before .before .before .before .before .before .before .before .before .if6 .left (c .before .before .before .before .before .before .before .before .before .before .before .before .before .before .before .before .before .before .before .before .before .before .before .before .before .before .before .before .mark-at .ensures ∙ e)) (λ e. c .before .before .before .before .before .before .before .before .before .before .before .before .before .before .before .before .before .before .before .before .if8 .left (c .before .before .before .before .before .before .before .before .before .before .before .before .before .before .before .before .before .before .before .before .before .before .before .before .before .before .before .before .mark-at .ensures ∙ e)) (λ e. c .before .before .before .before .before .before .before .before .before .before .before .before .before .before .before .before .before .before .before .if9 .left (c .before .before .before .before .before .before .before .before .before .before .before .before .before .before .before .before .before .before .before .before .before .before .before .before .before .before .before .before .mark-at .ensures ∙ e)) (λ e. c .before .before .before .before .before .before .before .before .before .before .before .before .before .before .before .before .before .before .if11 .left (c .before .before .before .before .before .before .before .before .before .before .before .before .before .before .before .before .before .before .before .before .before .before .before .before .before .before .before .before .mark-at .ensures ∙ e))) (c .before .before .before .before .before .before .before .before .before .before .before .before .before .before .before .before .before .before .before .before .before .before .before .span-at .ensures) (c .before .before .before .before .before .before .before .before .before .before .before .before .before .before .open-class .ensures) (c .before .before .before .before .before .before .a6 .given .1) (c .before .before .loop2 .inv .0) (c .before .loop2-test .taken) in omega (arith, b, c .before .before .before .before .before .before .before .before .before .before .before .before .before .before .before .before .before .before .before .before .before .before .before .before .before .before .before .before .before .before .before .before .before .before .good)
+  abbrev method-half : here lts.After-slice-known83 t → here lts.After-slice-known80 t
+  method-half c = method-some c .before .before .before
 
-pub compile-stmt-span-at-requires-2 : (t : ℕ) → compile-stmt-lts.Need-span-at-requires-2 (compile-stmt-claims t) (compile-stmt-at t) compile-stmt.Post compile-stmt-Inv-loop compile-stmt-μ-loop compile-stmt-Inv-loop2 compile-stmt-μ-loop2
-compile-stmt-span-at-requires-2 t c κs = let b = methods.method-bound (c .before .before .before .before .before .before .before .before .before .before .before .before .before .before .before .before .before .before .before .before .before .before .before .before .before .before .before .before .before .before .before .before .before .before .pre .1) (calls.last-kind _ _ _ _ (c .before .before .before .before .before .before .before .before .before .before .before .before .before .before .before .before .before .before .before .before .before .before .before .before .before .before .before .before .before .before .before .before .before .before .pre .1 .there) (λ e. c .before .before .before .before .before .before .before .before .before .before .before .before .before .before .before .before .before .before .before .before .before .before .before .before .before .before .before .if1 .left (c .before .before .before .before .before .before .before .before .before .before .before .before .before .before .before .before .before .before .before .before .before .before .before .before .before .before .before .before .mark-at .ensures ∙ e)) (λ e. c .before .before .before .before .before .before .before .before .before .before .before .before .before .before .before .before .before .before .before .before .before .before .before .before .before .before .if2 .left (c .before .before .before .before .before .before .before .before .before .before .before .before .before .before .before .before .before .before .before .before .before .before .before .before .before .before .before .before .mark-at .ensures ∙ e)) (λ e. c .before .before .before .before .before .before .before .before .before .before .before .before .before .before .before .before .before .before .before .before .before .before .before .before .before .if3 .left (c .before .before .before .before .before .before .before .before .before .before .before .before .before .before .before .before .before .before .before .before .before .before .before .before .before .before .before .before .mark-at .ensures ∙ e)) (λ e. c .before .before .before .before .before .before .before .before .before .before .before .before .before .before .before .before .before .before .before .before .before .before .before .before .if4 .left (c .before .before .before .before .before .before .before .before .before .before .before .before .before .before .before .before .before .before .before .before .before .before .before .before .before .before .before .before .mark-at .ensures ∙ e)) (λ e. c .before .before .before .before .before .before .before .before .before .before .before .before .before .before .before .before .before .before .before .before .before .before .if5 .left (c .before .before .before .before .before .before .before .before .before .before .before .before .before .before .before .before .before .before .before .before .before .before .before .before .before .before .before .before .mark-at .ensures ∙ e)) (λ e. c .before .before .before .before .before .before .before .before .before .before .before .before .before .before .before .before .before .before .before .before .before .if6 .left (c .before .before .before .before .before .before .before .before .before .before .before .before .before .before .before .before .before .before .before .before .before .before .before .before .before .before .before .before .mark-at .ensures ∙ e)) (λ e. c .before .before .before .before .before .before .before .before .before .before .before .before .before .before .before .before .before .before .before .before .if8 .left (c .before .before .before .before .before .before .before .before .before .before .before .before .before .before .before .before .before .before .before .before .before .before .before .before .before .before .before .before .mark-at .ensures ∙ e)) (λ e. c .before .before .before .before .before .before .before .before .before .before .before .before .before .before .before .before .before .before .before .if9 .left (c .before .before .before .before .before .before .before .before .before .before .before .before .before .before .before .before .before .before .before .before .before .before .before .before .before .before .before .before .mark-at .ensures ∙ e)) (λ e. c .before .before .before .before .before .before .before .before .before .before .before .before .before .before .before .before .before .before .if11 .left (c .before .before .before .before .before .before .before .before .before .before .before .before .before .before .before .before .before .before .before .before .before .before .before .before .before .before .before .before .mark-at .ensures ∙ e))) (c .before .before .before .before .before .before .before .before .before .before .before .before .before .before .before .before .before .before .before .before .before .before .before .span-at .ensures) (c .before .before .before .before .before .before .before .before .before .before .before .before .before .before .open-class .ensures) (c .before .before .before .before .before .before .a6 .given .1) (c .before .before .loop2 .inv .0) (c .before .loop2-test .taken) in omega (arith, b)
+  abbrev method-left : here lts.After-slice-known83 t → here lts.After-compile-function2 t
+  method-left c = method-half c .before .before
 
-pub compile-stmt-method-kind-requires : (t : ℕ) → compile-stmt-lts.Need-method-kind-requires (compile-stmt-claims t) (compile-stmt-at t) compile-stmt.Post compile-stmt-Inv-loop compile-stmt-μ-loop compile-stmt-Inv-loop2 compile-stmt-μ-loop2
-compile-stmt-method-kind-requires t c κs = search needs
+  abbrev method-halted : here lts.After-enum-told18 t → here lts.After-compile-function2 t
+  method-halted c = method-left (c .before .before)
 
-pub compile-stmt-compile-function-requires-2 : (t : ℕ) → compile-stmt-lts.Need-compile-function-requires-2 (compile-stmt-claims t) (compile-stmt-at t) compile-stmt.Post compile-stmt-Inv-loop compile-stmt-μ-loop compile-stmt-Inv-loop2 compile-stmt-μ-loop2
-compile-stmt-compile-function-requires-2 t c κs = methods.function (c .before .before .before .before .before .before .before .before .before .before .before .before .before .before .before .before .before .before .before .before .before .before .before .before .before .before .before .before .before .before .before .before .before .before .before .before .before .before .before .before .pre .1) (calls.last-kind _ _ _ _ (c .before .before .before .before .before .before .before .before .before .before .before .before .before .before .before .before .before .before .before .before .before .before .before .before .before .before .before .before .before .before .before .before .before .before .before .before .before .before .before .before .pre .1 .there) (λ e. c .before .before .before .before .before .before .before .before .before .before .before .before .before .before .before .before .before .before .before .before .before .before .before .before .before .before .before .before .before .before .before .before .before .if1 .left (c .before .before .before .before .before .before .before .before .before .before .before .before .before .before .before .before .before .before .before .before .before .before .before .before .before .before .before .before .before .before .before .before .before .before .mark-at .ensures ∙ e)) (λ e. c .before .before .before .before .before .before .before .before .before .before .before .before .before .before .before .before .before .before .before .before .before .before .before .before .before .before .before .before .before .before .before .before .if2 .left (c .before .before .before .before .before .before .before .before .before .before .before .before .before .before .before .before .before .before .before .before .before .before .before .before .before .before .before .before .before .before .before .before .before .before .mark-at .ensures ∙ e)) (λ e. c .before .before .before .before .before .before .before .before .before .before .before .before .before .before .before .before .before .before .before .before .before .before .before .before .before .before .before .before .before .before .before .if3 .left (c .before .before .before .before .before .before .before .before .before .before .before .before .before .before .before .before .before .before .before .before .before .before .before .before .before .before .before .before .before .before .before .before .before .before .mark-at .ensures ∙ e)) (λ e. c .before .before .before .before .before .before .before .before .before .before .before .before .before .before .before .before .before .before .before .before .before .before .before .before .before .before .before .before .before .before .if4 .left (c .before .before .before .before .before .before .before .before .before .before .before .before .before .before .before .before .before .before .before .before .before .before .before .before .before .before .before .before .before .before .before .before .before .before .mark-at .ensures ∙ e)) (λ e. c .before .before .before .before .before .before .before .before .before .before .before .before .before .before .before .before .before .before .before .before .before .before .before .before .before .before .before .before .if5 .left (c .before .before .before .before .before .before .before .before .before .before .before .before .before .before .before .before .before .before .before .before .before .before .before .before .before .before .before .before .before .before .before .before .before .before .mark-at .ensures ∙ e)) (λ e. c .before .before .before .before .before .before .before .before .before .before .before .before .before .before .before .before .before .before .before .before .before .before .before .before .before .before .before .if6 .left (c .before .before .before .before .before .before .before .before .before .before .before .before .before .before .before .before .before .before .before .before .before .before .before .before .before .before .before .before .before .before .before .before .before .before .mark-at .ensures ∙ e)) (λ e. c .before .before .before .before .before .before .before .before .before .before .before .before .before .before .before .before .before .before .before .before .before .before .before .before .before .before .if8 .left (c .before .before .before .before .before .before .before .before .before .before .before .before .before .before .before .before .before .before .before .before .before .before .before .before .before .before .before .before .before .before .before .before .before .before .mark-at .ensures ∙ e)) (λ e. c .before .before .before .before .before .before .before .before .before .before .before .before .before .before .before .before .before .before .before .before .before .before .before .before .before .if9 .left (c .before .before .before .before .before .before .before .before .before .before .before .before .before .before .before .before .before .before .before .before .before .before .before .before .before .before .before .before .before .before .before .before .before .before .mark-at .ensures ∙ e)) (λ e. c .before .before .before .before .before .before .before .before .before .before .before .before .before .before .before .before .before .before .before .before .before .before .before .before .if11 .left (c .before .before .before .before .before .before .before .before .before .before .before .before .before .before .before .before .before .before .before .before .before .before .before .before .before .before .before .before .before .before .before .before .before .before .mark-at .ensures ∙ e))) (c .before .before .before .before .before .before .before .before .before .before .before .before .before .before .before .before .before .before .before .before .before .before .before .before .before .before .before .before .before .span-at .ensures) (c .before .before .before .before .before .before .before .before .before .before .before .before .before .before .before .before .before .before .before .before .open-class .ensures) (c .before .before .before .before .before .before .before .before .before .before .before .before .a6 .given .1) (c .before .before .before .before .before .before .before .before .loop2 .inv .0) (c .before .before .before .before .before .before .before .before .before .before .before .before .before .before .before .before .before .before .before .before .before .before .before .before .before .before .before .before .before .before .before .before .before .before .before .before .before .before .before .before .pre .0) (c .before .before .before .before .before .before .before .loop2-test .taken)
+  abbrev emit-asked : here lts.After-emit-op-name-arg3 t → here lts.After-known-told16 t
+  emit-asked c = c .before .before .before
 
-pub compile-stmt-returns-27 : (t : ℕ) → compile-stmt-lts.Need-returns-27 (compile-stmt-claims t) (compile-stmt-at t) compile-stmt.Post compile-stmt-Inv-loop compile-stmt-μ-loop compile-stmt-Inv-loop2 compile-stmt-μ-loop2
-compile-stmt-returns-27 t c = methods.stop-2 (c .before .before .before .before .before .before .before .before .before .before .before .before .before .before .before .before .before .before .before .before .before .before .before .before .before .before .before .before .before .before .before .before .before .before .before .before .before .before .before .before .before .before .before .before .before .before .before .before .before .before .before .pre .1) (calls.last-kind _ _ _ _ (c .before .before .before .before .before .before .before .before .before .before .before .before .before .before .before .before .before .before .before .before .before .before .before .before .before .before .before .before .before .before .before .before .before .before .before .before .before .before .before .before .before .before .before .before .before .before .before .before .before .before .before .pre .1 .there) (λ e. c .before .before .before .before .before .before .before .before .before .before .before .before .before .before .before .before .before .before .before .before .before .before .before .before .before .before .before .before .before .before .before .before .before .before .before .before .before .before .before .before .before .before .before .before .if1 .left (c .before .before .before .before .before .before .before .before .before .before .before .before .before .before .before .before .before .before .before .before .before .before .before .before .before .before .before .before .before .before .before .before .before .before .before .before .before .before .before .before .before .before .before .before .before .mark-at .ensures ∙ e)) (λ e. c .before .before .before .before .before .before .before .before .before .before .before .before .before .before .before .before .before .before .before .before .before .before .before .before .before .before .before .before .before .before .before .before .before .before .before .before .before .before .before .before .before .before .before .if2 .left (c .before .before .before .before .before .before .before .before .before .before .before .before .before .before .before .before .before .before .before .before .before .before .before .before .before .before .before .before .before .before .before .before .before .before .before .before .before .before .before .before .before .before .before .before .before .mark-at .ensures ∙ e)) (λ e. c .before .before .before .before .before .before .before .before .before .before .before .before .before .before .before .before .before .before .before .before .before .before .before .before .before .before .before .before .before .before .before .before .before .before .before .before .before .before .before .before .before .before .if3 .left (c .before .before .before .before .before .before .before .before .before .before .before .before .before .before .before .before .before .before .before .before .before .before .before .before .before .before .before .before .before .before .before .before .before .before .before .before .before .before .before .before .before .before .before .before .before .mark-at .ensures ∙ e)) (λ e. c .before .before .before .before .before .before .before .before .before .before .before .before .before .before .before .before .before .before .before .before .before .before .before .before .before .before .before .before .before .before .before .before .before .before .before .before .before .before .before .before .before .if4 .left (c .before .before .before .before .before .before .before .before .before .before .before .before .before .before .before .before .before .before .before .before .before .before .before .before .before .before .before .before .before .before .before .before .before .before .before .before .before .before .before .before .before .before .before .before .before .mark-at .ensures ∙ e)) (λ e. c .before .before .before .before .before .before .before .before .before .before .before .before .before .before .before .before .before .before .before .before .before .before .before .before .before .before .before .before .before .before .before .before .before .before .before .before .before .before .before .if5 .left (c .before .before .before .before .before .before .before .before .before .before .before .before .before .before .before .before .before .before .before .before .before .before .before .before .before .before .before .before .before .before .before .before .before .before .before .before .before .before .before .before .before .before .before .before .before .mark-at .ensures ∙ e)) (λ e. c .before .before .before .before .before .before .before .before .before .before .before .before .before .before .before .before .before .before .before .before .before .before .before .before .before .before .before .before .before .before .before .before .before .before .before .before .before .before .if6 .left (c .before .before .before .before .before .before .before .before .before .before .before .before .before .before .before .before .before .before .before .before .before .before .before .before .before .before .before .before .before .before .before .before .before .before .before .before .before .before .before .before .before .before .before .before .before .mark-at .ensures ∙ e)) (λ e. c .before .before .before .before .before .before .before .before .before .before .before .before .before .before .before .before .before .before .before .before .before .before .before .before .before .before .before .before .before .before .before .before .before .before .before .before .before .if8 .left (c .before .before .before .before .before .before .before .before .before .before .before .before .before .before .before .before .before .before .before .before .before .before .before .before .before .before .before .before .before .before .before .before .before .before .before .before .before .before .before .before .before .before .before .before .before .mark-at .ensures ∙ e)) (λ e. c .before .before .before .before .before .before .before .before .before .before .before .before .before .before .before .before .before .before .before .before .before .before .before .before .before .before .before .before .before .before .before .before .before .before .before .before .if9 .left (c .before .before .before .before .before .before .before .before .before .before .before .before .before .before .before .before .before .before .before .before .before .before .before .before .before .before .before .before .before .before .before .before .before .before .before .before .before .before .before .before .before .before .before .before .before .mark-at .ensures ∙ e)) (λ e. c .before .before .before .before .before .before .before .before .before .before .before .before .before .before .before .before .before .before .before .before .before .before .before .before .before .before .before .before .before .before .before .before .before .before .before .if11 .left (c .before .before .before .before .before .before .before .before .before .before .before .before .before .before .before .before .before .before .before .before .before .before .before .before .before .before .before .before .before .before .before .before .before .before .before .before .before .before .before .before .before .before .before .before .before .mark-at .ensures ∙ e))) (c .before .before .before .before .before .before .before .before .before .before .before .before .before .before .before .before .before .before .before .before .before .before .before .before .before .before .before .before .before .before .before .before .before .before .before .before .before .before .before .before .span-at .ensures) (c .before .before .before .before .before .before .before .before .before .before .before .before .before .before .before .before .before .before .before .before .before .before .before .before .before .before .before .before .before .before .before .open-class .ensures) (c .before .before .before .before .before .before .before .before .before .before .before .before .before .before .before .before .before .before .before .before .before .before .before .a6 .given .1) (c .before .before .before .before .before .before .before .before .before .before .before .before .before .before .before .before .before .before .before .loop2 .inv .0) (c .before .before .before .before .before .before .before .before .before .before .before .before .before .before .before .before .before .before .loop2-test .taken) (c .before .before .before .before .before .before .before .before .before .before .before .before .before .before .before .before .span-at2 .ensures) (c .before .before .before .before .before .before .before .before .before .before .before .before .before .before .before .before .before .u16-at4 .ensures) (c .before .before .before .before .before .before .before .before .before .before .before .method-kind .ensures .0) (c .before .before .before .before .before .before .before .before .before .before .compile-function2 .ensures) (c .before .before .before .before .before .before .before .before .before .before .before .before .before .before .before .before .before .before .before .before .before .inner-class .ensures) (c .enum-told18 .given .1)
+  abbrev method-went : here lts.After-known-told16 t → here lts.After-compile-function2 t
+  method-went c = method-left (c .before .before .before)
 
-pub compile-stmt-emit-op-name-requires : (t : ℕ) → compile-stmt-lts.Need-emit-op-name-requires (compile-stmt-claims t) (compile-stmt-at t) compile-stmt.Post compile-stmt-Inv-loop compile-stmt-μ-loop compile-stmt-Inv-loop2 compile-stmt-μ-loop2
-compile-stmt-emit-op-name-requires t c κs = methods.method-fit (c .before .before .before .before .before .before .before .before .before .before .before .before .before .before .before .before .before .before .before .before .before .before .before .before .before .before .before .before .before .before .before .before .before .before .before .before .before .before .before .before .before .before .before .before .before .before .before .before .before .before .before .before .before .before .before .pre .1) (calls.last-kind _ _ _ _ (c .before .before .before .before .before .before .before .before .before .before .before .before .before .before .before .before .before .before .before .before .before .before .before .before .before .before .before .before .before .before .before .before .before .before .before .before .before .before .before .before .before .before .before .before .before .before .before .before .before .before .before .before .before .before .before .pre .1 .there) (λ e. c .before .before .before .before .before .before .before .before .before .before .before .before .before .before .before .before .before .before .before .before .before .before .before .before .before .before .before .before .before .before .before .before .before .before .before .before .before .before .before .before .before .before .before .before .before .before .before .before .if1 .left (c .before .before .before .before .before .before .before .before .before .before .before .before .before .before .before .before .before .before .before .before .before .before .before .before .before .before .before .before .before .before .before .before .before .before .before .before .before .before .before .before .before .before .before .before .before .before .before .before .before .mark-at .ensures ∙ e)) (λ e. c .before .before .before .before .before .before .before .before .before .before .before .before .before .before .before .before .before .before .before .before .before .before .before .before .before .before .before .before .before .before .before .before .before .before .before .before .before .before .before .before .before .before .before .before .before .before .before .if2 .left (c .before .before .before .before .before .before .before .before .before .before .before .before .before .before .before .before .before .before .before .before .before .before .before .before .before .before .before .before .before .before .before .before .before .before .before .before .before .before .before .before .before .before .before .before .before .before .before .before .before .mark-at .ensures ∙ e)) (λ e. c .before .before .before .before .before .before .before .before .before .before .before .before .before .before .before .before .before .before .before .before .before .before .before .before .before .before .before .before .before .before .before .before .before .before .before .before .before .before .before .before .before .before .before .before .before .before .if3 .left (c .before .before .before .before .before .before .before .before .before .before .before .before .before .before .before .before .before .before .before .before .before .before .before .before .before .before .before .before .before .before .before .before .before .before .before .before .before .before .before .before .before .before .before .before .before .before .before .before .before .mark-at .ensures ∙ e)) (λ e. c .before .before .before .before .before .before .before .before .before .before .before .before .before .before .before .before .before .before .before .before .before .before .before .before .before .before .before .before .before .before .before .before .before .before .before .before .before .before .before .before .before .before .before .before .before .if4 .left (c .before .before .before .before .before .before .before .before .before .before .before .before .before .before .before .before .before .before .before .before .before .before .before .before .before .before .before .before .before .before .before .before .before .before .before .before .before .before .before .before .before .before .before .before .before .before .before .before .before .mark-at .ensures ∙ e)) (λ e. c .before .before .before .before .before .before .before .before .before .before .before .before .before .before .before .before .before .before .before .before .before .before .before .before .before .before .before .before .before .before .before .before .before .before .before .before .before .before .before .before .before .before .before .if5 .left (c .before .before .before .before .before .before .before .before .before .before .before .before .before .before .before .before .before .before .before .before .before .before .before .before .before .before .before .before .before .before .before .before .before .before .before .before .before .before .before .before .before .before .before .before .before .before .before .before .before .mark-at .ensures ∙ e)) (λ e. c .before .before .before .before .before .before .before .before .before .before .before .before .before .before .before .before .before .before .before .before .before .before .before .before .before .before .before .before .before .before .before .before .before .before .before .before .before .before .before .before .before .before .if6 .left (c .before .before .before .before .before .before .before .before .before .before .before .before .before .before .before .before .before .before .before .before .before .before .before .before .before .before .before .before .before .before .before .before .before .before .before .before .before .before .before .before .before .before .before .before .before .before .before .before .before .mark-at .ensures ∙ e)) (λ e. c .before .before .before .before .before .before .before .before .before .before .before .before .before .before .before .before .before .before .before .before .before .before .before .before .before .before .before .before .before .before .before .before .before .before .before .before .before .before .before .before .before .if8 .left (c .before .before .before .before .before .before .before .before .before .before .before .before .before .before .before .before .before .before .before .before .before .before .before .before .before .before .before .before .before .before .before .before .before .before .before .before .before .before .before .before .before .before .before .before .before .before .before .before .before .mark-at .ensures ∙ e)) (λ e. c .before .before .before .before .before .before .before .before .before .before .before .before .before .before .before .before .before .before .before .before .before .before .before .before .before .before .before .before .before .before .before .before .before .before .before .before .before .before .before .before .if9 .left (c .before .before .before .before .before .before .before .before .before .before .before .before .before .before .before .before .before .before .before .before .before .before .before .before .before .before .before .before .before .before .before .before .before .before .before .before .before .before .before .before .before .before .before .before .before .before .before .before .before .mark-at .ensures ∙ e)) (λ e. c .before .before .before .before .before .before .before .before .before .before .before .before .before .before .before .before .before .before .before .before .before .before .before .before .before .before .before .before .before .before .before .before .before .before .before .before .before .before .before .if11 .left (c .before .before .before .before .before .before .before .before .before .before .before .before .before .before .before .before .before .before .before .before .before .before .before .before .before .before .before .before .before .before .before .before .before .before .before .before .before .before .before .before .before .before .before .before .before .before .before .before .before .mark-at .ensures ∙ e))) (c .before .before .before .before .before .before .before .before .before .before .before .before .before .before .before .before .before .before .before .before .before .before .before .before .before .before .before .before .before .before .before .before .before .before .before .before .before .before .before .before .before .before .before .before .span-at .ensures) (c .before .before .before .before .before .before .before .before .before .before .before .before .before .before .before .before .before .before .before .before .before .before .before .before .before .before .before .before .before .before .before .before .before .before .before .open-class .ensures) (c .before .before .before .before .before .before .before .before .before .before .before .before .before .before .before .before .before .before .before .before .before .before .before .before .before .before .before .a6 .given .1) (c .before .before .before .before .before .before .before .before .before .before .before .before .before .before .before .before .before .before .before .before .before .before .before .loop2 .inv .0) (c .before .before .before .before .before .before .before .before .before .before .before .before .before .before .before .before .before .before .before .before .before .before .loop2-test .taken) (c .before .before .before .before .before .before .before .before .before .before .before .before .before .before .before .before .before .before .before .before .span-at2 .ensures) (c .before .before .before .before .before .before .before .before .before .before .before .before .before .before .before .before .before .before .before .before .before .u16-at4 .ensures) (c .before .before .before .before .before .before .before .before .before .before .before .before .before .before .before .method-kind .ensures .0) (c .before .before .before .before .before .before .before .before .before .before .before .before .before .before .compile-function2 .ensures) (c .before .before .before .before .b3 .given .1)
+  abbrev emit-half : here lts.After-slice-known86 t → here lts.After-code24 t
+  emit-half c = c .before .before .before
 
-pub compile-stmt-returns-28 : (t : ℕ) → compile-stmt-lts.Need-returns-28 (compile-stmt-claims t) (compile-stmt-at t) compile-stmt.Post compile-stmt-Inv-loop compile-stmt-μ-loop compile-stmt-Inv-loop2 compile-stmt-μ-loop2
-compile-stmt-returns-28 t c = methods.stop-3 (c .before .before .before .before .before .before .before .before .before .before .before .before .before .before .before .before .before .before .before .before .before .before .before .before .before .before .before .before .before .before .before .before .before .before .before .before .before .before .before .before .before .before .before .before .before .before .before .before .before .before .before .before .before .before .before .before .before .before .before .before .before .before .before .before .pre .1) (calls.last-kind _ _ _ _ (c .before .before .before .before .before .before .before .before .before .before .before .before .before .before .before .before .before .before .before .before .before .before .before .before .before .before .before .before .before .before .before .before .before .before .before .before .before .before .before .before .before .before .before .before .before .before .before .before .before .before .before .before .before .before .before .before .before .before .before .before .before .before .before .before .pre .1 .there) (λ e. c .before .before .before .before .before .before .before .before .before .before .before .before .before .before .before .before .before .before .before .before .before .before .before .before .before .before .before .before .before .before .before .before .before .before .before .before .before .before .before .before .before .before .before .before .before .before .before .before .before .before .before .before .before .before .before .before .before .if1 .left (c .before .before .before .before .before .before .before .before .before .before .before .before .before .before .before .before .before .before .before .before .before .before .before .before .before .before .before .before .before .before .before .before .before .before .before .before .before .before .before .before .before .before .before .before .before .before .before .before .before .before .before .before .before .before .before .before .before .before .mark-at .ensures ∙ e)) (λ e. c .before .before .before .before .before .before .before .before .before .before .before .before .before .before .before .before .before .before .before .before .before .before .before .before .before .before .before .before .before .before .before .before .before .before .before .before .before .before .before .before .before .before .before .before .before .before .before .before .before .before .before .before .before .before .before .before .if2 .left (c .before .before .before .before .before .before .before .before .before .before .before .before .before .before .before .before .before .before .before .before .before .before .before .before .before .before .before .before .before .before .before .before .before .before .before .before .before .before .before .before .before .before .before .before .before .before .before .before .before .before .before .before .before .before .before .before .before .before .mark-at .ensures ∙ e)) (λ e. c .before .before .before .before .before .before .before .before .before .before .before .before .before .before .before .before .before .before .before .before .before .before .before .before .before .before .before .before .before .before .before .before .before .before .before .before .before .before .before .before .before .before .before .before .before .before .before .before .before .before .before .before .before .before .before .if3 .left (c .before .before .before .before .before .before .before .before .before .before .before .before .before .before .before .before .before .before .before .before .before .before .before .before .before .before .before .before .before .before .before .before .before .before .before .before .before .before .before .before .before .before .before .before .before .before .before .before .before .before .before .before .before .before .before .before .before .before .mark-at .ensures ∙ e)) (λ e. c .before .before .before .before .before .before .before .before .before .before .before .before .before .before .before .before .before .before .before .before .before .before .before .before .before .before .before .before .before .before .before .before .before .before .before .before .before .before .before .before .before .before .before .before .before .before .before .before .before .before .before .before .before .before .if4 .left (c .before .before .before .before .before .before .before .before .before .before .before .before .before .before .before .before .before .before .before .before .before .before .before .before .before .before .before .before .before .before .before .before .before .before .before .before .before .before .before .before .before .before .before .before .before .before .before .before .before .before .before .before .before .before .before .before .before .before .mark-at .ensures ∙ e)) (λ e. c .before .before .before .before .before .before .before .before .before .before .before .before .before .before .before .before .before .before .before .before .before .before .before .before .before .before .before .before .before .before .before .before .before .before .before .before .before .before .before .before .before .before .before .before .before .before .before .before .before .before .before .before .if5 .left (c .before .before .before .before .before .before .before .before .before .before .before .before .before .before .before .before .before .before .before .before .before .before .before .before .before .before .before .before .before .before .before .before .before .before .before .before .before .before .before .before .before .before .before .before .before .before .before .before .before .before .before .before .before .before .before .before .before .before .mark-at .ensures ∙ e)) (λ e. c .before .before .before .before .before .before .before .before .before .before .before .before .before .before .before .before .before .before .before .before .before .before .before .before .before .before .before .before .before .before .before .before .before .before .before .before .before .before .before .before .before .before .before .before .before .before .before .before .before .before .before .if6 .left (c .before .before .before .before .before .before .before .before .before .before .before .before .before .before .before .before .before .before .before .before .before .before .before .before .before .before .before .before .before .before .before .before .before .before .before .before .before .before .before .before .before .before .before .before .before .before .before .before .before .before .before .before .before .before .before .before .before .before .mark-at .ensures ∙ e)) (λ e. c .before .before .before .before .before .before .before .before .before .before .before .before .before .before .before .before .before .before .before .before .before .before .before .before .before .before .before .before .before .before .before .before .before .before .before .before .before .before .before .before .before .before .before .before .before .before .before .before .before .before .if8 .left (c .before .before .before .before .before .before .before .before .before .before .before .before .before .before .before .before .before .before .before .before .before .before .before .before .before .before .before .before .before .before .before .before .before .before .before .before .before .before .before .before .before .before .before .before .before .before .before .before .before .before .before .before .before .before .before .before .before .before .mark-at .ensures ∙ e)) (λ e. c .before .before .before .before .before .before .before .before .before .before .before .before .before .before .before .before .before .before .before .before .before .before .before .before .before .before .before .before .before .before .before .before .before .before .before .before .before .before .before .before .before .before .before .before .before .before .before .before .before .if9 .left (c .before .before .before .before .before .before .before .before .before .before .before .before .before .before .before .before .before .before .before .before .before .before .before .before .before .before .before .before .before .before .before .before .before .before .before .before .before .before .before .before .before .before .before .before .before .before .before .before .before .before .before .before .before .before .before .before .before .before .mark-at .ensures ∙ e)) (λ e. c .before .before .before .before .before .before .before .before .before .before .before .before .before .before .before .before .before .before .before .before .before .before .before .before .before .before .before .before .before .before .before .before .before .before .before .before .before .before .before .before .before .before .before .before .before .before .before .before .if11 .left (c .before .before .before .before .before .before .before .before .before .before .before .before .before .before .before .before .before .before .before .before .before .before .before .before .before .before .before .before .before .before .before .before .before .before .before .before .before .before .before .before .before .before .before .before .before .before .before .before .before .before .before .before .before .before .before .before .before .before .mark-at .ensures ∙ e))) (c .before .before .before .before .before .before .before .before .before .before .before .before .before .before .before .before .before .before .before .before .before .before .before .before .before .before .before .before .before .before .before .before .before .before .before .before .before .before .before .before .before .before .before .before .before .before .before .before .before .before .before .before .before .span-at .ensures) (c .before .before .before .before .before .before .before .before .before .before .before .before .before .before .before .before .before .before .before .before .before .before .before .before .before .before .before .before .before .before .before .before .before .before .before .before .before .before .before .before .before .before .before .before .open-class .ensures) (c .before .before .before .before .before .before .before .before .before .before .before .before .before .before .before .before .before .before .before .before .before .before .before .before .before .before .before .before .before .before .before .before .before .before .before .before .a6 .given .1) (c .before .before .before .before .before .before .before .before .before .before .before .before .before .before .before .before .before .before .before .before .before .before .before .before .before .before .before .before .before .before .before .before .loop2 .inv .0) (c .before .before .before .before .before .before .before .before .before .before .before .before .before .before .before .before .before .before .before .before .before .before .before .before .before .before .before .before .before .before .before .loop2-test .taken) (c .before .before .before .before .before .before .before .before .before .before .before .before .before .before .before .before .before .before .before .before .before .before .before .before .before .before .before .before .before .span-at2 .ensures) (c .before .before .before .before .before .before .before .before .before .before .before .before .before .before .before .before .before .before .before .before .before .before .before .before .before .before .before .before .before .before .u16-at4 .ensures) (c .before .before .before .before .before .before .before .before .before .before .before .before .before .before .before .before .before .before .before .before .before .before .before .before .method-kind .ensures .0) (c .before .before .before .before .before .before .before .before .before .before .before .before .before .before .before .before .before .before .before .before .before .before .before .compile-function2 .ensures) (c .before .before .before .before .before .before .before .before .before .before .before .before .before .b3 .given .1) (c .before .before .before .before .before .before .before .before .emit-op-name .ensures) (c .before .before .before .before .before .before .before .before .before .before .before .before .before .before .before .before .before .before .before .before .before .before .before .before .before .before .before .before .before .before .before .before .before .before .inner-class .ensures) (c .enum-told20 .given .1)
+  abbrev emit-left : here lts.After-slice-known86 t → here lts.After-emit-op-name t
+  emit-left c = emit-half c .before .before .before
 
-pub compile-stmt-sub-more-2 : (t : ℕ) → compile-stmt-lts.Need-sub-more-2 (compile-stmt-claims t) (compile-stmt-at t) compile-stmt.Post compile-stmt-Inv-loop compile-stmt-μ-loop compile-stmt-Inv-loop2 compile-stmt-μ-loop2
-compile-stmt-sub-more-2 t c = (c .before .before .before .before .before .before .before .before .before .before .before .before .before .before .before .before .before .before .before .before .before .before .before .before .before .before .before .before .before .before .before .loop2-test .taken)
+  abbrev emit-halted : here lts.After-enum-told20 t → here lts.After-emit-op-name t
+  emit-halted c = emit-left (c .before .before)
 
-pub compile-stmt-loop2-less : (t : ℕ) → compile-stmt-lts.Need-loop2-less (compile-stmt-claims t) (compile-stmt-at t) compile-stmt.Post compile-stmt-Inv-loop compile-stmt-μ-loop compile-stmt-Inv-loop2 compile-stmt-μ-loop2
-compile-stmt-loop2-less t c = let h = (c .before .before .before .before .before .before .before .before .before .before .before .before .before .before .before .before .before .before .before .before .before .before .before .before .before .before .before .before .before .before .before .loop2-test .taken) in omega (arith, h)
+  abbrev emit-went : here lts.After-enum-told19 t → here lts.After-emit-op-name t
+  emit-went c = emit-left (c .before .before)
 
-pub compile-stmt-loop2-again : (t : ℕ) → compile-stmt-lts.Need-loop2-again (compile-stmt-claims t) (compile-stmt-at t) compile-stmt.Post compile-stmt-Inv-loop compile-stmt-μ-loop compile-stmt-Inv-loop2 compile-stmt-μ-loop2
-compile-stmt-loop2-again t c = (methods.step (c .before .before .before .before .before .before .before .before .before .before .before .before .before .before .before .before .before .before .before .before .before .before .before .before .before .before .before .before .before .before .before .before .before .before .before .before .before .before .before .before .before .before .before .before .before .before .before .before .before .before .before .before .before .before .before .before .before .before .before .before .before .before .before .before .pre .1) (calls.last-kind _ _ _ _ (c .before .before .before .before .before .before .before .before .before .before .before .before .before .before .before .before .before .before .before .before .before .before .before .before .before .before .before .before .before .before .before .before .before .before .before .before .before .before .before .before .before .before .before .before .before .before .before .before .before .before .before .before .before .before .before .before .before .before .before .before .before .before .before .before .pre .1 .there) (λ e. c .before .before .before .before .before .before .before .before .before .before .before .before .before .before .before .before .before .before .before .before .before .before .before .before .before .before .before .before .before .before .before .before .before .before .before .before .before .before .before .before .before .before .before .before .before .before .before .before .before .before .before .before .before .before .before .before .before .if1 .left (c .before .before .before .before .before .before .before .before .before .before .before .before .before .before .before .before .before .before .before .before .before .before .before .before .before .before .before .before .before .before .before .before .before .before .before .before .before .before .before .before .before .before .before .before .before .before .before .before .before .before .before .before .before .before .before .before .before .before .mark-at .ensures ∙ e)) (λ e. c .before .before .before .before .before .before .before .before .before .before .before .before .before .before .before .before .before .before .before .before .before .before .before .before .before .before .before .before .before .before .before .before .before .before .before .before .before .before .before .before .before .before .before .before .before .before .before .before .before .before .before .before .before .before .before .before .if2 .left (c .before .before .before .before .before .before .before .before .before .before .before .before .before .before .before .before .before .before .before .before .before .before .before .before .before .before .before .before .before .before .before .before .before .before .before .before .before .before .before .before .before .before .before .before .before .before .before .before .before .before .before .before .before .before .before .before .before .before .mark-at .ensures ∙ e)) (λ e. c .before .before .before .before .before .before .before .before .before .before .before .before .before .before .before .before .before .before .before .before .before .before .before .before .before .before .before .before .before .before .before .before .before .before .before .before .before .before .before .before .before .before .before .before .before .before .before .before .before .before .before .before .before .before .before .if3 .left (c .before .before .before .before .before .before .before .before .before .before .before .before .before .before .before .before .before .before .before .before .before .before .before .before .before .before .before .before .before .before .before .before .before .before .before .before .before .before .before .before .before .before .before .before .before .before .before .before .before .before .before .before .before .before .before .before .before .before .mark-at .ensures ∙ e)) (λ e. c .before .before .before .before .before .before .before .before .before .before .before .before .before .before .before .before .before .before .before .before .before .before .before .before .before .before .before .before .before .before .before .before .before .before .before .before .before .before .before .before .before .before .before .before .before .before .before .before .before .before .before .before .before .before .if4 .left (c .before .before .before .before .before .before .before .before .before .before .before .before .before .before .before .before .before .before .before .before .before .before .before .before .before .before .before .before .before .before .before .before .before .before .before .before .before .before .before .before .before .before .before .before .before .before .before .before .before .before .before .before .before .before .before .before .before .before .mark-at .ensures ∙ e)) (λ e. c .before .before .before .before .before .before .before .before .before .before .before .before .before .before .before .before .before .before .before .before .before .before .before .before .before .before .before .before .before .before .before .before .before .before .before .before .before .before .before .before .before .before .before .before .before .before .before .before .before .before .before .before .if5 .left (c .before .before .before .before .before .before .before .before .before .before .before .before .before .before .before .before .before .before .before .before .before .before .before .before .before .before .before .before .before .before .before .before .before .before .before .before .before .before .before .before .before .before .before .before .before .before .before .before .before .before .before .before .before .before .before .before .before .before .mark-at .ensures ∙ e)) (λ e. c .before .before .before .before .before .before .before .before .before .before .before .before .before .before .before .before .before .before .before .before .before .before .before .before .before .before .before .before .before .before .before .before .before .before .before .before .before .before .before .before .before .before .before .before .before .before .before .before .before .before .before .if6 .left (c .before .before .before .before .before .before .before .before .before .before .before .before .before .before .before .before .before .before .before .before .before .before .before .before .before .before .before .before .before .before .before .before .before .before .before .before .before .before .before .before .before .before .before .before .before .before .before .before .before .before .before .before .before .before .before .before .before .before .mark-at .ensures ∙ e)) (λ e. c .before .before .before .before .before .before .before .before .before .before .before .before .before .before .before .before .before .before .before .before .before .before .before .before .before .before .before .before .before .before .before .before .before .before .before .before .before .before .before .before .before .before .before .before .before .before .before .before .before .before .if8 .left (c .before .before .before .before .before .before .before .before .before .before .before .before .before .before .before .before .before .before .before .before .before .before .before .before .before .before .before .before .before .before .before .before .before .before .before .before .before .before .before .before .before .before .before .before .before .before .before .before .before .before .before .before .before .before .before .before .before .before .mark-at .ensures ∙ e)) (λ e. c .before .before .before .before .before .before .before .before .before .before .before .before .before .before .before .before .before .before .before .before .before .before .before .before .before .before .before .before .before .before .before .before .before .before .before .before .before .before .before .before .before .before .before .before .before .before .before .before .before .if9 .left (c .before .before .before .before .before .before .before .before .before .before .before .before .before .before .before .before .before .before .before .before .before .before .before .before .before .before .before .before .before .before .before .before .before .before .before .before .before .before .before .before .before .before .before .before .before .before .before .before .before .before .before .before .before .before .before .before .before .before .mark-at .ensures ∙ e)) (λ e. c .before .before .before .before .before .before .before .before .before .before .before .before .before .before .before .before .before .before .before .before .before .before .before .before .before .before .before .before .before .before .before .before .before .before .before .before .before .before .before .before .before .before .before .before .before .before .before .before .if11 .left (c .before .before .before .before .before .before .before .before .before .before .before .before .before .before .before .before .before .before .before .before .before .before .before .before .before .before .before .before .before .before .before .before .before .before .before .before .before .before .before .before .before .before .before .before .before .before .before .before .before .before .before .before .before .before .before .before .before .before .mark-at .ensures ∙ e))) (c .before .before .before .before .before .before .before .before .before .before .before .before .before .before .before .before .before .before .before .before .before .before .before .before .before .before .before .before .before .before .before .before .before .before .before .before .before .before .before .before .before .before .before .before .before .before .before .before .before .before .before .before .before .span-at .ensures) (c .before .before .before .before .before .before .before .before .before .before .before .before .before .before .before .before .before .before .before .before .before .before .before .before .before .before .before .before .before .before .before .before .before .before .before .before .before .before .before .before .before .before .before .before .open-class .ensures) (c .before .before .before .before .before .before .before .before .before .before .before .before .before .before .before .before .before .before .before .before .before .before .before .before .before .before .before .before .before .before .before .before .before .before .before .before .a6 .given .1) (c .before .before .before .before .before .before .before .before .before .before .before .before .before .before .before .before .before .before .before .before .before .before .before .before .before .before .before .before .before .before .before .before .loop2 .inv .0) (c .before .before .before .before .before .before .before .before .before .before .before .before .before .before .before .before .before .before .before .before .before .before .before .before .before .before .before .before .before .before .before .loop2-test .taken) (c .before .before .before .before .before .before .before .before .before .before .before .before .before .before .before .before .before .before .before .before .before .before .before .before .before .before .before .before .before .span-at2 .ensures) (c .before .before .before .before .before .before .before .before .before .before .before .before .before .before .before .before .before .before .before .before .before .before .before .before .before .before .before .before .before .before .u16-at4 .ensures) (c .before .before .before .before .before .before .before .before .before .before .before .before .before .before .before .before .before .before .before .before .before .before .before .before .method-kind .ensures .0) (c .before .before .before .before .before .before .before .before .before .before .before .before .before .before .before .before .before .before .before .before .before .before .before .compile-function2 .ensures) (c .before .before .before .before .before .before .before .before .before .before .before .before .before .b3 .given .1) (c .before .before .before .before .before .before .before .before .emit-op-name .ensures) (c .enum-told19 .given .1), c .before .before .before .before .before .before .before .before .emit-op-name .kept .0 ∙ c .before .before .before .before .before .before .before .before .before .before .before .before .before .before .before .before .before .before .before .before .before .before .before .compile-function2 .kept .1 .1 .0 ∙ c .before .before .before .before .before .before .before .before .before .before .before .before .before .before .before .before .before .before .before .before .before .before .before .before .before .before .before .before .before .before .before .before .loop2 .inv .1, c .before .before .before .before .before .before .before .before .emit-op-name .kept .1 .0 ∙ c .before .before .before .before .before .before .before .before .before .before .before .before .before .before .before .before .before .before .before .before .before .before .before .compile-function2 .kept .1 .1 .1 .0 ∙ c .before .before .before .before .before .before .before .before .before .before .before .before .before .before .before .before .before .before .before .before .before .before .before .before .before .before .before .before .before .before .before .before .loop2 .inv .2, c .before .before .before .before .before .before .before .before .emit-op-name .kept .1 .1 .0 ∙ c .before .before .before .before .before .before .before .before .before .before .before .before .before .before .before .before .before .before .before .before .before .before .before .compile-function2 .kept .1 .1 .1 .1 .0 ∙ c .before .before .before .before .before .before .before .before .before .before .before .before .before .before .before .before .before .before .before .before .before .before .before .before .before .before .before .before .before .before .before .before .loop2 .inv .3, c .before .before .before .before .before .before .before .before .before .before .before .before .before .before .before .before .before .before .before .before .before .before .before .compile-function2 .kept .1 .1 .1 .1 .1 .0 ∙ c .before .before .before .before .before .before .before .before .before .before .before .before .before .before .before .before .before .before .before .before .before .before .before .before .before .before .before .before .before .before .before .before .loop2 .inv .4)
+  abbrev close-asked : here lts.After-close-class-arg3 t → here lts.After-loop2 t
+  close-asked c = c .before .before .before
 
-pub compile-stmt-close-class-requires : (t : ℕ) → compile-stmt-lts.Need-close-class-requires (compile-stmt-claims t) (compile-stmt-at t) compile-stmt.Post compile-stmt-Inv-loop compile-stmt-μ-loop compile-stmt-Inv-loop2 compile-stmt-μ-loop2
-compile-stmt-close-class-requires t c κs = (methods.head (c .before .before .before .before .before .before .before .before .before .before .before .before .before .before .before .before .before .before .before .before .before .before .before .before .before .before .before .before .before .before .before .before .before .before .before .before .pre .1) (calls.last-kind _ _ _ _ (c .before .before .before .before .before .before .before .before .before .before .before .before .before .before .before .before .before .before .before .before .before .before .before .before .before .before .before .before .before .before .before .before .before .before .before .before .pre .1 .there) (λ e. c .before .before .before .before .before .before .before .before .before .before .before .before .before .before .before .before .before .before .before .before .before .before .before .before .before .before .before .before .before .if1 .left (c .before .before .before .before .before .before .before .before .before .before .before .before .before .before .before .before .before .before .before .before .before .before .before .before .before .before .before .before .before .before .mark-at .ensures ∙ e)) (λ e. c .before .before .before .before .before .before .before .before .before .before .before .before .before .before .before .before .before .before .before .before .before .before .before .before .before .before .before .before .if2 .left (c .before .before .before .before .before .before .before .before .before .before .before .before .before .before .before .before .before .before .before .before .before .before .before .before .before .before .before .before .before .before .mark-at .ensures ∙ e)) (λ e. c .before .before .before .before .before .before .before .before .before .before .before .before .before .before .before .before .before .before .before .before .before .before .before .before .before .before .before .if3 .left (c .before .before .before .before .before .before .before .before .before .before .before .before .before .before .before .before .before .before .before .before .before .before .before .before .before .before .before .before .before .before .mark-at .ensures ∙ e)) (λ e. c .before .before .before .before .before .before .before .before .before .before .before .before .before .before .before .before .before .before .before .before .before .before .before .before .before .before .if4 .left (c .before .before .before .before .before .before .before .before .before .before .before .before .before .before .before .before .before .before .before .before .before .before .before .before .before .before .before .before .before .before .mark-at .ensures ∙ e)) (λ e. c .before .before .before .before .before .before .before .before .before .before .before .before .before .before .before .before .before .before .before .before .before .before .before .before .if5 .left (c .before .before .before .before .before .before .before .before .before .before .before .before .before .before .before .before .before .before .before .before .before .before .before .before .before .before .before .before .before .before .mark-at .ensures ∙ e)) (λ e. c .before .before .before .before .before .before .before .before .before .before .before .before .before .before .before .before .before .before .before .before .before .before .before .if6 .left (c .before .before .before .before .before .before .before .before .before .before .before .before .before .before .before .before .before .before .before .before .before .before .before .before .before .before .before .before .before .before .mark-at .ensures ∙ e)) (λ e. c .before .before .before .before .before .before .before .before .before .before .before .before .before .before .before .before .before .before .before .before .before .before .if8 .left (c .before .before .before .before .before .before .before .before .before .before .before .before .before .before .before .before .before .before .before .before .before .before .before .before .before .before .before .before .before .before .mark-at .ensures ∙ e)) (λ e. c .before .before .before .before .before .before .before .before .before .before .before .before .before .before .before .before .before .before .before .before .before .if9 .left (c .before .before .before .before .before .before .before .before .before .before .before .before .before .before .before .before .before .before .before .before .before .before .before .before .before .before .before .before .before .before .mark-at .ensures ∙ e)) (λ e. c .before .before .before .before .before .before .before .before .before .before .before .before .before .before .before .before .before .before .before .before .if11 .left (c .before .before .before .before .before .before .before .before .before .before .before .before .before .before .before .before .before .before .before .before .before .before .before .before .before .before .before .before .before .before .mark-at .ensures ∙ e))), methods.close (c .before .before .before .before .before .before .before .before .before .before .before .before .before .before .before .before .before .before .before .before .before .before .before .before .before .before .before .before .before .before .before .before .before .before .before .before .pre .1) (calls.last-kind _ _ _ _ (c .before .before .before .before .before .before .before .before .before .before .before .before .before .before .before .before .before .before .before .before .before .before .before .before .before .before .before .before .before .before .before .before .before .before .before .before .pre .1 .there) (λ e. c .before .before .before .before .before .before .before .before .before .before .before .before .before .before .before .before .before .before .before .before .before .before .before .before .before .before .before .before .before .if1 .left (c .before .before .before .before .before .before .before .before .before .before .before .before .before .before .before .before .before .before .before .before .before .before .before .before .before .before .before .before .before .before .mark-at .ensures ∙ e)) (λ e. c .before .before .before .before .before .before .before .before .before .before .before .before .before .before .before .before .before .before .before .before .before .before .before .before .before .before .before .before .if2 .left (c .before .before .before .before .before .before .before .before .before .before .before .before .before .before .before .before .before .before .before .before .before .before .before .before .before .before .before .before .before .before .mark-at .ensures ∙ e)) (λ e. c .before .before .before .before .before .before .before .before .before .before .before .before .before .before .before .before .before .before .before .before .before .before .before .before .before .before .before .if3 .left (c .before .before .before .before .before .before .before .before .before .before .before .before .before .before .before .before .before .before .before .before .before .before .before .before .before .before .before .before .before .before .mark-at .ensures ∙ e)) (λ e. c .before .before .before .before .before .before .before .before .before .before .before .before .before .before .before .before .before .before .before .before .before .before .before .before .before .before .if4 .left (c .before .before .before .before .before .before .before .before .before .before .before .before .before .before .before .before .before .before .before .before .before .before .before .before .before .before .before .before .before .before .mark-at .ensures ∙ e)) (λ e. c .before .before .before .before .before .before .before .before .before .before .before .before .before .before .before .before .before .before .before .before .before .before .before .before .if5 .left (c .before .before .before .before .before .before .before .before .before .before .before .before .before .before .before .before .before .before .before .before .before .before .before .before .before .before .before .before .before .before .mark-at .ensures ∙ e)) (λ e. c .before .before .before .before .before .before .before .before .before .before .before .before .before .before .before .before .before .before .before .before .before .before .before .if6 .left (c .before .before .before .before .before .before .before .before .before .before .before .before .before .before .before .before .before .before .before .before .before .before .before .before .before .before .before .before .before .before .mark-at .ensures ∙ e)) (λ e. c .before .before .before .before .before .before .before .before .before .before .before .before .before .before .before .before .before .before .before .before .before .before .if8 .left (c .before .before .before .before .before .before .before .before .before .before .before .before .before .before .before .before .before .before .before .before .before .before .before .before .before .before .before .before .before .before .mark-at .ensures ∙ e)) (λ e. c .before .before .before .before .before .before .before .before .before .before .before .before .before .before .before .before .before .before .before .before .before .if9 .left (c .before .before .before .before .before .before .before .before .before .before .before .before .before .before .before .before .before .before .before .before .before .before .before .before .before .before .before .before .before .before .mark-at .ensures ∙ e)) (λ e. c .before .before .before .before .before .before .before .before .before .before .before .before .before .before .before .before .before .before .before .before .if11 .left (c .before .before .before .before .before .before .before .before .before .before .before .before .before .before .before .before .before .before .before .before .before .before .before .before .before .before .before .before .before .before .mark-at .ensures ∙ e))) (c .before .before .before .before .before .before .before .before .before .before .before .before .before .before .before .before .before .before .before .before .before .before .before .before .before .span-at .ensures) (c .before .before .before .before .before .before .before .before .before .before .before .before .before .before .before .before .open-class .ensures) (c .before .before .before .before .before .before .before .before .a6 .given .1) (c .before .before .before .before .loop2 .inv .0) (c .before .before .before .before .before .before .inner-class .ensures) .0, methods.close (c .before .before .before .before .before .before .before .before .before .before .before .before .before .before .before .before .before .before .before .before .before .before .before .before .before .before .before .before .before .before .before .before .before .before .before .before .pre .1) (calls.last-kind _ _ _ _ (c .before .before .before .before .before .before .before .before .before .before .before .before .before .before .before .before .before .before .before .before .before .before .before .before .before .before .before .before .before .before .before .before .before .before .before .before .pre .1 .there) (λ e. c .before .before .before .before .before .before .before .before .before .before .before .before .before .before .before .before .before .before .before .before .before .before .before .before .before .before .before .before .before .if1 .left (c .before .before .before .before .before .before .before .before .before .before .before .before .before .before .before .before .before .before .before .before .before .before .before .before .before .before .before .before .before .before .mark-at .ensures ∙ e)) (λ e. c .before .before .before .before .before .before .before .before .before .before .before .before .before .before .before .before .before .before .before .before .before .before .before .before .before .before .before .before .if2 .left (c .before .before .before .before .before .before .before .before .before .before .before .before .before .before .before .before .before .before .before .before .before .before .before .before .before .before .before .before .before .before .mark-at .ensures ∙ e)) (λ e. c .before .before .before .before .before .before .before .before .before .before .before .before .before .before .before .before .before .before .before .before .before .before .before .before .before .before .before .if3 .left (c .before .before .before .before .before .before .before .before .before .before .before .before .before .before .before .before .before .before .before .before .before .before .before .before .before .before .before .before .before .before .mark-at .ensures ∙ e)) (λ e. c .before .before .before .before .before .before .before .before .before .before .before .before .before .before .before .before .before .before .before .before .before .before .before .before .before .before .if4 .left (c .before .before .before .before .before .before .before .before .before .before .before .before .before .before .before .before .before .before .before .before .before .before .before .before .before .before .before .before .before .before .mark-at .ensures ∙ e)) (λ e. c .before .before .before .before .before .before .before .before .before .before .before .before .before .before .before .before .before .before .before .before .before .before .before .before .if5 .left (c .before .before .before .before .before .before .before .before .before .before .before .before .before .before .before .before .before .before .before .before .before .before .before .before .before .before .before .before .before .before .mark-at .ensures ∙ e)) (λ e. c .before .before .before .before .before .before .before .before .before .before .before .before .before .before .before .before .before .before .before .before .before .before .before .if6 .left (c .before .before .before .before .before .before .before .before .before .before .before .before .before .before .before .before .before .before .before .before .before .before .before .before .before .before .before .before .before .before .mark-at .ensures ∙ e)) (λ e. c .before .before .before .before .before .before .before .before .before .before .before .before .before .before .before .before .before .before .before .before .before .before .if8 .left (c .before .before .before .before .before .before .before .before .before .before .before .before .before .before .before .before .before .before .before .before .before .before .before .before .before .before .before .before .before .before .mark-at .ensures ∙ e)) (λ e. c .before .before .before .before .before .before .before .before .before .before .before .before .before .before .before .before .before .before .before .before .before .if9 .left (c .before .before .before .before .before .before .before .before .before .before .before .before .before .before .before .before .before .before .before .before .before .before .before .before .before .before .before .before .before .before .mark-at .ensures ∙ e)) (λ e. c .before .before .before .before .before .before .before .before .before .before .before .before .before .before .before .before .before .before .before .before .if11 .left (c .before .before .before .before .before .before .before .before .before .before .before .before .before .before .before .before .before .before .before .before .before .before .before .before .before .before .before .before .before .before .mark-at .ensures ∙ e))) (c .before .before .before .before .before .before .before .before .before .before .before .before .before .before .before .before .before .before .before .before .before .before .before .before .before .span-at .ensures) (c .before .before .before .before .before .before .before .before .before .before .before .before .before .before .before .before .open-class .ensures) (c .before .before .before .before .before .before .before .before .a6 .given .1) (c .before .before .before .before .loop2 .inv .0) (c .before .before .before .before .before .before .inner-class .ensures) .1)
+  abbrev close-half : here lts.After-slice-known89 t → here lts.After-code25 t
+  close-half c = c .before .before .before
 
-pub compile-stmt-returns-29 : (t : ℕ) → compile-stmt-lts.Need-returns-29 (compile-stmt-claims t) (compile-stmt-at t) compile-stmt.Post compile-stmt-Inv-loop compile-stmt-μ-loop compile-stmt-Inv-loop2 compile-stmt-μ-loop2
-compile-stmt-returns-29 t c = methods.done (c .before .before .before .before .before .before .before .before .before .before .before .before .before .before .before .before .before .before .before .before .before .before .before .before .before .before .before .before .before .before .before .before .before .before .before .before .before .before .before .before .before .before .before .pre .1) (calls.last-kind _ _ _ _ (c .before .before .before .before .before .before .before .before .before .before .before .before .before .before .before .before .before .before .before .before .before .before .before .before .before .before .before .before .before .before .before .before .before .before .before .before .before .before .before .before .before .before .before .pre .1 .there) (λ e. c .before .before .before .before .before .before .before .before .before .before .before .before .before .before .before .before .before .before .before .before .before .before .before .before .before .before .before .before .before .before .before .before .before .before .before .before .if1 .left (c .before .before .before .before .before .before .before .before .before .before .before .before .before .before .before .before .before .before .before .before .before .before .before .before .before .before .before .before .before .before .before .before .before .before .before .before .before .mark-at .ensures ∙ e)) (λ e. c .before .before .before .before .before .before .before .before .before .before .before .before .before .before .before .before .before .before .before .before .before .before .before .before .before .before .before .before .before .before .before .before .before .before .before .if2 .left (c .before .before .before .before .before .before .before .before .before .before .before .before .before .before .before .before .before .before .before .before .before .before .before .before .before .before .before .before .before .before .before .before .before .before .before .before .before .mark-at .ensures ∙ e)) (λ e. c .before .before .before .before .before .before .before .before .before .before .before .before .before .before .before .before .before .before .before .before .before .before .before .before .before .before .before .before .before .before .before .before .before .before .if3 .left (c .before .before .before .before .before .before .before .before .before .before .before .before .before .before .before .before .before .before .before .before .before .before .before .before .before .before .before .before .before .before .before .before .before .before .before .before .before .mark-at .ensures ∙ e)) (λ e. c .before .before .before .before .before .before .before .before .before .before .before .before .before .before .before .before .before .before .before .before .before .before .before .before .before .before .before .before .before .before .before .before .before .if4 .left (c .before .before .before .before .before .before .before .before .before .before .before .before .before .before .before .before .before .before .before .before .before .before .before .before .before .before .before .before .before .before .before .before .before .before .before .before .before .mark-at .ensures ∙ e)) (λ e. c .before .before .before .before .before .before .before .before .before .before .before .before .before .before .before .before .before .before .before .before .before .before .before .before .before .before .before .before .before .before .before .if5 .left (c .before .before .before .before .before .before .before .before .before .before .before .before .before .before .before .before .before .before .before .before .before .before .before .before .before .before .before .before .before .before .before .before .before .before .before .before .before .mark-at .ensures ∙ e)) (λ e. c .before .before .before .before .before .before .before .before .before .before .before .before .before .before .before .before .before .before .before .before .before .before .before .before .before .before .before .before .before .before .if6 .left (c .before .before .before .before .before .before .before .before .before .before .before .before .before .before .before .before .before .before .before .before .before .before .before .before .before .before .before .before .before .before .before .before .before .before .before .before .before .mark-at .ensures ∙ e)) (λ e. c .before .before .before .before .before .before .before .before .before .before .before .before .before .before .before .before .before .before .before .before .before .before .before .before .before .before .before .before .before .if8 .left (c .before .before .before .before .before .before .before .before .before .before .before .before .before .before .before .before .before .before .before .before .before .before .before .before .before .before .before .before .before .before .before .before .before .before .before .before .before .mark-at .ensures ∙ e)) (λ e. c .before .before .before .before .before .before .before .before .before .before .before .before .before .before .before .before .before .before .before .before .before .before .before .before .before .before .before .before .if9 .left (c .before .before .before .before .before .before .before .before .before .before .before .before .before .before .before .before .before .before .before .before .before .before .before .before .before .before .before .before .before .before .before .before .before .before .before .before .before .mark-at .ensures ∙ e)) (λ e. c .before .before .before .before .before .before .before .before .before .before .before .before .before .before .before .before .before .before .before .before .before .before .before .before .before .before .before .if11 .left (c .before .before .before .before .before .before .before .before .before .before .before .before .before .before .before .before .before .before .before .before .before .before .before .before .before .before .before .before .before .before .before .before .before .before .before .before .before .mark-at .ensures ∙ e))) (c .before .before .before .before .before .before .before .before .before .before .before .before .before .before .before .before .before .before .before .before .before .before .before .before .before .before .before .before .before .before .before .before .span-at .ensures) (c .before .before .before .before .before .before .before .before .before .before .before .before .before .before .before .before .before .before .before .before .before .before .before .open-class .ensures) (c .before .before .before .before .before .before .before .before .before .before .before .before .before .before .before .a6 .given .1) (c .before .before .before .before .before .before .before .before .before .before .before .loop2 .inv .0) (c .before .before .before .before .before .before .before .before .before .before .before .before .before .inner-class .ensures) (c .before .before .before .before .before .before .before .before .before .before .loop2-test .left) (c .before .before .before .before .before .before .close-class .ensures)
+  abbrev close-left : here lts.After-slice-known89 t → here lts.After-close-class t
+  close-left c = close-half c .before .before .before
 
+  -- ## The needs
+
+  pub open-class-requires : here lts.Need-open-class-requires t
+  open-class-requires c κs =
+      let arm = opening-asked c in
+      (methods.head (start-6 t arm .pre .1) (mark-6 t arm), (start-6 t arm .pre .1) .ready .fit, calls.scope-room _ _ _ _ _ (calls.room _ _ _ _ ((start-6 t arm .pre .1) .there))
+      ((start-6 t arm .pre .1) .ready))
+
+  pub enum-known-a-6 : here lts.Need-enum-known-a-6 t
+  enum-known-a-6 c = search needs
+
+  pub enum-told-17 : here lts.Need-enum-told-17 t
+  enum-told-17 c = search needs
+
+  pub same-length-81 : here lts.Need-same-length-81 t
+  same-length-81 c =
+      let opening = opening-halted c in
+      opening .open-class .kept .1 .1 .0
+
+  pub same-length-82 : here lts.Need-same-length-82 t
+  same-length-82 c =
+      let opening = opening-halted c in
+      opening .open-class .kept .1 .1 .1 .0
+
+  pub same-length-83 : here lts.Need-same-length-83 t
+  same-length-83 c =
+      let opening = opening-halted c in
+      opening .open-class .kept .1 .1 .1 .1 .0
+
+  pub returns-22 : here lts.Need-returns-22 t
+  returns-22 c =
+      let opening = opening-halted c in
+      let arm = opening-asked (opening .before) in
+      methods.stop (start-6 t arm .pre .1) (mark-6 t arm) (spanned-6 t arm .span-at .ensures) (opening .open-class .ensures) _ (c .enum-told17 .given .1)
+
+  pub inner-class-requires : here lts.Need-inner-class-requires t
+  inner-class-requires c κs =
+      let opening = opening-went c in
+      let arm = opening-asked (opening .before) in
+      methods.head (start-6 t arm .pre .1) (mark-6 t arm)
+
+  pub add-u16-at-3 : here lts.Need-add-u16-at-3 t
+  add-u16-at-3 c =
+      let opening = opening-went (c .before) in
+      let arm = opening-asked (opening .before) in
+      let b = methods.head (start-6 t arm .pre .1) (mark-6 t arm) .bound in omega (arith, b, start-6 t arm .good)
+
+  pub u16-at-requires-3 : here lts.Need-u16-at-requires-3 t
+  u16-at-requires-3 c κs =
+      let opening = opening-went (c .before) in
+      let arm = opening-asked (opening .before) in
+      let b = methods.head (start-6 t arm .pre .1) (mark-6 t arm) .bound in omega (arith, b)
+
+  pub loop2-holds : here lts.Need-loop2-holds t
+  loop2-holds c =
+      let opening = opening-went (c .before .before) in
+      let arm = opening-asked (opening .before) in
+      (methods.start (start-6 t arm .pre .1) (mark-6 t arm) (spanned-6 t arm .span-at .ensures) (opening .open-class .ensures) (c .before .before .before .a6 .given .1) _ (c .u16-at3 .ensures),
+      refl, refl, refl, refl)
+
+  pub add-u16-at-4 : here lts.Need-add-u16-at-4 t
+  add-u16-at-4 c =
+      let inner-class = c .before .before .before in
+      let opening = opening-went (inner-class .before) in
+      let arm = opening-asked (opening .before) in
+      let b = methods.method-bound (start-6 t arm .pre .1) (mark-6 t arm) (spanned-6 t arm .span-at .ensures) (opening .open-class .ensures) (inner-class .before .before .a6 .given .1)
+      (c .before .loop2 .inv .0) (c .loop2-test .taken) in omega (arith, b, start-6 t arm .good)
+
+  pub u16-at-requires-4 : here lts.Need-u16-at-requires-4 t
+  u16-at-requires-4 c κs =
+      let inner-class = c .before .before .before in
+      let opening = opening-went (inner-class .before) in
+      let arm = opening-asked (opening .before) in
+      let b = methods.method-bound (start-6 t arm .pre .1) (mark-6 t arm) (spanned-6 t arm .span-at .ensures) (opening .open-class .ensures) (inner-class .before .before .a6 .given .1)
+      (c .before .loop2 .inv .0) (c .loop2-test .taken) in omega (arith, b)
+
+  pub add-span-at-2 : here lts.Need-add-span-at-2 t
+  add-span-at-2 c =
+      let u16-at3 = c .before .before .before in
+      let opening = opening-went (u16-at3 .before .before) in
+      let arm = opening-asked (opening .before) in
+      let b = methods.method-bound (start-6 t arm .pre .1) (mark-6 t arm) (spanned-6 t arm .span-at .ensures) (opening .open-class .ensures) (u16-at3 .before .before .before .a6 .given .1)
+      (c .before .before .loop2 .inv .0) (c .before .loop2-test .taken) in omega (arith, b, start-6 t arm .good)
+
+  pub span-at-requires-2 : here lts.Need-span-at-requires-2 t
+  span-at-requires-2 c κs =
+      let u16-at3 = c .before .before .before in
+      let opening = opening-went (u16-at3 .before .before) in
+      let arm = opening-asked (opening .before) in
+      let b = methods.method-bound (start-6 t arm .pre .1) (mark-6 t arm) (spanned-6 t arm .span-at .ensures) (opening .open-class .ensures) (u16-at3 .before .before .before .a6 .given .1)
+      (c .before .before .loop2 .inv .0) (c .before .loop2-test .taken) in omega (arith, b)
+
+  pub method-kind-requires : here lts.Need-method-kind-requires t
+  method-kind-requires c κs = search needs
+
+  pub compile-function-requires-2 : here lts.Need-compile-function-requires-2 t
+  compile-function-requires-2 c κs =
+      let span-at2 = method-asked (c .before) in
+      let at-loop2 = span-at2 .before .before .before in
+      let past-opening = at-loop2 .before .before .before in
+      let opening = opening-went past-opening in
+      let arm = opening-asked (opening .before) in
+      methods.function (start-6 t arm .pre .1) (mark-6 t arm) (spanned-6 t arm .span-at .ensures) (opening .open-class .ensures) (past-opening .before .a6 .given .1) (span-at2 .before .before .before .loop2 .inv .0)
+      (start-6 t arm .pre .0) (span-at2 .before .before .loop2-test .taken)
+
+  pub enum-known-b-3 : here lts.Need-enum-known-b-3 t
+  enum-known-b-3 c = search needs
+
+  pub enum-told-18 : here lts.Need-enum-told-18 t
+  enum-told-18 c = search needs
+
+  pub same-length-84 : here lts.Need-same-length-84 t
+  same-length-84 c =
+      let method = method-halted c in
+      let span-at2 = method-asked (method .before .before) in
+      let at-loop2 = span-at2 .before .before .before in
+      let opening = opening-went (at-loop2 .before .before .before) in
+      method .compile-function2 .kept .1 .1 .0 ∙ span-at2 .before .before .before .loop2 .inv .1 ∙ opening .open-class .kept .1 .1 .0
+
+  pub same-length-85 : here lts.Need-same-length-85 t
+  same-length-85 c =
+      let method = method-halted c in
+      let span-at2 = method-asked (method .before .before) in
+      let at-loop2 = span-at2 .before .before .before in
+      let opening = opening-went (at-loop2 .before .before .before) in
+      method .compile-function2 .kept .1 .1 .1 .0 ∙ span-at2 .before .before .before .loop2 .inv .2 ∙ opening .open-class .kept .1 .1 .1 .0
+
+  pub same-length-86 : here lts.Need-same-length-86 t
+  same-length-86 c =
+      let method = method-halted c in
+      let span-at2 = method-asked (method .before .before) in
+      let at-loop2 = span-at2 .before .before .before in
+      let opening = opening-went (at-loop2 .before .before .before) in
+      method .compile-function2 .kept .1 .1 .1 .1 .0 ∙ span-at2 .before .before .before .loop2 .inv .3 ∙ opening .open-class .kept .1 .1 .1 .1 .0
+
+  pub same-length-87 : here lts.Need-same-length-87 t
+  same-length-87 c =
+      let method = method-halted c in
+      let span-at2 = method-asked (method .before .before) in
+      method .compile-function2 .kept .1 .1 .1 .1 .1 .0 ∙ span-at2 .before .before .before .loop2 .inv .4
+
+  pub returns-23 : here lts.Need-returns-23 t
+  returns-23 c =
+      let method = method-halted c in
+      let span-at2 = method-asked (method .before .before) in
+      let at-loop2 = span-at2 .before .before .before in
+      let past-opening = at-loop2 .before .before .before in
+      let opening = opening-went past-opening in
+      let arm = opening-asked (opening .before) in
+      methods.stop-2 (start-6 t arm .pre .1) (mark-6 t arm) (spanned-6 t arm .span-at .ensures) (opening .open-class .ensures) (past-opening .before .a6 .given .1) (span-at2 .before .before .before .loop2 .inv .0)
+      (span-at2 .before .before .loop2-test .taken) (span-at2 .span-at2 .ensures) (span-at2 .before .u16-at4 .ensures) (method .before .method-kind .ensures .0) (method .compile-function2 .ensures)
+      (at-loop2 .before .before .inner-class .ensures) (c .enum-told18 .given .1)
+
+  pub emit-op-name-requires : here lts.Need-emit-op-name-requires t
+  emit-op-name-requires c κs =
+      let past-method = emit-asked c in
+      let method = method-went past-method in
+      let span-at2 = method-asked (method .before .before) in
+      let at-loop2 = span-at2 .before .before .before in
+      let past-opening = at-loop2 .before .before .before in
+      let opening = opening-went past-opening in
+      let arm = opening-asked (opening .before) in
+      methods.method-fit (start-6 t arm .pre .1) (mark-6 t arm) (spanned-6 t arm .span-at .ensures) (opening .open-class .ensures) (past-opening .before .a6 .given .1) (span-at2 .before .before .before .loop2 .inv .0)
+      (span-at2 .before .before .loop2-test .taken) (span-at2 .span-at2 .ensures) (span-at2 .before .u16-at4 .ensures) (method .before .method-kind .ensures .0) (method .compile-function2 .ensures)
+      (past-method .before .b3 .given .1)
+
+  pub enum-told-19 : here lts.Need-enum-told-19 t
+  enum-told-19 c = search needs
+
+  pub enum-told-20 : here lts.Need-enum-told-20 t
+  enum-told-20 c = search needs
+
+  pub same-length-88 : here lts.Need-same-length-88 t
+  same-length-88 c =
+      let emit = emit-halted c in
+      let past-method = emit-asked (emit .before) in
+      let method = method-went past-method in
+      let span-at2 = method-asked (method .before .before) in
+      let at-loop2 = span-at2 .before .before .before in
+      let opening = opening-went (at-loop2 .before .before .before) in
+      emit .emit-op-name .kept .0 ∙ method .compile-function2 .kept .1 .1 .0 ∙ span-at2 .before .before .before .loop2 .inv .1 ∙ opening .open-class .kept .1 .1 .0
+
+  pub same-length-89 : here lts.Need-same-length-89 t
+  same-length-89 c =
+      let emit = emit-halted c in
+      let past-method = emit-asked (emit .before) in
+      let method = method-went past-method in
+      let span-at2 = method-asked (method .before .before) in
+      let at-loop2 = span-at2 .before .before .before in
+      let opening = opening-went (at-loop2 .before .before .before) in
+      emit .emit-op-name .kept .1 .0 ∙ method .compile-function2 .kept .1 .1 .1 .0 ∙ span-at2 .before .before .before .loop2 .inv .2 ∙ opening .open-class .kept .1 .1 .1 .0
+
+  pub same-length-90 : here lts.Need-same-length-90 t
+  same-length-90 c =
+      let emit = emit-halted c in
+      let past-method = emit-asked (emit .before) in
+      let method = method-went past-method in
+      let span-at2 = method-asked (method .before .before) in
+      let at-loop2 = span-at2 .before .before .before in
+      let opening = opening-went (at-loop2 .before .before .before) in
+      emit .emit-op-name .kept .1 .1 .0 ∙ method .compile-function2 .kept .1 .1 .1 .1 .0 ∙ span-at2 .before .before .before .loop2 .inv .3 ∙ opening .open-class .kept .1 .1 .1 .1 .0
+
+  pub same-length-91 : here lts.Need-same-length-91 t
+  same-length-91 c =
+      let emit = emit-halted c in
+      let past-method = emit-asked (emit .before) in
+      let method = method-went past-method in
+      let span-at2 = method-asked (method .before .before) in
+      method .compile-function2 .kept .1 .1 .1 .1 .1 .0 ∙ span-at2 .before .before .before .loop2 .inv .4
+
+  pub returns-24 : here lts.Need-returns-24 t
+  returns-24 c =
+      let emit = emit-halted c in
+      let past-method = emit-asked (emit .before) in
+      let method = method-went past-method in
+      let span-at2 = method-asked (method .before .before) in
+      let at-loop2 = span-at2 .before .before .before in
+      let past-opening = at-loop2 .before .before .before in
+      let opening = opening-went past-opening in
+      let arm = opening-asked (opening .before) in
+      methods.stop-3 (start-6 t arm .pre .1) (mark-6 t arm) (spanned-6 t arm .span-at .ensures) (opening .open-class .ensures) (past-opening .before .a6 .given .1) (span-at2 .before .before .before .loop2 .inv .0)
+      (span-at2 .before .before .loop2-test .taken) (span-at2 .span-at2 .ensures) (span-at2 .before .u16-at4 .ensures) (method .before .method-kind .ensures .0) (method .compile-function2 .ensures)
+      (past-method .before .b3 .given .1) (emit .emit-op-name .ensures) (at-loop2 .before .before .inner-class .ensures) (c .enum-told20 .given .1)
+
+  pub sub-more-2 : here lts.Need-sub-more-2 t
+  sub-more-2 c =
+      let emit = emit-went c in
+      let past-method = emit-asked (emit .before) in
+      let method = method-went past-method in
+      let span-at2 = method-asked (method .before .before) in
+      (span-at2 .before .before .loop2-test .taken)
+
+  pub loop2-less : here lts.Need-loop2-less t
+  loop2-less c =
+      let emit = emit-went c in
+      let past-method = emit-asked (emit .before) in
+      let method = method-went past-method in
+      let span-at2 = method-asked (method .before .before) in
+      let h = (span-at2 .before .before .loop2-test .taken) in omega (arith, h)
+
+  pub loop2-again : here lts.Need-loop2-again t
+  loop2-again c =
+      let emit = emit-went c in
+      let past-method = emit-asked (emit .before) in
+      let method = method-went past-method in
+      let span-at2 = method-asked (method .before .before) in
+      let at-loop2 = span-at2 .before .before .before in
+      let past-opening = at-loop2 .before .before .before in
+      let opening = opening-went past-opening in
+      let arm = opening-asked (opening .before) in
+      (methods.step (start-6 t arm .pre .1) (mark-6 t arm) (spanned-6 t arm .span-at .ensures) (opening .open-class .ensures) (past-opening .before .a6 .given .1) (span-at2 .before .before .before .loop2 .inv .0)
+      (span-at2 .before .before .loop2-test .taken) (span-at2 .span-at2 .ensures) (span-at2 .before .u16-at4 .ensures) (method .before .method-kind .ensures .0) (method .compile-function2 .ensures)
+      (past-method .before .b3 .given .1) (emit .emit-op-name .ensures) (c .enum-told19 .given .1), emit .emit-op-name .kept .0 ∙ method .compile-function2 .kept .1 .1 .0 ∙
+      span-at2 .before .before .before .loop2 .inv .1, emit .emit-op-name .kept .1 .0 ∙ method .compile-function2 .kept .1 .1 .1 .0 ∙ span-at2 .before .before .before .loop2 .inv .2,
+      emit .emit-op-name .kept .1 .1 .0 ∙ method .compile-function2 .kept .1 .1 .1 .1 .0 ∙ span-at2 .before .before .before .loop2 .inv .3, method .compile-function2 .kept .1 .1 .1 .1 .1 .0
+      ∙ span-at2 .before .before .before .loop2 .inv .4)
+
+  pub close-class-requires : here lts.Need-close-class-requires t
+  close-class-requires c κs =
+      let after-loop2 = close-asked c in
+      let inner-class = after-loop2 .before .before .before in
+      let opening = opening-went (inner-class .before) in
+      let arm = opening-asked (opening .before) in
+      let d = methods.close (start-6 t arm .pre .1) (mark-6 t arm) (spanned-6 t arm .span-at .ensures) (opening .open-class .ensures) (inner-class .before .before .a6 .given .1)
+      (after-loop2 .before .loop2 .inv .0) (after-loop2 .before .before .before .inner-class .ensures) in (methods.head (start-6 t arm .pre .1) (mark-6 t arm), d .0, d .1)
+
+  pub same-length-92 : here lts.Need-same-length-92 t
+  same-length-92 c =
+      let close = close-left c in
+      let after-loop2 = close-asked (close .before) in
+      let inner-class = after-loop2 .before .before .before in
+      let opening = opening-went (inner-class .before) in
+      close .close-class .kept .1 .1 .0 ∙ after-loop2 .before .loop2 .inv .1 ∙ opening .open-class .kept .1 .1 .0
+
+  pub same-length-93 : here lts.Need-same-length-93 t
+  same-length-93 c =
+      let close = close-left c in
+      let after-loop2 = close-asked (close .before) in
+      let inner-class = after-loop2 .before .before .before in
+      let opening = opening-went (inner-class .before) in
+      close .close-class .kept .1 .1 .1 .0 ∙ after-loop2 .before .loop2 .inv .2 ∙ opening .open-class .kept .1 .1 .1 .0
+
+  pub same-length-94 : here lts.Need-same-length-94 t
+  same-length-94 c =
+      let close = close-left c in
+      let after-loop2 = close-asked (close .before) in
+      let inner-class = after-loop2 .before .before .before in
+      let opening = opening-went (inner-class .before) in
+      close .close-class .kept .1 .1 .1 .1 .0 ∙ after-loop2 .before .loop2 .inv .3 ∙ opening .open-class .kept .1 .1 .1 .1 .0
+
+  pub same-length-95 : here lts.Need-same-length-95 t
+  same-length-95 c =
+      let close = close-left c in
+      let after-loop2 = close-asked (close .before) in
+      after-loop2 .before .loop2 .inv .4
+
+  pub returns-25 : here lts.Need-returns-25 t
+  returns-25 c =
+      let close = close-left c in
+      let after-loop2 = close-asked (close .before) in
+      let inner-class = after-loop2 .before .before .before in
+      let opening = opening-went (inner-class .before) in
+      let arm = opening-asked (opening .before) in
+      methods.done (start-6 t arm .pre .1) (mark-6 t arm) (spanned-6 t arm .span-at .ensures) (opening .open-class .ensures) (inner-class .before .before .a6 .given .1)
+      (after-loop2 .before .loop2 .inv .0) (after-loop2 .before .before .before .inner-class .ensures) (after-loop2 .loop2-test .left) (close .close-class .ensures)
