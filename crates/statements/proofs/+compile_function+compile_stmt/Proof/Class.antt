@@ -74,9 +74,12 @@ module _ (t : ℕ) where
 
   pub open-class-requires : here lts.Need-open-class-requires t
   open-class-requires c κs =
-      let arm = opening-asked c in
-      (methods.head (start-6 t arm .pre .1) (mark-6 t arm), (start-6 t arm .pre .1) .ready .fit, calls.scope-room _ _ _ _ _ (calls.room _ _ _ _ ((start-6 t arm .pre .1) .there))
-      ((start-6 t arm .pre .1) .ready))
+      let arm = opening-asked c in (
+        methods.head (start-6 t arm .pre .1) (mark-6 t arm),
+        (start-6 t arm .pre .1) .ready .fit,
+        calls.scope-room _ _ _ _ _ (calls.room _ _ _ _ ((start-6 t arm .pre .1) .there))
+            ((start-6 t arm .pre .1) .ready),
+      )
 
   pub enum-known-a-6 : here lts.Need-enum-known-a-6 t
   enum-known-a-6 c = search needs
@@ -126,9 +129,13 @@ module _ (t : ℕ) where
   pub loop2-holds : here lts.Need-loop2-holds t
   loop2-holds c =
       let opening = opening-went (c .before .before) in
-      let arm = opening-asked (opening .before) in
-      (methods.start (start-6 t arm .pre .1) (mark-6 t arm) (spanned-6 t arm .span-at .ensures) (opening .open-class .ensures) (c .before .before .before .a6 .given .1) _ (c .u16-at3 .ensures),
-      refl, refl, refl, refl)
+      let arm = opening-asked (opening .before) in (
+        methods.start (start-6 t arm .pre .1) (mark-6 t arm) (spanned-6 t arm .span-at .ensures) (opening .open-class .ensures) (c .before .before .before .a6 .given .1) _ (c .u16-at3 .ensures),
+        refl,
+        refl,
+        refl,
+        refl,
+      )
 
   pub add-u16-at-4 : here lts.Need-add-u16-at-4 t
   add-u16-at-4 c =
@@ -319,13 +326,17 @@ module _ (t : ℕ) where
       let at-loop2 = span-at2 .before .before .before in
       let past-opening = at-loop2 .before .before .before in
       let opening = opening-went past-opening in
-      let arm = opening-asked (opening .before) in
-      (methods.step (start-6 t arm .pre .1) (mark-6 t arm) (spanned-6 t arm .span-at .ensures) (opening .open-class .ensures) (past-opening .before .a6 .given .1) (span-at2 .before .before .before .loop2 .inv .0)
-      (span-at2 .before .before .loop2-test .taken) (span-at2 .span-at2 .ensures) (span-at2 .before .u16-at4 .ensures) (method .before .method-kind .ensures .0) (method .compile-function2 .ensures)
-      (past-method .before .b3 .given .1) (emit .emit-op-name .ensures) (c .enum-told19 .given .1), emit .emit-op-name .kept .0 ∙ method .compile-function2 .kept .1 .1 .0 ∙
-      span-at2 .before .before .before .loop2 .inv .1, emit .emit-op-name .kept .1 .0 ∙ method .compile-function2 .kept .1 .1 .1 .0 ∙ span-at2 .before .before .before .loop2 .inv .2,
-      emit .emit-op-name .kept .1 .1 .0 ∙ method .compile-function2 .kept .1 .1 .1 .1 .0 ∙ span-at2 .before .before .before .loop2 .inv .3, method .compile-function2 .kept .1 .1 .1 .1 .1 .0
-      ∙ span-at2 .before .before .before .loop2 .inv .4)
+      let arm = opening-asked (opening .before) in (
+        methods.step (start-6 t arm .pre .1) (mark-6 t arm) (spanned-6 t arm .span-at .ensures) (opening .open-class .ensures) (past-opening .before .a6 .given .1) (span-at2 .before .before .before .loop2 .inv .0)
+            (span-at2 .before .before .loop2-test .taken) (span-at2 .span-at2 .ensures) (span-at2 .before .u16-at4 .ensures) (method .before .method-kind .ensures .0) (method .compile-function2 .ensures)
+            (past-method .before .b3 .given .1) (emit .emit-op-name .ensures) (c .enum-told19 .given .1),
+        emit .emit-op-name .kept .0 ∙ method .compile-function2 .kept .1 .1 .0 ∙
+            span-at2 .before .before .before .loop2 .inv .1,
+        emit .emit-op-name .kept .1 .0 ∙ method .compile-function2 .kept .1 .1 .1 .0 ∙ span-at2 .before .before .before .loop2 .inv .2,
+        emit .emit-op-name .kept .1 .1 .0 ∙ method .compile-function2 .kept .1 .1 .1 .1 .0 ∙ span-at2 .before .before .before .loop2 .inv .3,
+        method .compile-function2 .kept .1 .1 .1 .1 .1 .0
+            ∙ span-at2 .before .before .before .loop2 .inv .4,
+      )
 
   pub close-class-requires : here lts.Need-close-class-requires t
   close-class-requires c κs =

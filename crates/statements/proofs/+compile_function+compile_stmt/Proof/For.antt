@@ -154,9 +154,12 @@ module _ (t : ℕ) where
   u8-at-requires-2 c κs = let b = fors.bound (start-4 t c .pre .1) (mark-4 t c) in omega (arith, b)
 
   pub begin-scope-requires-2 : here lts.Need-begin-scope-requires-2 t
-  begin-scope-requires-2 c κs =
-      ((start-4 t (c .before .before) .pre .1) .ready .fit .low, (start-4 t (c .before .before) .pre .1) .ready .fit .wf, calls.scope-room _ _ _ _ _ (calls.room _ _ _ _ ((start-4 t
-      (c .before .before) .pre .1) .there)) ((start-4 t (c .before .before) .pre .1) .ready))
+  begin-scope-requires-2 c κs = (
+    (start-4 t (c .before .before) .pre .1) .ready .fit .low,
+    (start-4 t (c .before .before) .pre .1) .ready .fit .wf,
+    calls.scope-room _ _ _ _ _ (calls.room _ _ _ _ ((start-4 t
+        (c .before .before) .pre .1) .there)) ((start-4 t (c .before .before) .pre .1) .ready),
+  )
 
   pub add-next-2 : here lts.Need-add-next-2 t
   add-next-2 c =
@@ -218,12 +221,14 @@ module _ (t : ℕ) where
   for-cond-requires c κs =
       let code-length2 = cond-asked c in
       let slice-known49 = code-length2 .before .before .before in
-      let begin-scope-arg2 = slice-known49 .before .before .before in
-      (fors.cond-there (start-4 t (begin-scope-arg2 .before .before) .pre .1) (mark-4 t (begin-scope-arg2 .before .before)) (begin-scope-arg2 .before .u8-at2 .ensures)
-      (slice-known49 .before .before .begin-scope2 .ensures .gives _ _ ((start-4 t (begin-scope-arg2 .before .before) .pre .1) .ready .fit)) (spanned-4 t (begin-scope-arg2 .before .before) .span-at .ensures)
-      (joined (code-length2 .before .before) .0), fors.fit (start-4 t (begin-scope-arg2 .before .before) .pre .1) (mark-4 t (begin-scope-arg2 .before .before)) (begin-scope-arg2 .before .u8-at2 .ensures)
-      (slice-known49 .before .before .begin-scope2 .ensures .gives _ _ ((start-4 t (begin-scope-arg2 .before .before) .pre .1) .ready .fit)) (spanned-4 t (begin-scope-arg2 .before .before) .span-at .ensures)
-      (joined (code-length2 .before .before) .0))
+      let begin-scope-arg2 = slice-known49 .before .before .before in (
+        fors.cond-there (start-4 t (begin-scope-arg2 .before .before) .pre .1) (mark-4 t (begin-scope-arg2 .before .before)) (begin-scope-arg2 .before .u8-at2 .ensures)
+            (slice-known49 .before .before .begin-scope2 .ensures .gives _ _ ((start-4 t (begin-scope-arg2 .before .before) .pre .1) .ready .fit)) (spanned-4 t (begin-scope-arg2 .before .before) .span-at .ensures)
+            (joined (code-length2 .before .before) .0),
+        fors.fit (start-4 t (begin-scope-arg2 .before .before) .pre .1) (mark-4 t (begin-scope-arg2 .before .before)) (begin-scope-arg2 .before .u8-at2 .ensures)
+            (slice-known49 .before .before .begin-scope2 .ensures .gives _ _ ((start-4 t (begin-scope-arg2 .before .before) .pre .1) .ready .fit)) (spanned-4 t (begin-scope-arg2 .before .before) .span-at .ensures)
+            (joined (code-length2 .before .before) .0),
+      )
 
   pub enum-known-test : here lts.Need-enum-known-test t
   enum-known-test c = search needs
@@ -334,14 +339,16 @@ module _ (t : ℕ) where
       let cond = cond-went past-cond in
       let code-length2 = cond-asked (cond .before) in
       let slice-known49 = code-length2 .before .before .before in
-      let begin-scope-arg2 = slice-known49 .before .before .before in
-      (fors.incr-there (start-4 t (begin-scope-arg2 .before .before) .pre .1) (mark-4 t (begin-scope-arg2 .before .before)) (begin-scope-arg2 .before .u8-at2 .ensures)
-      (slice-known49 .before .before .begin-scope2 .ensures .gives _ _ ((start-4 t (begin-scope-arg2 .before .before) .pre .1) .ready .fit)) (spanned-4 t (begin-scope-arg2 .before .before) .span-at .ensures)
-      (joined (code-length2 .before .before) .0) (code-length2 .code-length2 .ensures) (cond .for-cond .ensures) (past-cond .before .test .given .1) (body .compile-stmt6 .ensures)
-      (past-body .before .d3 .given .1), fors.fit-2 (start-4 t (begin-scope-arg2 .before .before) .pre .1) (mark-4 t (begin-scope-arg2 .before .before)) (begin-scope-arg2 .before .u8-at2 .ensures)
-      (slice-known49 .before .before .begin-scope2 .ensures .gives _ _ ((start-4 t (begin-scope-arg2 .before .before) .pre .1) .ready .fit)) (spanned-4 t (begin-scope-arg2 .before .before) .span-at .ensures)
-      (joined (code-length2 .before .before) .0) (code-length2 .code-length2 .ensures) (cond .for-cond .ensures) (past-cond .before .test .given .1) (body .compile-stmt6 .ensures)
-      (past-body .before .d3 .given .1))
+      let begin-scope-arg2 = slice-known49 .before .before .before in (
+        fors.incr-there (start-4 t (begin-scope-arg2 .before .before) .pre .1) (mark-4 t (begin-scope-arg2 .before .before)) (begin-scope-arg2 .before .u8-at2 .ensures)
+            (slice-known49 .before .before .begin-scope2 .ensures .gives _ _ ((start-4 t (begin-scope-arg2 .before .before) .pre .1) .ready .fit)) (spanned-4 t (begin-scope-arg2 .before .before) .span-at .ensures)
+            (joined (code-length2 .before .before) .0) (code-length2 .code-length2 .ensures) (cond .for-cond .ensures) (past-cond .before .test .given .1) (body .compile-stmt6 .ensures)
+            (past-body .before .d3 .given .1),
+        fors.fit-2 (start-4 t (begin-scope-arg2 .before .before) .pre .1) (mark-4 t (begin-scope-arg2 .before .before)) (begin-scope-arg2 .before .u8-at2 .ensures)
+            (slice-known49 .before .before .begin-scope2 .ensures .gives _ _ ((start-4 t (begin-scope-arg2 .before .before) .pre .1) .ready .fit)) (spanned-4 t (begin-scope-arg2 .before .before) .span-at .ensures)
+            (joined (code-length2 .before .before) .0) (code-length2 .code-length2 .ensures) (cond .for-cond .ensures) (past-cond .before .test .given .1) (body .compile-stmt6 .ensures)
+            (past-body .before .d3 .given .1),
+      )
 
   pub enum-known-e-2 : here lts.Need-enum-known-e-2 t
   enum-known-e-2 c = search needs
