@@ -160,6 +160,13 @@ module _ (tree : List ℕ) (l at left : ℕ) (mark : letters tree at ≡ 0x5343)
       here : {s : Stmt} {n : ℕ} (h : stmt-at tree left l at ≡ got s n) → first ≡ parts h .mid
       here h = valued (opened h) qa
 
+      -- the methods stand further on than the class
+      pub class-far : There (stmt-at tree left l at) → at < first
+      class-far h =
+          let e = here (h .is) in
+          let k = super-later tree (left - 1) (parts (h .is) .has) (parts (h .is) .one) in
+          omega (arith, e, k)
+
       begins : (out : List ℕ) {s : Stmt} {n : ℕ} (h : stmt-at tree left l at ≡ got s n)
           → Run class limit l at (parts h .mid) (opening (is-some (parts h .super))) (open-class limit (word16 tree (at + 10)) (parts h .super) (some-methods (parts h .methods)) span) tt before out m1 out
       begins out h = of-gave out refl (behind h) (went (opened h) qa)

@@ -117,6 +117,14 @@ module _ (tree : List ℕ) (l at left : ℕ) (mark : letters tree at ≡ 0x534F)
           pub for-body : There (stmt-at tree left l at) → There (stmt-at tree (left - 1) l n2)
           for-body h = record { thing = parts (h .is) .body; next = parts (h .is) .mid₃; is = ap (read-stmt tree (word16 tree 2) (left - 1) (funs-left l)) (passed (h .is) .1) ∙ parts (h .is) .three }
 
+          -- the body stands further on than the statement
+          pub for-far : There (stmt-at tree left l at) → at < n2
+          for-far h =
+              let e = passed (h .is) .1 in
+              let k = later-stmts tree (word16 tree 2) (word8 tree (at + 10) % 2) (left - 1) (funs-left l) (at + 11) (init-row (h .is)) in
+              let j = later-maybe tree _ (left - 1) (parts (h .is) .two) in
+              omega (arith, e, k, j)
+
           pub for-ready : There (stmt-at tree left l at) → 0 < left → Ready tree before at left l limit → Ready tree m2 n2 (left - 1) l limit
           for-ready h g y =
               subst (λ (p : ℕ). Ready tree m2 p (left - 1) l limit) (sym (passed (h .is) .1))

@@ -77,6 +77,13 @@ module _ (tree : List ℕ) (l at left : ℕ) (mark : letters tree at ≡ 0x5349)
       here : {s : Stmt} {n : ℕ} (h : stmt-at tree left l at ≡ got s n) → n1 ≡ parts h .mid
       here h = valued (a .did (parts h .cond) (parts h .mid) (parts h .one)) qa
 
+      -- a child stands further on than the statement
+      pub if-far : There (stmt-at tree left l at) → at < n1
+      if-far h =
+          let e = here (h .is) in
+          let k = later-expr tree (word16 tree 2) (left - 1) (at + 11) (parts (h .is) .one) in
+          omega (arith, e, k)
+
       first : (out : List ℕ) {s : Stmt} {n : ℕ} (h : stmt-at tree left l at ≡ got s n) → Run class limit l at n1 steady (compile-expr limit (parts h .cond)) tt before out m1 out
       first out h = of-gave out refl (subst (λ (k : ℕ). at ≤ k) (sym (here h)) (eleven-on at (later-expr tree (word16 tree 2) (left - 1) (at + 11) (parts h .one)))) (went (a .did (parts h .cond) (parts h .mid) (parts h .one)) qa)
 
@@ -109,6 +116,13 @@ module _ (tree : List ℕ) (l at left : ℕ) (mark : letters tree at ≡ 0x5349)
             module _ {n2 : ℕ} (qd : rd ≡ Next n2) where
               there : {s : Stmt} {n : ℕ} (h : stmt-at tree left l at ≡ got s n) → n2 ≡ parts h .late
               there h = reached (then-did h) qd
+
+              pub if-far-2 : There (stmt-at tree left l at) → at < n2
+              if-far-2 h =
+                  let e = there (h .is) in
+                  let k = later-expr tree (word16 tree 2) (left - 1) (at + 11) (parts (h .is) .one) in
+                  let j = later-stmt tree (word16 tree 2) (left - 1) (funs-left l) (parts (h .is) .mid) (parts (h .is) .two) in
+                  omega (arith, e, k, j)
 
               third : {s : Stmt} {n : ℕ} (h : stmt-at tree left l at ≡ got s n) → Run class limit l n1 (parts h .late) steady (compile-stmt limit (parts h .yes-part)) tt m2 out m3 out3
               third h = of-grew (grown (then-did h) qd)

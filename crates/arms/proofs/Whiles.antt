@@ -59,6 +59,13 @@ module _ (tree : List ℕ) (l at left : ℕ) (mark : letters tree at ≡ 0x5357)
         here : {s : Stmt} {n : ℕ} (h : stmt-at tree left l at ≡ got s n) → n1 ≡ parts h .mid
         here h = valued (a .did (parts h .cond) (parts h .mid) (parts h .one)) qa
 
+        -- the body stands further on than the statement
+        pub while-far : There (stmt-at tree left l at) → at < n1
+        while-far h =
+            let e = here (h .is) in
+            let k = later-expr tree (word16 tree 2) (left - 1) (at + 10) (parts (h .is) .one) in
+            omega (arith, e, k)
+
         first : (out : List ℕ) {s : Stmt} {n : ℕ} (h : stmt-at tree left l at ≡ got s n) → Run class limit l at n1 steady (compile-expr limit (parts h .cond)) tt before out m1 out
         first out h = of-gave out refl (subst (λ (k : ℕ). at ≤ k) (sym (here h)) (ten-on at (later-expr tree (word16 tree 2) (left - 1) (at + 10) (parts h .one)))) (went (a .did (parts h .cond) (parts h .mid) (parts h .one)) qa)
 

@@ -36,9 +36,6 @@ const WORDS: usize = LEVELS * 1024 + 4;
 // No limit of code is larger.
 const MAX_CODE: usize = 262144;
 
-// Records inside one another.
-const DEPTH: usize = 128;
-
 fn least(a: usize, b: usize) -> usize
     ensures { λ r. ⌜ r ≡ min a b ⌝ }
 {
@@ -77,7 +74,7 @@ fn compile_script(
     requires { ⌜ (Rows (now tree) count at) × (Clean (now t) (now code) (now spans) (now out) limit) ⌝ }
     ensures { λ r. ⌜ Scripted limit (rows-at (now (tree .entry)) count at) (length (now (tree .entry))) (now (t .exit)) (now (out .exit)) r ⌝ }
 {
-    let a = compile_stmts(tree, at, count, DEPTH, t, code, spans, out, 0, limit, 0);
+    let a = compile_stmts(tree, at, count, t, code, spans, out, 0, limit, 0);
     let Step::Next(_) = a else {
         return a;
     };
