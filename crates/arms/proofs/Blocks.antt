@@ -23,6 +23,7 @@ use Rattle.parts.specs.Output.{funs-left, stmt-at, stmts-at, Worked, Walked, Re
 use Rattle.parts.proofs.Growing.{Run, Free, of-gave, of-grew, to-grew, run-seq, run-refused-seq, grown, reached, refused, stopped, conclude, worked-like, ready-after}
 use Rattle.arms.proofs.Calls.{further}
 use Rattle.arms.proofs.Cuts.{block-cut}
+use Rattle.fields.specs.Marks as marks
 
 -- ## A statement by what it is, and by its parts
 
@@ -51,7 +52,7 @@ ready-begun {l = l} {left = left} {before = before} h g y o = ready-after y (beg
 
 -- ## The block
 
-module _ (tree : List ℕ) (l at left : ℕ) (mark : letters tree at ≡ 0x5342) where
+module _ (tree : List ℕ) (l at left : ℕ) (mark : letters tree at ≡ marks.SB) where
   pub block-row : There (stmt-at tree left l at) → There (stmts-at tree (word16 tree (at + 10)) (left - 1) l (at + 12))
   block-row h = let b = block-at tree (word16 tree 2) left (funs-left l) at mark (h .is) in record { thing = b .stmts; next = h .next; is = b .row-is }
 

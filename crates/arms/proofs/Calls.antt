@@ -12,7 +12,7 @@ use Rattle.rules.specs.Compiler.{Compile, compile-stmt, compile-stmts}
 use Rattle.fields.specs.Words.{word16, letters}
 use Rattle.parsed.proofs.Statements.{any-stmt-at, class-left}
 use Rattle.parsed.proofs.Later.{later-stmt}
-use Rattle.state.specs.Layout.{levels, deepest, Wf}
+use Rattle.state.specs.Layout.{levels, deepest, Wf, depth-place, level-words}
 use Rattle.steps.specs.View.{Mem, mem, Fit, depth-at, steady, Did}
 use Rattle.steps.specs.declared.Step.{Step}
 use Rattle.compiler.specs.Exprs.{There}
@@ -21,6 +21,7 @@ use Rattle.parts.proofs.Growing.{plain}
 use Rattle.plain.specs.Plain.{Plainly}
 use Rattle.loops.specs.Loops.{cond-at, Conditioned, incr-at, Incremented}
 use Rattle.loops.specs.declared.Cond.{Cond}
+use Rattle.fields.specs.Marks as marks
 
 -- ## The measure
 
@@ -54,11 +55,11 @@ pub bound : (tree : List ℕ) (left l at : ℕ) → There (stmt-at tree left l a
 bound tree left l at h = any-stmt-at tree (word16 tree 2) left (funs-left l) at (h .is) .bound
 
 -- a scope may be begun
-pub scope-room : (t code spans : List ℕ) (l left : ℕ) {tree : List ℕ} {at limit : ℕ} → 0 < left → Ready tree (mem t code spans) at left l limit → getD t (l * 1024 + 771) 0 < deepest
+pub scope-room : (t code spans : List ℕ) (l left : ℕ) {tree : List ℕ} {at limit : ℕ} → 0 < left → Ready tree (mem t code spans) at left l limit → getD t (l * level-words + depth-place) 0 < deepest
 unfolding depth-at
 scope-room t code spans l left h y = let s = y .shallow in omega arith
 
-pub deep-enough : (t code spans : List ℕ) (l : ℕ) → 0 < depth-at (mem t code spans) l → 0 < getD t (l * 1024 + 771) 0
+pub deep-enough : (t code spans : List ℕ) (l : ℕ) → 0 < depth-at (mem t code spans) l → 0 < getD t (l * level-words + depth-place) 0
 unfolding depth-at
 deep-enough t code spans l h = h
 
@@ -135,6 +136,6 @@ pub plainly : (tree : List ℕ) (left l at : ℕ) {class limit : ℕ} {before no
 plainly tree left l at out p = record { did = λ s n h. plain out (ten-on at (later-stmt tree (word16 tree 2) left (funs-left l) at h)) (p .did s n h) }
 
 -- none of the other nine kinds
-pub last-kind : (tree : List ℕ) (left l at : ℕ) → There (stmt-at tree left l at) → (letters tree at ≡ 0x5345 → ⊥) → (letters tree at ≡ 0x5350 → ⊥) → (letters tree at ≡ 0x5356 → ⊥) → (letters tree at ≡ 0x5352 → ⊥)
-    → (letters tree at ≡ 0x5342 → ⊥) → (letters tree at ≡ 0x5349 → ⊥) → (letters tree at ≡ 0x5357 → ⊥) → (letters tree at ≡ 0x534F → ⊥) → (letters tree at ≡ 0x5346 → ⊥) → letters tree at ≡ 0x5343
+pub last-kind : (tree : List ℕ) (left l at : ℕ) → There (stmt-at tree left l at) → (letters tree at ≡ marks.SE → ⊥) → (letters tree at ≡ marks.SP → ⊥) → (letters tree at ≡ marks.SV → ⊥) → (letters tree at ≡ marks.SR → ⊥)
+    → (letters tree at ≡ marks.SB → ⊥) → (letters tree at ≡ marks.SI → ⊥) → (letters tree at ≡ marks.SW → ⊥) → (letters tree at ≡ marks.SO → ⊥) → (letters tree at ≡ marks.SF → ⊥) → letters tree at ≡ marks.SC
 last-kind tree left l at h e p v t b i w o f = class-left tree (word16 tree 2) left (funs-left l) at (h .is) e p v b i w o t f

@@ -32,6 +32,7 @@ use Rattle.classes.proofs.Cut.{class-then-pop, class-grown, closes, free-closin
 use Rattle.arms.proofs.Calls.{same-on}
 use Rattle.arms.proofs.Cuts.{no-methods-cut, methods-cut}
 use Rattle.arms.proofs.Blocks.{by-parts}
+use Rattle.fields.specs.Marks as marks
 
 -- ## The walk over the methods
 
@@ -128,7 +129,7 @@ has-super : (tree : List ℕ) (d : ℕ) (b : Bool) (at : ℕ) → b ≡ true →
 has-super tree d true at q r = ap is-some (maybe-yes (read-superclass tree (word16 tree 2) d) at r .is)
 has-super tree d false at q r = let z : _≡_ {A = ℕ} 0 1 = cc in absurd (omega arith)
 
-module _ (tree : List ℕ) (l at left : ℕ) (mark : letters tree at ≡ 0x5343) where
+module _ (tree : List ℕ) (l at left : ℕ) (mark : letters tree at ≡ marks.SC) where
   abbrev parts : {s : Stmt} {n : ℕ} → stmt-at tree left l at ≡ got s n → ClassAt tree (word16 tree 2) (read-superclass tree (word16 tree 2) (left - 1)) (read-method tree (word16 tree 2) (left - 1) (funs-left l)) at s n
   parts h = class-at tree (word16 tree 2) left (funs-left l) at mark h
 

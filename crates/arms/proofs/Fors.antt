@@ -34,6 +34,7 @@ use Rattle.arms.proofs.Calls.{further, same-on}
 use Rattle.arms.proofs.Cuts.{for-cut}
 use Rattle.arms.proofs.Blocks.{by-parts, begun, less-deep, over-zero, free-shallower}
 use Rattle.arms.proofs.Ifs.{none-row, one-row, no-deeper, eleven-on}
+use Rattle.fields.specs.Marks as marks
 
 small : (k : ℕ) → k < 2 → (k ≡ 1 → ⊥) → k ≡ 0
 small k h g = omega arith
@@ -52,7 +53,7 @@ row-if k false stmt at h q r =
     let e : k ≡ 0 = small k h z in
     ap (λ (j : ℕ). read-stmts j stmt at) e ∙ none-row stmt at ∙ r
 
-module _ (tree : List ℕ) (l at left : ℕ) (mark : letters tree at ≡ 0x534F) where
+module _ (tree : List ℕ) (l at left : ℕ) (mark : letters tree at ≡ marks.SO) where
   abbrev parts : {s : Stmt} {n : ℕ} → stmt-at tree left l at ≡ got s n → ForAt tree (word16 tree 2) (read-expr tree (word16 tree 2) (left - 1)) (read-stmt tree (word16 tree 2) (left - 1) (funs-left l)) at s n
   parts h = for-at tree (word16 tree 2) left (funs-left l) at mark h
 

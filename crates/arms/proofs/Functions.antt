@@ -19,7 +19,7 @@ use Rattle.rules.specs.Compiler.{Compiler, Compile, ok, err, _>>_, FunctionType
 use Rattle.fields.specs.Words.{word16, letters, span-of}
 use Rattle.parsed.proofs.Statements.{FunAt, fun-of, FunStmtAt, fun-stmt-at, MethodAt, method-at}
 use Rattle.parsed.proofs.Later.{later-names, later-stmts, within-stmts}
-use Rattle.state.specs.Layout.{levels, deepest, image-at, codeFrom, codeEnd, type-of}
+use Rattle.state.specs.Layout.{levels, deepest, image-at, codeFrom, codeEnd, type-of, depth-place, code-from-place, type-place, level-words}
 use Rattle.steps.specs.View.{Mem, mem, t-of, Rest, view, Agrees, Fit, code-len, depth-at, steady, Ahead, Gave, Refused, Did}
 use Rattle.steps.specs.declared.Step.{Step}
 use Rattle.steps.specs.declared.Step.the-variants.{Next, Stop}
@@ -34,6 +34,7 @@ use Rattle.closures.specs.Functions.{FunHead, Inside, FunctionOpenedAs, Functio
 use Rattle.closures.proofs.Cut.{function-cut}
 use Rattle.arms.proofs.Cuts.{fun-cut}
 use Rattle.arms.proofs.Blocks.{by-parts}
+use Rattle.fields.specs.Marks as marks
 
 -- ## Numbers
 
@@ -51,10 +52,10 @@ back-on left h = omega arith
 inner-deep : (d e left : ℕ) → e ≡ d + 1 → d + 2 * (left + 1) ≤ deepest → e + 2 * left ≤ deepest
 inner-deep d e left q h = omega arith
 
-above-image : (l i : ℕ) → suc l < levels → image-at ≤ i → suc l * 1024 + 1024 ≤ i
+above-image : (l i : ℕ) → suc l < levels → image-at ≤ i → suc l * level-words + level-words ≤ i
 above-image l i h g = omega arith
 
-below-level : (l k o : ℕ) → k ≤ l → o ≤ 776 → k * 1024 + o < suc l * 1024
+below-level : (l k o : ℕ) → k ≤ l → o ≤ type-place → k * level-words + o < suc l * level-words
 below-level l k o h g = omega arith
 
 small-count : {c n len : ℕ} → c ≤ n → n ≤ len → len ≤ max-tree → c ≤ max-tree
@@ -69,7 +70,7 @@ lower h = omega arith
 below : {k l : ℕ} → k < l → k ≤ l
 below h = omega arith
 
-less-one : {o : ℕ} → 772 ≤ o → 771 ≤ o
+less-one : {o : ℕ} → code-from-place ≤ o → depth-place ≤ o
 less-one h = omega arith
 
 never : {A : Type 0} → false ≡ true → A
@@ -79,7 +80,7 @@ code-up : (t code spans : List ℕ) (now : Mem) (l : ℕ) → codeEnd t ≤ code
 unfolding code-len
 code-up t code spans (mem t′ code′ spans′) l h q = omega arith
 
-deep-same : (t code spans : List ℕ) (now : Mem) (l : ℕ) → getD (t-of now) (l * 1024 + 771) 0 ≡ getD t (l * 1024 + 771) 0 → depth-at now l ≡ depth-at (mem t code spans) l
+deep-same : (t code spans : List ℕ) (now : Mem) (l : ℕ) → getD (t-of now) (l * level-words + depth-place) 0 ≡ getD t (l * level-words + depth-place) 0 → depth-at now l ≡ depth-at (mem t code spans) l
 unfolding depth-at
 deep-same t code spans (mem t′ code′ spans′) l q = q
 
@@ -186,11 +187,11 @@ module _ (tree : List ℕ) (l at left kind : ℕ) (span : Span) where
 
           module _ (low : suc l < levels) (now : Mem) (out3 : List ℕ) where
             -- words of the levels around, from the start to the end
-            same : {f : Fun} {n : ℕ} (h : fun-at tree left l at ≡ got f n) → Finished class limit l span m2 out2 now out3 → (k o : ℕ) → k ≤ l → 771 ≤ o → o ≤ 776 → getD (t-of now) (k * 1024 + o) 0 ≡ getD t (k * 1024 + o) 0
-            same h d k o p q r = d .under k o p q r ∙ grew h .gave .ahead .under k o (lower p) q r ∙ inside h .0 .kept .below (k * 1024 + o) (below-level l k o p r)
+            same : {f : Fun} {n : ℕ} (h : fun-at tree left l at ≡ got f n) → Finished class limit l span m2 out2 now out3 → (k o : ℕ) → k ≤ l → depth-place ≤ o → o ≤ type-place → getD (t-of now) (k * level-words + o) 0 ≡ getD t (k * level-words + o) 0
+            same h d k o p q r = d .under k o p q r ∙ grew h .gave .ahead .under k o (lower p) q r ∙ inside h .0 .kept .below (k * level-words + o) (below-level l k o p r)
 
             longer : {f : Fun} {n : ℕ} (h : fun-at tree left l at ≡ got f n) → Finished class limit l span m2 out2 now out3 → codeEnd t ≤ codeEnd (t-of now)
-            longer h d = let p = grew h .gave .ahead .head 772 (omega arith) (omega arith) in let q = inside h .0 .from in let u = d .up in omega (arith, p, q, u)
+            longer h d = let p = grew h .gave .ahead .head code-from-place (omega arith) (omega arith) in let q = inside h .0 .from in let u = d .up in omega (arith, p, q, u)
 
             added-function : {f : Fun} {n : ℕ} (h : fun-at tree left l at ≡ got f n) (d : Finished class limit l span m2 out2 now out3) → Added at n (grew h .made ++ (d .function ∷ [])) t out (t-of now) out3
             added-function h d =
@@ -219,8 +220,8 @@ module _ (tree : List ℕ) (l at left kind : ℕ) (span : Span) where
                     agrees = λ rest z. subst (λ (x : Rest). Agrees class now x) (more-more (g .made) (d .function ∷ []) rest) (d .agrees (more (g .made) rest) (g .gave .agrees rest (agreed h low rest z)));
                     ahead = record {
                       fit = d .fit;
-                      up = code-up t code spans now l (longer h d) (same h d l 772 (le-refl l) (omega arith) (omega arith));
-                      deep = deep-same t code spans now l (same h d l 771 (le-refl l) (omega arith) (omega arith));
+                      up = code-up t code spans now l (longer h d) (same h d l code-from-place (le-refl l) (omega arith) (omega arith));
+                      deep = deep-same t code spans now l (same h d l depth-place (le-refl l) (omega arith) (omega arith));
                       head = λ o p q. same h d l o (le-refl l) (less-one p) q;
                       under = λ k o p q r. same h d k o (below p) q r;
                       over = λ z. never z;
@@ -256,7 +257,7 @@ a-function : type-of 1 ≡ Function
 unfolding type-of
 a-function = refl
 
-module _ (tree : List ℕ) (l at left : ℕ) (mark : letters tree at ≡ 0x5346) where
+module _ (tree : List ℕ) (l at left : ℕ) (mark : letters tree at ≡ marks.SF) where
   abbrev stmt-parts : {s : Stmt} {n : ℕ} → stmt-at tree left l at ≡ got s n → FunStmtAt tree (word16 tree 2) (read-stmt tree (word16 tree 2) (left - 1) (funs-left l - 1)) (funs-left l) at s n
   stmt-parts h = fun-stmt-at tree (word16 tree 2) left (funs-left l) at mark h
 

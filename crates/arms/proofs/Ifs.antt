@@ -30,6 +30,7 @@ use Rattle.parts.specs.Output.{funs-left, stmt-at, stmts-at, Grew, Worked, Walk
 use Rattle.parts.proofs.Growing.{Run, free-steady, of-gave, of-grew, to-grew, run-seq, run-bind, run-refused, run-refused-seq, grown, reached, refused, stopped, conclude, ready-after}
 use Rattle.arms.proofs.Cuts.{if-cut}
 use Rattle.arms.proofs.Blocks.{by-parts}
+use Rattle.fields.specs.Marks as marks
 
 -- a part that may be missing is a row of none or one
 pub none-row : (stmt : Reader Stmt) (at : ℕ) → read-stmts 0 stmt at ≡ maybe-stmt false stmt at
@@ -54,7 +55,7 @@ no-deeper d left h = omega arith
 pub eleven-on : (at : ℕ) {n : ℕ} → at + 11 ≤ n → at ≤ n
 eleven-on at h = omega arith
 
-module _ (tree : List ℕ) (l at left : ℕ) (mark : letters tree at ≡ 0x5349) where
+module _ (tree : List ℕ) (l at left : ℕ) (mark : letters tree at ≡ marks.SI) where
   abbrev parts : {s : Stmt} {n : ℕ} → stmt-at tree left l at ≡ got s n → IfAt tree (word16 tree 2) (read-expr tree (word16 tree 2) (left - 1)) (read-stmt tree (word16 tree 2) (left - 1) (funs-left l)) at s n
   parts h = if-at tree (word16 tree 2) left (funs-left l) at mark h
 

@@ -31,8 +31,9 @@ use Rattle.arms.proofs.Cuts.{while-cut}
 use Rattle.arms.proofs.Blocks.{by-parts}
 use Rattle.arms.proofs.Calls.{ten-on}
 use Rattle.arms.proofs.Ifs.{no-deeper}
+use Rattle.fields.specs.Marks as marks
 
-module _ (tree : List ℕ) (l at left : ℕ) (mark : letters tree at ≡ 0x5357) where
+module _ (tree : List ℕ) (l at left : ℕ) (mark : letters tree at ≡ marks.SW) where
   abbrev parts : {s : Stmt} {n : ℕ} → stmt-at tree left l at ≡ got s n → WhileAt tree (word16 tree 2) (read-expr tree (word16 tree 2) (left - 1)) (read-stmt tree (word16 tree 2) (left - 1) (funs-left l)) at s n
   parts h = while-at tree (word16 tree 2) left (funs-left l) at mark h
 

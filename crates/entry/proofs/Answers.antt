@@ -19,7 +19,8 @@ use Rattle.steps.specs.declared.Step.{Step}
 use Rattle.steps.specs.declared.Step.the-variants.{Next, Stop}
 use Rattle.writer.specs.Put.{padded}
 use Rattle.writer.proofs.Padding.{whole-padded}
-use Rattle.entry.specs.Whole.{lent-of, limit-of, Recorded, Headed, answer-of, output-of, Written}
+use Rattle.entry.specs.Whole.{lent-of, limit-of, Recorded, answer-of, output-of, Written}
+use Rattle.writer.specs.Put.{Headed}
 
 -- ## The image, where there is room for it and where there is none
 

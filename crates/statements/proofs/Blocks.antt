@@ -17,11 +17,13 @@ use Rattle.arms.proofs.Calls as calls
 use Rattle.arms.proofs.Blocks as ways
 use Rattle.statements.specs.Walk.{StmtThere, StmtDone}
 use Rattle.statements.proofs.Walks.{RowIn, row-start, row-stop, row-done, done-of}
+use Rattle.state.specs.Layout.{depth-place, level-words}
+use Rattle.fields.specs.Marks as marks
 
 further : (at : ℕ) → at < at + 12
 further at = omega arith
 
-module _ {tree : List ℕ} {l at limit : ℕ} {before : Mem} (p : StmtThere tree before at l limit) (mark : letters tree at ≡ 0x5342) where
+module _ {tree : List ℕ} {l at limit : ℕ} {before : Mem} (p : StmtThere tree before at l limit) (mark : letters tree at ≡ marks.SB) where
   pub bound : at + 12 ≤ length tree
   bound = block-at tree (word16 tree 2) (p .left) (funs-left l) at mark (p .there .is) .bound
 
@@ -43,7 +45,7 @@ module _ {tree : List ℕ} {l at limit : ℕ} {before : Mem} (p : StmtThere tree
       stop h b q = done-of p (ways.block-stop tree l at (p .left) mark sp o (row-stop (w .row) h b q .at-depth (p .left - 1)) q)
 
       module _ (h : more ≤ 0) where
-        pub end : Fit (mem t1 code1 spans1) l limit × (0 < getD t1 (l * 1024 + 771) 0)
+        pub end : Fit (mem t1 code1 spans1) l limit × (0 < getD t1 (l * level-words + depth-place) 0)
         end = (
           ways.block-fit tree l at (p .left) mark sp o (row-done (w .row) h .at-depth (p .left - 1)) (p .there) refl,
           calls.deep-enough t1 code1 spans1 l (ways.block-deep tree l at (p .left) mark sp o (row-done (w .row) h .at-depth (p .left - 1)) (p .there) refl),

@@ -16,7 +16,7 @@ use Rattle.steps.specs.declared.Step.{Step}
 use Rattle.steps.specs.declared.Step.the-variants.{Next, Stop}
 use Rattle.compiler.specs.Exprs.{There}
 use Rattle.parts.specs.Output.{funs-left, stmts-at, Walked, Ready}
-use Rattle.parts.specs.Parts.{close-loop}
+use Rattle.stmt_jumps.specs.Jumps.{close-loop}
 use Rattle.loops.specs.Loops.{cond-at, incr-at, place-of, CondThere, IncrThere, Conditioned, Incremented}
 use Rattle.loops.specs.declared.Cond.{Cond}
 use Rattle.arms.proofs.Calls as calls
@@ -25,6 +25,8 @@ use Rattle.arms.proofs.Fors as ways
 use Rattle.statements.specs.Walk.{StmtThere, StmtDone}
 use Rattle.statements.proofs.Ones as ones
 use Rattle.statements.proofs.Walks.{Child, child-of, done-of}
+use Rattle.state.specs.Layout.{depth-place, level-words}
+use Rattle.fields.specs.Marks as marks
 
 -- the flag is a number of statements
 none-of : {k j : ℕ} → k ≡ j → (k % 2 ≡ 1 → ⊥) → 0 ≡ j % 2
@@ -51,7 +53,7 @@ came {tree} {l} {at} {limit} p {class} {m0} {out} {t1} {code1} {spans1} {out1} {
     (subst (λ (o : List ℕ). Init class limit l tree (p .left) at m0 out (mem t1 code1 spans1) o n2) (sym eo)
     (subst (λ (n : ℕ). Init class limit l tree (p .left) at m0 out (mem t1 code1 spans1) out1 n) (sym en) w))))
 
-module _ {tree : List ℕ} {l at limit : ℕ} {before : Mem} (p : StmtThere tree before at l limit) (mark : letters tree at ≡ 0x534F) where
+module _ {tree : List ℕ} {l at limit : ℕ} {before : Mem} (p : StmtThere tree before at l limit) (mark : letters tree at ≡ marks.SO) where
   pub bound : at + 11 ≤ length tree
   bound = for-at tree (word16 tree 2) (p .left) (funs-left l) at mark (p .there .is) .bound
 
@@ -129,7 +131,7 @@ module _ {tree : List ℕ} {l at limit : ℕ} {before : Mem} (p : StmtThere tree
                     stop-5 q = done-of p (ways.for-stop-5 tree l at (p .left) mark span o w refl fit (k .says class code1 spans1) tested qb (d .at-depth (p .left - 1)) qd moved qe (f class) sp q)
 
                     module _ {v : ℕ} (qf : rf ≡ Next v) where
-                      pub end : Fit (mem t5 code5 spans5) l limit × (0 < getD t5 (l * 1024 + 771) 0)
+                      pub end : Fit (mem t5 code5 spans5) l limit × (0 < getD t5 (l * level-words + depth-place) 0)
                       end = (
                         ways.for-fit-4 tree l at (p .left) mark span o w refl fit (k .says class code1 spans1) tested qb (d .at-depth (p .left - 1)) qd moved qe (f class) qf,
                         calls.deep-enough t5 code5 spans5 l (ways.for-deep tree l at (p .left) mark span o w refl fit (k .says class code1 spans1) tested qb (d .at-depth (p .left - 1)) qd moved qe (f class) qf (p .there)),

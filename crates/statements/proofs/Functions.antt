@@ -13,7 +13,7 @@ use Rattle.rules.specs.Compiler.{define-name, compile-stmts}
 use Rattle.fields.specs.Words.{word16, letters, span-of}
 use Rattle.parsed.proofs.Statements.{fun-of}
 use Rattle.parsed.proofs.Later.{later-names}
-use Rattle.state.specs.Layout.{levels, deepest, image-at, type-of, Wf}
+use Rattle.state.specs.Layout.{levels, deepest, image-at, type-of, Wf, depth-place, level-words}
 use Rattle.steps.specs.View.{Mem, mem, Fit, steady, Did}
 use Rattle.steps.specs.declared.Step.{Step}
 use Rattle.steps.specs.declared.Step.the-variants.{Next, Stop}
@@ -25,6 +25,7 @@ use Rattle.arms.proofs.Calls as calls
 use Rattle.arms.proofs.Functions as ways
 use Rattle.statements.specs.Walk.{StmtThere, StmtDone, FunThere, FunDone}
 use Rattle.statements.proofs.Walks.{Child, RowIn, row-start, row-stop, row-done, in-fun, done-of, any-fun, to-fun}
+use Rattle.fields.specs.Marks as marks
 
 -- ## The function
 
@@ -35,7 +36,7 @@ module _ {tree : List ℕ} {l at limit : ℕ} {t0 code0 spans0 : List ℕ} (p : 
   low : suc l < levels
   low = calls.below-levels l (p .room)
 
-  pub head : (kind : ℕ) (span : Span) → FunHead tree at × (l + 1 < levels) × Wf t0 × (getD t0 (l * 1024 + 771) 0 < deepest)
+  pub head : (kind : ℕ) (span : Span) → FunHead tree at × (l + 1 < levels) × Wf t0 × (getD t0 (l * level-words + depth-place) 0 < deepest)
   head kind span = (ways.function-head tree l at (p .left) kind span (p .there), p .room, p .ready .fit .wf, calls.scope-room t0 code0 spans0 l (p .left + 1) (calls.some-room (p .left)) (p .ready))
 
   module _ {kind : ℕ} {span : Span} {t1 : List ℕ} {ra : Step} (a : FunctionOpened l kind tree at span t0 t1 ra) where
@@ -94,7 +95,7 @@ module _ {tree : List ℕ} {l at limit : ℕ} {t0 code0 spans0 : List ℕ} (p : 
 
 -- ## The statement
 
-module _ {tree : List ℕ} {l at limit : ℕ} {before : Mem} (p : StmtThere tree before at l limit) (mark : letters tree at ≡ 0x5346) where
+module _ {tree : List ℕ} {l at limit : ℕ} {before : Mem} (p : StmtThere tree before at l limit) (mark : letters tree at ≡ marks.SF) where
   pub fun-bound : at + 14 ≤ length tree
   fun-bound = ways.fun-bound tree l at (p .left) mark (p .there)
 

@@ -14,15 +14,16 @@ use Rattle.steps.specs.View.{Mem, Fit, code-len, steady, Did, Opened}
 use Rattle.steps.specs.declared.Step.{Step}
 use Rattle.steps.specs.declared.Step.the-variants.{Next, Stop}
 use Rattle.compiler.specs.Exprs.{There, Somewhere, expr-at, Ran}
-use Rattle.compiler.specs.Stmts.{open-jump, turn-jump}
+use Rattle.stmt_jumps.specs.Jumps.{open-jump, turn-jump}
 use Rattle.parts.specs.Output.{funs-left, stmts-at, Walked, Ready}
 use Rattle.arms.proofs.Calls as calls
 use Rattle.arms.proofs.Ifs as ways
 use Rattle.statements.specs.Walk.{StmtThere, StmtDone}
 use Rattle.statements.proofs.Ones as ones
 use Rattle.statements.proofs.Walks.{Child, child-of, done-of}
+use Rattle.fields.specs.Marks as marks
 
-module _ {tree : List ℕ} {l at limit : ℕ} {before : Mem} (p : StmtThere tree before at l limit) (mark : letters tree at ≡ 0x5349) where
+module _ {tree : List ℕ} {l at limit : ℕ} {before : Mem} (p : StmtThere tree before at l limit) (mark : letters tree at ≡ marks.SI) where
   pub bound : at + 11 ≤ length tree
   bound = if-at tree (word16 tree 2) (p .left) (funs-left l) at mark (p .there .is) .bound
 

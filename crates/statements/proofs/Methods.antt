@@ -12,7 +12,7 @@ use Rattle.rules.specs.Chunk.{CS}
 use Rattle.rules.specs.Compiler.{method-type, emit-op-constant}
 use Rattle.fields.specs.Words.{word8, word16, letters, span-of}
 use Rattle.parsed.proofs.Later.{later-method}
-use Rattle.state.specs.Layout.{type-of}
+use Rattle.state.specs.Layout.{type-of, depth-place, level-words}
 use Rattle.steps.specs.View.{Mem, mem, Fit, steady, Did}
 use Rattle.steps.specs.declared.Step.{Step}
 use Rattle.steps.specs.declared.Step.the-variants.{Next, Stop}
@@ -27,6 +27,7 @@ use Rattle.arms.proofs.Classes as ways
 use Rattle.arms.proofs.Functions as functions
 use Rattle.statements.specs.Walk.{StmtThere, StmtDone, FunThere, FunDone}
 use Rattle.statements.proofs.Walks.{any-depth, done-of}
+use Rattle.fields.specs.Marks as marks
 
 -- the methods that are left come to the same, from the areas as they are, as all of them from where the loop began
 pub record Methoding (inner limit l : ℕ) (tree : List ℕ) (at first : ℕ) (before : Mem) (out : List ℕ) (now : Mem) (out′ : List ℕ) (next more : ℕ) : Type 0 where
@@ -41,11 +42,11 @@ function-falls len at next t h e = omega arith
 past : (at next end n : ℕ) → at < next → next + 16 ≤ end → n ≡ end → at < n
 past at next end n h k e = omega arith
 
-module _ {tree : List ℕ} {l at limit : ℕ} {before : Mem} (p : StmtThere tree before at l limit) (mark : letters tree at ≡ 0x5343) where
+module _ {tree : List ℕ} {l at limit : ℕ} {before : Mem} (p : StmtThere tree before at l limit) (mark : letters tree at ≡ marks.SC) where
   pub head : ClassHead tree at
   head = ways.class-head tree l at (p .left) mark (p .there)
 
-module _ {tree : List ℕ} {l at limit : ℕ} {before : Mem} (p : StmtThere tree before at l limit) (mark : letters tree at ≡ 0x5343) {span : Span} (sp : span ≡ span-of tree (at + 2)) {m1 : Mem} {ra : Step}
+module _ {tree : List ℕ} {l at limit : ℕ} {before : Mem} (p : StmtThere tree before at l limit) (mark : letters tree at ≡ marks.SC) {span : Span} (sp : span ≡ span-of tree (at + 2)) {m1 : Mem} {ra : Step}
     (a : (class : ℕ) → ClassOpened class limit l tree at span before m1 ra) where
   pub stop : {class : ℕ} (out : List ℕ) {x : Refusal} → ra ≡ Stop x → StmtDone class limit l tree at before out m1 out ra
   stop {class} out q = done-of p (ways.class-stop tree l at (p .left) mark span sp (a class) out q)
@@ -81,7 +82,7 @@ module _ {tree : List ℕ} {l at limit : ℕ} {before : Mem} (p : StmtThere tree
       )
 
       module _ (i : InnerClass tree at inner) where
-        pub close : Fit (mem t2 code2 spans2) l limit × (word8 tree (at + 12) ≡ 1 → 0 < getD t2 (l * 1024 + 771) 0)
+        pub close : Fit (mem t2 code2 spans2) l limit × (word8 tree (at + 12) ≡ 1 → 0 < getD t2 (l * level-words + depth-place) 0)
         close = (w .row .ready .fit, λ q. calls.deep-enough t2 code2 spans2 l (ways.class-deep tree l at (w .left) mark span sp (a 0) qa inner i (w .row) (w .there) q))
 
         pub done : {class : ℕ} → more ≤ 0 → {now : Mem} {rc : Step} → ((class : ℕ) → ClassClosed class limit l tree at next span (mem t2 code2 spans2) now rc) → StmtDone class limit l tree at before out now out2 rc

@@ -12,13 +12,14 @@ use Rattle.steps.specs.View.{Mem, mem, Fit, code-len, steady, Did, Opened, Meas
 use Rattle.steps.specs.declared.Step.{Step}
 use Rattle.steps.specs.declared.Step.the-variants.{Next, Stop}
 use Rattle.compiler.specs.Exprs.{Somewhere, expr-at, Ran}
-use Rattle.compiler.specs.Stmts.{open-jump}
-use Rattle.parts.specs.Parts.{close-loop}
+use Rattle.stmt_jumps.specs.Jumps.{open-jump}
+use Rattle.stmt_jumps.specs.Jumps.{close-loop}
 use Rattle.arms.proofs.Whiles as ways
 use Rattle.statements.specs.Walk.{StmtThere, StmtDone}
 use Rattle.statements.proofs.Walks.{Child, child-of, done-of}
+use Rattle.fields.specs.Marks as marks
 
-module _ {tree : List ℕ} {l at limit : ℕ} {t0 code0 spans0 : List ℕ} (p : StmtThere tree (mem t0 code0 spans0) at l limit) (mark : letters tree at ≡ 0x5357) where
+module _ {tree : List ℕ} {l at limit : ℕ} {t0 code0 spans0 : List ℕ} (p : StmtThere tree (mem t0 code0 spans0) at l limit) (mark : letters tree at ≡ marks.SW) where
   pub test : Somewhere tree (at + 10)
   test = record { depth = p .left - 1; there = ways.while-cond tree l at (p .left) mark (p .there) }
 

@@ -50,3 +50,9 @@ pub record Closed (t code spans : List ℕ) (l : ℕ) : Type 0 where
   pub runs-order : runsFrom t l ≤ runsEnd t
   pub runs-room : runsEnd t * 3 ≤ length spans
   pub runs-few : runsEnd t ≤ codeEnd t
+
+-- ## The header is written over the output's first six bytes
+
+pub record Headed (count : ℕ) (out out′ : List ℕ) : Type 0 where
+  pub size : length out′ ≡ length out
+  pub holds : (bs : List ℕ) → out ≡ padded (length out) (replicate 6 0 ++ bs) → out′ ≡ padded (length out) (0x49 ∷ 0x4D ∷ le 4 count ++ bs)

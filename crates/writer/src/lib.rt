@@ -9,7 +9,7 @@ ghost use Rattle.rules.specs.Chunk.{CN, CS, CF};
 ghost use Rattle.rules.specs.Image.{join, constant-bytes, run-bytes, function-bytes};
 ghost use Rattle.rules.specs.Compiler as rules;
 ghost use Rattle.state.specs.Layout.{constantOf, runAt, codeEnd, runsEnd, ctxAt};
-ghost use Rattle.writer.specs.Put.{Put, Closed, stretch, byte-at, constant-at, run-of, head-bytes};
+ghost use Rattle.writer.specs.Put.{Put, Closed, stretch, byte-at, constant-at, run-of, head-bytes, Headed};
 use state::Table;
 
 // One byte.
@@ -203,4 +203,14 @@ pub fn put_function(
     let c = put_runs(out, b, spans, runs_from, run_count);
     let d = put_mark(out, c, b'C', b'D');
     put_code(out, d, code, code_from, code_count)
+}
+
+// The image's mark and how many functions it has, where the records stand behind six zeros.
+pub fn put_header(out: &mut [u8], count: u64)
+    requires { ⌜ 6 ≤ length (now out) ⌝ }
+    ensures { λ _. ⌜ Headed count (now (out .entry)) (now (out .exit)) ⌝ }
+{
+    let head = &mut out[..6];
+    let next = put_mark(head, 0, b'I', b'M');
+    put_le(head, next, count, 4);
 }

@@ -25,22 +25,23 @@ use Rattle.classes.proofs.open_class.Reads as open-class
 use Rattle.closures.proofs.close_function.Reads as close-function
 use Rattle.closures.proofs.open_function.Reads as open-function
 use Rattle.compiler.proofs.compile_expr.Reads as compile-expr
-use Rattle.compiler.proofs.open_jump.Reads as open-jump
-use Rattle.compiler.proofs.turn_jump.Reads as turn-jump
+use Rattle.stmt_jumps.proofs.open_jump.Reads as open-jump
+use Rattle.stmt_jumps.proofs.turn_jump.Reads as turn-jump
 use Rattle.fields.proofs.mark_at.Reads as mark-at
 use Rattle.fields.proofs.span_at.Reads as span-at
 use Rattle.fields.proofs.u16_at.Reads as u16-at
 use Rattle.fields.proofs.u8_at.Reads as u8-at
 use Rattle.loops.proofs.for_cond.Reads as for-cond
 use Rattle.loops.proofs.for_incr.Reads as for-incr
-use Rattle.plain.proofs.close_loop.Reads as close-loop
+use Rattle.stmt_jumps.proofs.close_loop.Reads as close-loop
 use Rattle.plain.proofs.compile_plain.Reads as compile-plain
-use Rattle.steps.proofs.begin_scope.Reads as begin-scope
-use Rattle.steps.proofs.code_length.Reads as code-length
-use Rattle.steps.proofs.define_name.Reads as define-name
-use Rattle.steps.proofs.emit_op_name.Reads as emit-op-name
-use Rattle.steps.proofs.end_scope.Reads as end-scope
-use Rattle.steps.proofs.patch_jump.Reads as patch-jump
+use Rattle.step_scopes.proofs.begin_scope.Reads as begin-scope
+use Rattle.step_jumps.proofs.code_length.Reads as code-length
+use Rattle.step_names.proofs.define_name.Reads as define-name
+use Rattle.step_bytes.proofs.emit_op_name.Reads as emit-op-name
+use Rattle.step_scopes.proofs.end_scope.Reads as end-scope
+use Rattle.step_jumps.proofs.patch_jump.Reads as patch-jump
+use Rattle.fields.specs.Marks as marks
 
 -- ## The measures
 
@@ -222,22 +223,22 @@ module _ (t : ℕ) where
 
   -- ## What the mark says in each arm
 
-  pub mark-1 : (c : here lts.Then1 t) → letters (start-1 c .args .tree .now) (start-1 c .args .at) ≡ 0x5342
+  pub mark-1 : (c : here lts.Then1 t) → letters (start-1 c .args .tree .now) (start-1 c .args .at) ≡ marks.SB
   mark-1 c = sym (spanned-1 c .before .mark-at .ensures) ∙ c .if1 .taken
 
-  pub mark-2 : (c : here lts.Then2 t) → letters (start-2 c .args .tree .now) (start-2 c .args .at) ≡ 0x5349
+  pub mark-2 : (c : here lts.Then2 t) → letters (start-2 c .args .tree .now) (start-2 c .args .at) ≡ marks.SI
   mark-2 c = sym (spanned-2 c .before .mark-at .ensures) ∙ c .if2 .taken
 
-  pub mark-3 : (c : here lts.Then4 t) → letters (start-3 c .args .tree .now) (start-3 c .args .at) ≡ 0x5357
+  pub mark-3 : (c : here lts.Then4 t) → letters (start-3 c .args .tree .now) (start-3 c .args .at) ≡ marks.SW
   mark-3 c = sym (spanned-3 c .before .mark-at .ensures) ∙ c .if4 .taken
 
-  pub mark-4 : (c : here lts.Then5 t) → letters (start-4 c .args .tree .now) (start-4 c .args .at) ≡ 0x534F
+  pub mark-4 : (c : here lts.Then5 t) → letters (start-4 c .args .tree .now) (start-4 c .args .at) ≡ marks.SO
   mark-4 c = sym (spanned-4 c .before .mark-at .ensures) ∙ c .if5 .taken
 
-  pub mark-5 : (c : here lts.Then7 t) → letters (start-5 c .args .tree .now) (start-5 c .args .at) ≡ 0x5346
+  pub mark-5 : (c : here lts.Then7 t) → letters (start-5 c .args .tree .now) (start-5 c .args .at) ≡ marks.SF
   mark-5 c = sym (spanned-5 c .before .mark-at .ensures) ∙ c .if7 .taken
 
-  pub mark-6 : (c : here lts.Then8 t) → letters (start-6 c .args .tree .now) (start-6 c .args .at) ≡ 0x5343
+  pub mark-6 : (c : here lts.Then8 t) → letters (start-6 c .args .tree .now) (start-6 c .args .at) ≡ marks.SC
   mark-6 c = sym (spanned-6 c .before .mark-at .ensures) ∙ c .if8 .taken
 
   -- ## The needs before the arms

@@ -5,9 +5,8 @@ use Prim.Native.Nat.{ℕ, zero, suc, _+_, _-_, _≤_}
 use native.Mathlib.Omega.{arith}
 use lib.ListN.{length, replicate, take, drop}
 use Rattle.rules.specs.Base.{le}
-use Rattle.writer.specs.Put.{padded, Put}
+use Rattle.writer.specs.Put.{padded, Put, Headed}
 use Rattle.writer.proofs.Padding.{put-then}
-use Rattle.entry.specs.Whole.{Headed}
 
 -- what stands first, where there is room for it
 padded-behind : (hs bs : List ℕ) (n room : ℕ) → n ≡ length hs + room → padded n (hs ++ bs) ≡ hs ++ padded room bs

@@ -1,10 +1,10 @@
 -- `put_header` meets its contract. Assumes nothing.
 use mathlib.Core.Path.{sym}
 use lib.Seq.{length-take-le}
-use Rattle.entry.proofs.Header.{headed}
+use Rattle.writer.proofs.Header.{headed}
 use borrow.Author.Needs.{needs}
-use Rattle.entry.proofs.put_header.Statement.{statement}
-use Rattle.entry.proofs.put_header.Tie as tie
+use Rattle.writer.proofs.put_header.Statement.{statement}
+use Rattle.writer.proofs.put_header.Tie as tie
 
 slice-relend-prefix-head : tie.Need-slice-relend-prefix-head
 slice-relend-prefix-head c = search needs
