@@ -10,8 +10,8 @@ use Rattle.rules.specs.TreeFile.{read-stmts, read-stmt}
 use Rattle.rules.specs.Entry.{Compiled, refused, compile-tree}
 use Rattle.steps.specs.declared.Step.{Step}
 use Rattle.steps.specs.declared.Step.the-variants.{Next, Stop}
-use Rattle.compiler.specs.Exprs.{There}
-use Rattle.parts.specs.Output.{funs-left}
+use Rattle.expressions.specs.Exprs.{There}
+use Rattle.stmt_output_laws.specs.Output.{funs-left}
 use Rattle.tree.specs.Checked.{checked-file}
 use Rattle.tree.specs.declared.Checked.{Checked}
 use Rattle.tree.specs.declared.Script.{Script}

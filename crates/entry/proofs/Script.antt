@@ -19,10 +19,10 @@ use Rattle.steps.specs.declared.Step.{Step}
 use Rattle.steps.specs.declared.Step.the-variants.{Next, Stop}
 use Rattle.steps.proofs.Steps.{went, stuck, refused-seq, gave-seq, gave-refused-seq, seq-ok, seq-err}
 use Rattle.writer.specs.Put.{Closed}
-use Rattle.parts.specs.Output.{largest, Holds, more, grow, Grew, Worked, Walked, Ready}
-use Rattle.parts.proofs.Growing as growing
-use Rattle.closures.specs.Functions.{function-at, Filed}
-use Rattle.closures.proofs.Records.{can-put}
+use Rattle.stmt_output_laws.specs.Output.{largest, Holds, more, grow, Grew, Worked, Walked, Ready}
+use Rattle.stmt_output_laws.proofs.Growing as growing
+use Rattle.stmt_functions.specs.Functions.{function-at, Filed}
+use Rattle.stmt_functions.proofs.Records.{can-put}
 use Rattle.entry.specs.Whole.{limit-of, rows-at, Rows, Clean, script-end, Recorded, ScriptedAs, Scripted}
 use Rattle.entry.proofs.Zeros.{zeros-padded, cleared-own}
 

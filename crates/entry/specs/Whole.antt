@@ -18,7 +18,7 @@ use Rattle.steps.specs.View.{Started}
 use Rattle.steps.specs.declared.Step.{Step}
 use Rattle.steps.specs.declared.Step.the-variants.{Next, Stop}
 use Rattle.writer.specs.Put.{padded}
-use Rattle.parts.specs.Output.{stmts-at, Holds}
+use Rattle.stmt_output_laws.specs.Output.{stmts-at, Holds}
 
 -- ## What is lent
 

@@ -16,16 +16,16 @@ use Rattle.rules.specs.Reader.{Read, got, bad, go-on, _>>_, many}
 use Rattle.rules.specs.Chunk.{ObjectFunction}
 use Rattle.rules.specs.ImageFile.{read-function}
 use Rattle.rules.specs.Checker.{sound, image-of, function-numbered, code-in, code-of, code-before, code-start, code-verdict, code-answer}
-use Rattle.code.specs.declared.Verdict.{Verdict}
-use Rattle.code.specs.declared.Verdict.the-variants as verdict
+use Rattle.image_code.specs.declared.Verdict.{Verdict}
+use Rattle.image_code.specs.declared.Verdict.the-variants as verdict
 use Rattle.fields.specs.Words.{word32, letters}
-use Rattle.records.specs.declared.Place.{Place}
-use Rattle.records.specs.declared.Place.the-variants as place
-use Rattle.records.specs.declared.Head.the-variants as head
-use Rattle.records.specs.declared.Header.{Header}
-use Rattle.records.specs.Told.{place-told, head-at, code-told}
-use Rattle.records.proofs.Many.{got-bad, same-got, many-length, Nth, nth-of, place-bad, place-at}
-use Rattle.records.proofs.Records.{Headed, headed, head-fails, Body, body-of, Coded, coded, at-code, whole-function, made}
+use Rattle.image_records.specs.declared.Place.{Place}
+use Rattle.image_records.specs.declared.Place.the-variants as place
+use Rattle.image_records.specs.declared.Head.the-variants as head
+use Rattle.image_records.specs.declared.Header.{Header}
+use Rattle.image_records.specs.Told.{place-told, head-at, code-told}
+use Rattle.image_records.proofs.Many.{got-bad, same-got, many-length, Nth, nth-of, place-bad, place-at}
+use Rattle.image_records.proofs.Records.{Headed, headed, head-fails, Body, body-of, Coded, coded, at-code, whole-function, made}
 use Rattle.image.specs.Counted.{counted-in, place-in, code-place, code-part, Lies}
 use Rattle.image.proofs.Sound.{elem-none}
 use Rattle.image.proofs.Whole.{after, image-is, no-room, no-mark, no-functions}

@@ -7,8 +7,8 @@ use lib.ListN.{length, take, drop}
 use Rattle.rules.specs.Chunk.{ObjectFunction}
 use Rattle.rules.specs.declared.Answer.{Answer}
 use Rattle.rules.specs.Checker.{instruction-count, image-of, function-numbered, code-of, code-start, code-answer}
-use Rattle.code.specs.declared.Verdict.{Verdict}
-use Rattle.code.specs.declared.Verdict.the-variants.{Yes, No}
+use Rattle.image_code.specs.declared.Verdict.{Verdict}
+use Rattle.image_code.specs.declared.Verdict.the-variants.{Yes, No}
 
 unfoldable pub counted-in : Option (List ObjectFunction) → Verdict
 counted-in none = No

@@ -7,10 +7,10 @@ ghost use Rattle.rules.specs.Checker as Checker;
 ghost use Rattle.image.specs.Counted.{counted-in, code-place, code-part, Lies};
 use answers::accepted;
 use answers::refused;
-use code::Verdict;
 use fields::Mark;
-use records::Head;
-use records::Place;
+use image_code::Verdict;
+use image_records::Head;
+use image_records::Place;
 use rules::Answer;
 use rules::Refusal;
 
@@ -28,10 +28,10 @@ fn count_of(image: &[u8]) -> Verdict
     if count == 0 {
         return Verdict::No;
     }
-    let Verdict::Yes(n) = functions::judge(image, count) else {
+    let Verdict::Yes(n) = image_functions::judge(image, count) else {
         return Verdict::No;
     };
-    if naming::all_named_once(image, count) {
+    if image_naming::all_named_once(image, count) {
         return Verdict::Yes(n);
     }
     Verdict::No
@@ -59,13 +59,13 @@ pub fn code_part(image: &[u8], k: usize) -> Answer
     if k >= fields::wide32(fields::u32_at(image, 2)) {
         return refused(Refusal::NoSuchFunction);
     }
-    let Place::At(at) = records::function_place(image, k) else {
+    let Place::At(at) = image_records::function_place(image, k) else {
         return refused(Refusal::ImageRefused);
     };
-    let Place::At(next) = records::skip_function(image, at) else {
+    let Place::At(next) = image_records::skip_function(image, at) else {
         return refused(Refusal::ImageRefused);
     };
-    let Head::Is(h) = records::head_of(image, at) else {
+    let Head::Is(h) = image_records::head_of(image, at) else {
         return refused(Refusal::ImageRefused);
     };
     let size = fields::long32(h.code);

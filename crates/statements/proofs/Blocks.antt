@@ -1,4 +1,4 @@
--- A block, the levels left being some number that no code has: the laws of crates/arms at the depth that the statement was read at.
+-- A block, the levels left being some number that no code has: the laws of crates/stmt_laws at the depth that the statement was read at.
 use mathlib.Core.Path.{_≡_, refl}
 use mathlib.Core.List.{List}
 use Prim.Native.Nat.{ℕ, _+_, _-_, _*_, _≤_, _<_}
@@ -8,13 +8,13 @@ use Rattle.rules.specs.declared.Span.{Span}
 use Rattle.rules.specs.declared.Refusal.{Refusal}
 use Rattle.rules.specs.Compiler.{begin-scope, end-scope}
 use Rattle.fields.specs.Words.{word16, letters, span-of}
-use Rattle.parsed.proofs.Statements.{block-at}
+use Rattle.tree_laws.proofs.Statements.{block-at}
 use Rattle.steps.specs.View.{Mem, mem, Fit, deeper, shallower, Gave, Did}
 use Rattle.steps.specs.declared.Step.{Step}
 use Rattle.steps.specs.declared.Step.the-variants.{Stop}
-use Rattle.parts.specs.Output.{funs-left}
-use Rattle.arms.proofs.Calls as calls
-use Rattle.arms.proofs.Blocks as ways
+use Rattle.stmt_output_laws.specs.Output.{funs-left}
+use Rattle.stmt_laws.proofs.Calls as calls
+use Rattle.stmt_laws.proofs.Blocks as ways
 use Rattle.statements.specs.Walk.{StmtThere, StmtDone}
 use Rattle.statements.proofs.Walks.{RowIn, row-start, row-stop, row-done, done-of}
 use Rattle.state.specs.Layout.{depth-place, level-words}

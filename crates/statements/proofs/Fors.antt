@@ -1,4 +1,4 @@
--- A `for`, the levels left being some number that no code has: the laws of crates/arms at the depth that the statement was read at. Those are over a row
+-- A `for`, the levels left being some number that no code has: the laws of crates/stmt_laws at the depth that the statement was read at. Those are over a row
 -- of none or one for the start, which may be missing.
 use mathlib.Core.Path.{_≡_, refl, sym, ap, subst}
 use mathlib.Core.Bool.{true}
@@ -10,18 +10,18 @@ use Rattle.rules.specs.declared.Span.{Span}
 use Rattle.rules.specs.declared.Refusal.{Refusal}
 use Rattle.rules.specs.Compiler.{begin-scope, end-scope, compile-stmts}
 use Rattle.fields.specs.Words.{word8, word16, letters, span-of}
-use Rattle.parsed.proofs.Statements.{for-at}
+use Rattle.tree_laws.proofs.Statements.{for-at}
 use Rattle.steps.specs.View.{Mem, mem, Fit, code-len, steady, deeper, shallower, Gave, Did, Measured}
 use Rattle.steps.specs.declared.Step.{Step}
 use Rattle.steps.specs.declared.Step.the-variants.{Next, Stop}
-use Rattle.compiler.specs.Exprs.{There}
-use Rattle.parts.specs.Output.{funs-left, stmts-at, Walked, Ready}
+use Rattle.expressions.specs.Exprs.{There}
+use Rattle.stmt_output_laws.specs.Output.{funs-left, stmts-at, Walked, Ready}
 use Rattle.stmt_jumps.specs.Jumps.{close-loop}
-use Rattle.loops.specs.Loops.{cond-at, incr-at, place-of, CondThere, IncrThere, Conditioned, Incremented}
-use Rattle.loops.specs.declared.Cond.{Cond}
-use Rattle.arms.proofs.Calls as calls
-use Rattle.arms.proofs.Blocks as blocks
-use Rattle.arms.proofs.Fors as ways
+use Rattle.stmt_loops.specs.Loops.{cond-at, incr-at, place-of, CondThere, IncrThere, Conditioned, Incremented}
+use Rattle.stmt_loops.specs.declared.Cond.{Cond}
+use Rattle.stmt_laws.proofs.Calls as calls
+use Rattle.stmt_laws.proofs.Blocks as blocks
+use Rattle.stmt_laws.proofs.Fors as ways
 use Rattle.statements.specs.Walk.{StmtThere, StmtDone}
 use Rattle.statements.proofs.Ones as ones
 use Rattle.statements.proofs.Walks.{Child, child-of, done-of}

@@ -1,4 +1,4 @@
--- A function, and the statement that is one, the levels left being some number that no code has: the laws of crates/arms at the depth that it was read at.
+-- A function, and the statement that is one, the levels left being some number that no code has: the laws of crates/stmt_laws at the depth that it was read at.
 use mathlib.Core.Path.{_≡_, refl, subst}
 use mathlib.Core.List.{List}
 use Prim.Native.Nat.{ℕ, suc, _+_, _-_, _*_, _≤_, _<_}
@@ -11,18 +11,18 @@ use Rattle.rules.specs.declared.Refusal.the-variants.{TreeForm}
 use Rattle.rules.specs.TreeFile.{read-stmt}
 use Rattle.rules.specs.Compiler.{define-name, compile-stmts}
 use Rattle.fields.specs.Words.{word16, letters, span-of}
-use Rattle.parsed.proofs.Statements.{fun-of}
-use Rattle.parsed.proofs.Later.{later-names}
+use Rattle.tree_laws.proofs.Statements.{fun-of}
+use Rattle.tree_laws.proofs.Later.{later-names}
 use Rattle.state.specs.Layout.{levels, deepest, image-at, type-of, Wf, depth-place, level-words}
 use Rattle.steps.specs.View.{Mem, mem, Fit, steady, Did}
 use Rattle.steps.specs.declared.Step.{Step}
 use Rattle.steps.specs.declared.Step.the-variants.{Next, Stop}
-use Rattle.compiler.specs.Exprs.{There}
-use Rattle.parts.specs.Output.{funs-left, largest, stmts-at, fun-at, Walked}
-use Rattle.parts.specs.Parts.{open-function}
-use Rattle.closures.specs.Functions.{FunHead, FunctionOpened, FunctionOpenedAs, FunctionClosed}
-use Rattle.arms.proofs.Calls as calls
-use Rattle.arms.proofs.Functions as ways
+use Rattle.expressions.specs.Exprs.{There}
+use Rattle.stmt_output_laws.specs.Output.{funs-left, largest, stmts-at, fun-at, Walked}
+use Rattle.stmt_output_laws.specs.Parts.{open-function}
+use Rattle.stmt_functions.specs.Functions.{FunHead, FunctionOpened, FunctionOpenedAs, FunctionClosed}
+use Rattle.stmt_laws.proofs.Calls as calls
+use Rattle.stmt_laws.proofs.Functions as ways
 use Rattle.statements.specs.Walk.{StmtThere, StmtDone, FunThere, FunDone}
 use Rattle.statements.proofs.Walks.{Child, RowIn, row-start, row-stop, row-done, in-fun, done-of, any-fun, to-fun}
 use Rattle.fields.specs.Marks as marks

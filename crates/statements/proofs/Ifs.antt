@@ -1,4 +1,4 @@
--- An `if`, the levels left being some number that no code has: the laws of crates/arms at the depth that the statement was read at. Those are over a row
+-- An `if`, the levels left being some number that no code has: the laws of crates/stmt_laws at the depth that the statement was read at. Those are over a row
 -- of none or one for the part that may be missing.
 use mathlib.Core.Path.{_≡_, refl, sym, _∙_}
 use mathlib.Core.List.{List}
@@ -9,15 +9,15 @@ use Rattle.rules.specs.declared.Span.{Span}
 use Rattle.rules.specs.declared.Refusal.{Refusal}
 use Rattle.rules.specs.Compiler.{patch-jump, compile-stmts}
 use Rattle.fields.specs.Words.{word8, word16, letters, span-of}
-use Rattle.parsed.proofs.Statements.{if-at, flag-is}
+use Rattle.tree_laws.proofs.Statements.{if-at, flag-is}
 use Rattle.steps.specs.View.{Mem, Fit, code-len, steady, Did, Opened}
 use Rattle.steps.specs.declared.Step.{Step}
 use Rattle.steps.specs.declared.Step.the-variants.{Next, Stop}
-use Rattle.compiler.specs.Exprs.{There, Somewhere, expr-at, Ran}
+use Rattle.expressions.specs.Exprs.{There, Somewhere, expr-at, Ran}
 use Rattle.stmt_jumps.specs.Jumps.{open-jump, turn-jump}
-use Rattle.parts.specs.Output.{funs-left, stmts-at, Walked, Ready}
-use Rattle.arms.proofs.Calls as calls
-use Rattle.arms.proofs.Ifs as ways
+use Rattle.stmt_output_laws.specs.Output.{funs-left, stmts-at, Walked, Ready}
+use Rattle.stmt_laws.proofs.Calls as calls
+use Rattle.stmt_laws.proofs.Ifs as ways
 use Rattle.statements.specs.Walk.{StmtThere, StmtDone}
 use Rattle.statements.proofs.Ones as ones
 use Rattle.statements.proofs.Walks.{Child, child-of, done-of}

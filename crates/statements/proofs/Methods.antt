@@ -1,4 +1,4 @@
--- A class, the levels left being some number that no code has: the laws of crates/arms at the depth that the statement was read at, and the loop over
+-- A class, the levels left being some number that no code has: the laws of crates/stmt_laws at the depth that the statement was read at, and the loop over
 -- the methods, each of which is a function and the instruction behind it.
 use mathlib.Core.Path.{_≡_, ap, _∙_}
 use mathlib.Core.List.{List}
@@ -11,20 +11,20 @@ use Rattle.rules.specs.Op as op
 use Rattle.rules.specs.Chunk.{CS}
 use Rattle.rules.specs.Compiler.{method-type, emit-op-constant}
 use Rattle.fields.specs.Words.{word8, word16, letters, span-of}
-use Rattle.parsed.proofs.Later.{later-method}
+use Rattle.tree_laws.proofs.Later.{later-method}
 use Rattle.state.specs.Layout.{type-of, depth-place, level-words}
 use Rattle.steps.specs.View.{Mem, mem, Fit, steady, Did}
 use Rattle.steps.specs.declared.Step.{Step}
 use Rattle.steps.specs.declared.Step.the-variants.{Next, Stop}
 use Rattle.steps.proofs.Steps.{valued}
-use Rattle.compiler.specs.Exprs.{There}
-use Rattle.parts.specs.Output.{funs-left, stmt-at, method-at, methods-at, Walked}
-use Rattle.parts.specs.Parts.{compile-method}
-use Rattle.parts.proofs.Growing.{reached}
-use Rattle.classes.specs.Classes.{ClassHead, InnerClass, ClassOpened, ClassClosed}
-use Rattle.arms.proofs.Calls as calls
-use Rattle.arms.proofs.Classes as ways
-use Rattle.arms.proofs.Functions as functions
+use Rattle.expressions.specs.Exprs.{There}
+use Rattle.stmt_output_laws.specs.Output.{funs-left, stmt-at, method-at, methods-at, Walked}
+use Rattle.stmt_output_laws.specs.Parts.{compile-method}
+use Rattle.stmt_output_laws.proofs.Growing.{reached}
+use Rattle.stmt_classes.specs.Classes.{ClassHead, InnerClass, ClassOpened, ClassClosed}
+use Rattle.stmt_laws.proofs.Calls as calls
+use Rattle.stmt_laws.proofs.Classes as ways
+use Rattle.stmt_laws.proofs.Functions as functions
 use Rattle.statements.specs.Walk.{StmtThere, StmtDone, FunThere, FunDone}
 use Rattle.statements.proofs.Walks.{any-depth, done-of}
 use Rattle.fields.specs.Marks as marks

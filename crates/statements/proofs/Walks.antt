@@ -10,18 +10,18 @@ use Rattle.rules.specs.declared.Refusal.{Refusal}
 use Rattle.rules.specs.declared.Refusal.the-variants.{TreeForm}
 use Rattle.rules.specs.Compiler.{compile-stmt, compile-stmts, compile-function}
 use Rattle.fields.specs.Words.{word16}
-use Rattle.parsed.proofs.Depths.{same-stmt, same-stmts, same-fun}
-use Rattle.parsed.proofs.Later.{later-stmt}
+use Rattle.tree_laws.proofs.Depths.{same-stmt, same-stmts, same-fun}
+use Rattle.tree_laws.proofs.Later.{later-stmt}
 use Rattle.state.specs.Layout.{type-of}
 use Rattle.steps.specs.View.{Mem}
 use Rattle.steps.specs.declared.Step.{Step}
 use Rattle.steps.specs.declared.Step.the-variants.{Next, Stop}
-use Rattle.compiler.specs.Exprs.{There}
-use Rattle.parts.specs.Output.{funs-left, stmt-at, stmts-at, fun-at, Walked, Ready}
-use Rattle.parts.proofs.Growing.{reached}
-use Rattle.plain.specs.Plain.{Plainly}
-use Rattle.arms.proofs.Calls as calls
-use Rattle.arms.proofs.Rows as rows
+use Rattle.expressions.specs.Exprs.{There}
+use Rattle.stmt_output_laws.specs.Output.{funs-left, stmt-at, stmts-at, fun-at, Walked, Ready}
+use Rattle.stmt_output_laws.proofs.Growing.{reached}
+use Rattle.stmt_plain.specs.Plain.{Plainly}
+use Rattle.stmt_laws.proofs.Calls as calls
+use Rattle.stmt_laws.proofs.Rows as rows
 use Rattle.statements.specs.Walk.{StmtThere, StmtDone, RowThere, RowDone, FunDone}
 
 -- ## What a law says at the depth that something was read at holds at any

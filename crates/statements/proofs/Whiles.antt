@@ -1,4 +1,4 @@
--- A `while`, the levels left being some number that no code has: the laws of crates/arms at the depth that the statement was read at.
+-- A `while`, the levels left being some number that no code has: the laws of crates/stmt_laws at the depth that the statement was read at.
 use mathlib.Core.Path.{_≡_}
 use mathlib.Core.Bool.{true}
 use mathlib.Core.Option.{some}
@@ -11,10 +11,10 @@ use Rattle.fields.specs.Words.{letters, span-of}
 use Rattle.steps.specs.View.{Mem, mem, Fit, code-len, steady, Did, Opened, Measured}
 use Rattle.steps.specs.declared.Step.{Step}
 use Rattle.steps.specs.declared.Step.the-variants.{Next, Stop}
-use Rattle.compiler.specs.Exprs.{Somewhere, expr-at, Ran}
+use Rattle.expressions.specs.Exprs.{Somewhere, expr-at, Ran}
 use Rattle.stmt_jumps.specs.Jumps.{open-jump}
 use Rattle.stmt_jumps.specs.Jumps.{close-loop}
-use Rattle.arms.proofs.Whiles as ways
+use Rattle.stmt_laws.proofs.Whiles as ways
 use Rattle.statements.specs.Walk.{StmtThere, StmtDone}
 use Rattle.statements.proofs.Walks.{Child, child-of, done-of}
 use Rattle.fields.specs.Marks as marks

@@ -7,7 +7,7 @@ use native.Mathlib.Omega.{arith}
 use lib.ListN.{length}
 use borrow.Author.Needs.{needs}
 use Rattle.steps.specs.View.{mem}
-use Rattle.arms.proofs.Calls as calls
+use Rattle.stmt_laws.proofs.Calls as calls
 use Rattle.statements.proofs.Fors as fors
 use Rattle.statements.proofs.+compile_function+compile_stmt.Lts-compile_stmt as lts
 use Rattle.statements.proofs.+compile_function+compile_stmt.Proof.Shared.{here, mark-4, spanned-4, start-4}

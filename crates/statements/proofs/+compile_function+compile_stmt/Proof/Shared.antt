@@ -9,7 +9,7 @@ use borrow.Fn.Kinds.{In, Out}
 use borrow.Fn.PlainCycle.{Measures, is, falls, and}
 use Rattle.fields.specs.Words.{word16, letters}
 use Rattle.steps.specs.View.{mem}
-use Rattle.arms.proofs.Calls as calls
+use Rattle.stmt_laws.proofs.Calls as calls
 use Rattle.statements.proofs.Methods as methods
 use Rattle.statements.proofs.Walks as walks
 use Rattle.statements.proofs.compile_stmt.Reads as stmt-reads
@@ -18,23 +18,23 @@ use Rattle.statements.proofs.compile_function.Reads as function-reads
 use Rattle.statements.proofs.compile_function.Kinds as function-kinds
 use Rattle.statements.proofs.+compile_function+compile_stmt.Lts-compile_stmt as lts
 use Rattle.statements.proofs.+compile_function+compile_stmt.Lts-compile_function as function-lts
-use Rattle.classes.proofs.close_class.Reads as close-class
-use Rattle.classes.proofs.inner_class.Reads as inner-class
-use Rattle.classes.proofs.method_kind.Reads as method-kind
-use Rattle.classes.proofs.open_class.Reads as open-class
-use Rattle.closures.proofs.close_function.Reads as close-function
-use Rattle.closures.proofs.open_function.Reads as open-function
-use Rattle.compiler.proofs.compile_expr.Reads as compile-expr
+use Rattle.stmt_classes.proofs.close_class.Reads as close-class
+use Rattle.stmt_classes.proofs.inner_class.Reads as inner-class
+use Rattle.stmt_classes.proofs.method_kind.Reads as method-kind
+use Rattle.stmt_classes.proofs.open_class.Reads as open-class
+use Rattle.stmt_functions.proofs.close_function.Reads as close-function
+use Rattle.stmt_functions.proofs.open_function.Reads as open-function
+use Rattle.expressions.proofs.compile_expr.Reads as compile-expr
 use Rattle.stmt_jumps.proofs.open_jump.Reads as open-jump
 use Rattle.stmt_jumps.proofs.turn_jump.Reads as turn-jump
 use Rattle.fields.proofs.mark_at.Reads as mark-at
 use Rattle.fields.proofs.span_at.Reads as span-at
 use Rattle.fields.proofs.u16_at.Reads as u16-at
 use Rattle.fields.proofs.u8_at.Reads as u8-at
-use Rattle.loops.proofs.for_cond.Reads as for-cond
-use Rattle.loops.proofs.for_incr.Reads as for-incr
+use Rattle.stmt_loops.proofs.for_cond.Reads as for-cond
+use Rattle.stmt_loops.proofs.for_incr.Reads as for-incr
 use Rattle.stmt_jumps.proofs.close_loop.Reads as close-loop
-use Rattle.plain.proofs.compile_plain.Reads as compile-plain
+use Rattle.stmt_plain.proofs.compile_plain.Reads as compile-plain
 use Rattle.step_scopes.proofs.begin_scope.Reads as begin-scope
 use Rattle.step_jumps.proofs.code_length.Reads as code-length
 use Rattle.step_names.proofs.define_name.Reads as define-name

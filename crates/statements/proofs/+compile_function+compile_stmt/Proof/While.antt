@@ -4,7 +4,7 @@ use mathlib.Core.Path.{_∙_}
 use Prim.Native.Nat.{ℕ}
 use native.Mathlib.Omega.{arith}
 use borrow.Author.Needs.{needs}
-use Rattle.arms.proofs.Calls as calls
+use Rattle.stmt_laws.proofs.Calls as calls
 use Rattle.statements.proofs.Whiles as whiles
 use Rattle.statements.proofs.+compile_function+compile_stmt.Lts-compile_stmt as lts
 use Rattle.statements.proofs.+compile_function+compile_stmt.Proof.Shared.{here, mark-3, spanned-3, start-3}
