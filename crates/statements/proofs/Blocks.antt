@@ -40,8 +40,10 @@ module _ {tree : List ℕ} {l at limit : ℕ} {before : Mem} (p : StmtThere tree
       far = further at;
     }
 
-    module _ {span : Span} (sp : span ≡ span-of tree (at + 2)) {t1 code1 spans1 out out1 : List ℕ} {next more : ℕ} (w : RowIn class limit l tree at (word16 tree (at + 10)) (at + 12) m0 out (mem t1 code1 spans1) out1 next more) where
-      pub stop : 0 < more → {m2 : Mem} {out2 : List ℕ} {a : Step} → StmtDone class limit l tree next (mem t1 code1 spans1) out1 m2 out2 a → {x : Refusal} → a ≡ Stop x → StmtDone class limit l tree at before out m2 out2 a
+    module _ {span : Span} (sp : span ≡ span-of tree (at + 2)) {t1 code1 spans1 out out1 : List ℕ} {next more : ℕ}
+        (w : RowIn class limit l tree at (word16 tree (at + 10)) (at + 12) m0 out (mem t1 code1 spans1) out1 next more) where
+      pub stop : 0 < more → {m2 : Mem} {out2 : List ℕ} {a : Step} → StmtDone class limit l tree next (mem t1 code1 spans1) out1 m2 out2 a → {x : Refusal} → a ≡ Stop x
+          → StmtDone class limit l tree at before out m2 out2 a
       stop h b q = done-of p (ways.block-stop tree l at (p .left) mark sp o (row-stop (w .row) h b q .at-depth (p .left - 1)) q)
 
       module _ (h : more ≤ 0) where

@@ -74,7 +74,8 @@ module _ {tree : List ℕ} {l at limit : ℕ} {before : Mem} (p : StmtThere tree
       module _ {m1 : Mem} {out out1 : List ℕ} {ra : Step} (b : StmtDone class limit l tree (at + 11) m0 out m1 out1 ra) where
         pub stop : {span : Span} → span ≡ span-of tree (at + 2) → {x : Refusal} → ra ≡ Stop x → StmtDone class limit l tree at before out m1 out1 ra
         stop {span} sp q = done-of p
-            (ways.for-stop tree l at (p .left) mark span o (calls.walked-as tree (p .left - 1) l (at + 11) (one-of ep z) (ones.one-stop tree l (at + 11) (p .left - 1) init-ready (b .at-depth (p .left - 1)) q)) sp q)
+            (ways.for-stop tree l at (p .left) mark span o
+            (calls.walked-as tree (p .left - 1) l (at + 11) (one-of ep z) (ones.one-stop tree l (at + 11) (p .left - 1) init-ready (b .at-depth (p .left - 1)) q)) sp q)
 
         pub init-one : {n1 : ℕ} → ra ≡ Next n1 → Init class limit l tree (p .left) at m0 out m1 out1 n1
         init-one q = calls.walked-as tree (p .left - 1) l (at + 11) (one-of ep z) (ones.one-walked tree l (at + 11) (p .left - 1) init-ready (b .at-depth (p .left - 1)) init-there q)
@@ -109,7 +110,11 @@ module _ {tree : List ℕ} {l at limit : ℕ} {before : Mem} (p : StmtThere tree
               fit-2 = ways.for-fit-2 tree l at (p .left) mark span o w refl fit (k .says class code1 spans1) tested qb (d .at-depth (p .left - 1)) qd (p .there)
 
               pub incr-there : IncrThere tree parts n3
-              incr-there = record { left = p .left - 1; there = calls.incr-as tree (p .left - 1) n3 ep (ways.for-incr-there tree l at (p .left) mark span o w refl fit (k .says class code1 spans1) tested qb (d .at-depth (p .left - 1)) qd (p .there)) }
+              incr-there = record {
+                left = p .left - 1;
+                there = calls.incr-as tree (p .left - 1) n3 ep
+                    (ways.for-incr-there tree l at (p .left) mark span o w refl fit (k .says class code1 spans1) tested qb (d .at-depth (p .left - 1)) qd (p .there));
+              }
 
               module _ {m4 : Mem} {re : Step} (e : (d : ℕ) → Incremented class limit l (incr-at tree parts d n3) span m3 m4 re) where
                 moved : Incremented class limit l (incr-at tree (word8 tree (at + 10)) (p .left - 1) n3) span m3 m4 re
@@ -126,7 +131,8 @@ module _ {tree : List ℕ} {l at limit : ℕ} {before : Mem} (p : StmtThere tree
                     ways.for-place tree l at (p .left) mark span o w refl fit (k .says class code1 spans1) tested qb (d .at-depth (p .left - 1)) qd moved qe (p .there),
                   )
 
-                  module _ {t5 code5 spans5 : List ℕ} {rf : Step} (f : (class : ℕ) → Did class limit l n4 steady (close-loop limit start (place-of (b .some) (b .place)) span) m4 (mem t5 code5 spans5) rf) where
+                  module _ {t5 code5 spans5 : List ℕ} {rf : Step}
+                      (f : (class : ℕ) → Did class limit l n4 steady (close-loop limit start (place-of (b .some) (b .place)) span) m4 (mem t5 code5 spans5) rf) where
                     pub stop-5 : {x : Refusal} → rf ≡ Stop x → StmtDone class limit l tree at before out (mem t5 code5 spans5) out3 rf
                     stop-5 q = done-of p (ways.for-stop-5 tree l at (p .left) mark span o w refl fit (k .says class code1 spans1) tested qb (d .at-depth (p .left - 1)) qd moved qe (f class) sp q)
 
@@ -134,8 +140,11 @@ module _ {tree : List ℕ} {l at limit : ℕ} {before : Mem} (p : StmtThere tree
                       pub end : Fit (mem t5 code5 spans5) l limit × (0 < getD t5 (l * level-words + depth-place) 0)
                       end = (
                         ways.for-fit-4 tree l at (p .left) mark span o w refl fit (k .says class code1 spans1) tested qb (d .at-depth (p .left - 1)) qd moved qe (f class) qf,
-                        calls.deep-enough t5 code5 spans5 l (ways.for-deep tree l at (p .left) mark span o w refl fit (k .says class code1 spans1) tested qb (d .at-depth (p .left - 1)) qd moved qe (f class) qf (p .there)),
+                        calls.deep-enough t5 code5 spans5 l
+                            (ways.for-deep tree l at (p .left) mark span o w refl fit (k .says class code1 spans1) tested qb (d .at-depth (p .left - 1)) qd moved qe (f class) qf (p .there)),
                       )
 
-                      pub done : {now : Mem} {rg : Step} → ((class : ℕ) → Did class limit l n4 shallower (end-scope limit span) (mem t5 code5 spans5) now rg) → StmtDone class limit l tree at before out now out3 rg
-                      done g = done-of p (ways.for-done tree l at (p .left) mark span o w refl fit (k .says class code1 spans1) tested qb (d .at-depth (p .left - 1)) qd moved qe (f class) qf sp (g class))
+                      pub done : {now : Mem} {rg : Step} → ((class : ℕ) → Did class limit l n4 shallower (end-scope limit span) (mem t5 code5 spans5) now rg)
+                          → StmtDone class limit l tree at before out now out3 rg
+                      done g = done-of p
+                          (ways.for-done tree l at (p .left) mark span o w refl fit (k .says class code1 spans1) tested qb (d .at-depth (p .left - 1)) qd moved qe (f class) qf sp (g class))

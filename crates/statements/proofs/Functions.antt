@@ -1,5 +1,5 @@
 -- A function, and the statement that is one, the levels left being some number that no code has: the laws of crates/stmt_laws at the depth that it was read at.
-use mathlib.Core.Path.{_≡_, refl, subst}
+use mathlib.Core.Path.{_≡_, refl}
 use mathlib.Core.List.{List}
 use Prim.Native.Nat.{ℕ, suc, _+_, _-_, _*_, _≤_, _<_}
 use native.Mathlib.Omega.{arith}
@@ -7,20 +7,14 @@ use lib.ListN.{length, getD}
 use Rattle.rules.specs.Limits.{max-tree, max-code}
 use Rattle.rules.specs.declared.Span.{Span}
 use Rattle.rules.specs.declared.Refusal.{Refusal}
-use Rattle.rules.specs.declared.Refusal.the-variants.{TreeForm}
-use Rattle.rules.specs.TreeFile.{read-stmt}
 use Rattle.rules.specs.Compiler.{define-name, compile-stmts}
 use Rattle.fields.specs.Words.{word16, letters, span-of}
-use Rattle.tree_laws.proofs.Statements.{fun-of}
-use Rattle.tree_laws.proofs.Later.{later-names}
-use Rattle.state.specs.Layout.{levels, deepest, image-at, type-of, Wf, depth-place, level-words}
+use Rattle.state.specs.Layout.{levels, deepest, image-at, Wf, depth-place, level-words}
 use Rattle.steps.specs.View.{Mem, mem, Fit, steady, Did}
 use Rattle.steps.specs.declared.Step.{Step}
 use Rattle.steps.specs.declared.Step.the-variants.{Next, Stop}
-use Rattle.expressions.specs.Exprs.{There}
-use Rattle.stmt_output_laws.specs.Output.{funs-left, largest, stmts-at, fun-at, Walked}
-use Rattle.stmt_output_laws.specs.Parts.{open-function}
-use Rattle.stmt_functions.specs.Functions.{FunHead, FunctionOpened, FunctionOpenedAs, FunctionClosed}
+use Rattle.stmt_output_laws.specs.Output.{largest, stmts-at, Walked}
+use Rattle.stmt_functions.specs.Functions.{FunHead, FunctionOpened, FunctionClosed}
 use Rattle.stmt_laws.proofs.Calls as calls
 use Rattle.stmt_laws.proofs.Functions as ways
 use Rattle.statements.specs.Walk.{StmtThere, StmtDone, FunThere, FunDone}
@@ -28,6 +22,9 @@ use Rattle.statements.proofs.Walks.{Child, RowIn, row-start, row-stop, 
 use Rattle.fields.specs.Marks as marks
 
 -- ## The function
+
+less : {a b : ℕ} → a + 1 ≤ b → a < b
+less h = omega arith
 
 within : (at k n : ℕ) → at < k → k ≤ n → at + 1 ≤ n
 within at k n h g = omega arith
@@ -49,14 +46,10 @@ module _ {tree : List ℕ} {l at limit : ℕ} {t0 code0 spans0 : List ℕ} (p : 
 
       -- the body starts behind the head
       behind : at < first + 2
-      behind =
-          let i = fun-of tree (word16 tree 2) (read-stmt tree (word16 tree 2) (p .left) (funs-left (suc l))) at (p .there .is) in
-          let z = later-names tree (word16 tree 2) (TreeForm at) (word16 tree (at + 12)) (at + 14) (i .row-is) in
-          let o = subst (λ (s : Step). FunctionOpenedAs l (i .mid) (open-function (type-of kind) (word16 tree (at + 10)) (i .params) span) t0 t1 s) qa (a .did (i .params) (i .mid) (i .row-is)) in
-          let e = o .1 in
-          omega (arith, z, e)
+      behind = less (ways.behind tree l at (p .left) kind span a qa (p .there .is))
 
-      pub start : {class more : ℕ} (out : List ℕ) → more ≡ word16 tree first → RowIn class limit (l + 1) tree at (word16 tree first) (first + 2) (mem t1 code0 spans0) out (mem t1 code0 spans0) out (first + 2) more
+      pub start : {class more : ℕ} (out : List ℕ) → more ≡ word16 tree first
+          → RowIn class limit (l + 1) tree at (word16 tree first) (first + 2) (mem t1 code0 spans0) out (mem t1 code0 spans0) out (first + 2) more
       start out q = record {
         row = row-start
             (record {
@@ -68,7 +61,8 @@ module _ {tree : List ℕ} {l at limit : ℕ} {t0 code0 spans0 : List ℕ} (p : 
         far = behind;
       }
 
-      module _ {class : ℕ} {out t2 code2 spans2 out2 : List ℕ} {next more : ℕ} (w : RowIn class limit (l + 1) tree at (word16 tree first) (first + 2) (mem t1 code0 spans0) out (mem t2 code2 spans2) out2 next more) where
+      module _ {class : ℕ} {out t2 code2 spans2 out2 : List ℕ} {next more : ℕ}
+          (w : RowIn class limit (l + 1) tree at (word16 tree first) (first + 2) (mem t1 code0 spans0) out (mem t2 code2 spans2) out2 next more) where
         pub child : {t : ℕ} → 0 < more → 2 * (length tree - at) ≡ t → Child tree (mem t2 code2 spans2) next (l + 1) limit t
         child h e = in-fun w h (within at (first + 2) (length tree) behind bound) e
 
@@ -78,7 +72,8 @@ module _ {tree : List ℕ} {l at limit : ℕ} {t0 code0 spans0 : List ℕ} (p : 
             (ways.function-stop-2 tree l at (p .left) kind span a qa (calls.walked-higher tree (p .left) l (first + 2) refl (row-stop (w .row) h b q .at-depth (p .left))) low q)
 
         module _ (h : more ≤ 0) where
-          body : Walked class limit (suc l) (first + 2) (stmts-at tree (word16 tree first) (p .left) (suc l) (first + 2)) (compile-stmts limit) (mem t1 code0 spans0) out (mem t2 code2 spans2) out2 (Next next)
+          body : Walked class limit (suc l) (first + 2) (stmts-at tree (word16 tree first) (p .left) (suc l) (first + 2)) (compile-stmts limit) (mem t1 code0 spans0) out (mem t2 code2 spans2) out2
+              (Next next)
           body = calls.walked-higher tree (p .left) l (first + 2) refl (row-done (w .row) h .at-depth (p .left))
 
           pub close : (l + 1 < levels) × Fit (mem t2 code2 spans2) (l + 1) limit × (limit ≤ max-code) × (getD t2 image-at 0 ≤ max-tree) × (getD t2 (image-at + 1) 0 ≤ max-tree * largest)
@@ -90,7 +85,8 @@ module _ {tree : List ℕ} {l at limit : ℕ} {t0 code0 spans0 : List ℕ} (p : 
             ways.function-bytes tree l at (p .left) kind span a qa body refl (p .there) low (p .ready),
           )
 
-          pub done : {now : Mem} {out3 : List ℕ} {r : Step} → ((class : ℕ) → FunctionClosed class limit l next span (mem t2 code2 spans2) out2 now out3 r) → FunDone class limit l kind span tree at (mem t0 code0 spans0) out now out3 r
+          pub done : {now : Mem} {out3 : List ℕ} {r : Step} → ((class : ℕ) → FunctionClosed class limit l next span (mem t2 code2 spans2) out2 now out3 r)
+              → FunDone class limit l kind span tree at (mem t0 code0 spans0) out now out3 r
           done {now} {out3} d = any-fun tree l at (p .left) kind span (p .there) (ways.function-done tree l at (p .left) kind span a qa body refl low now out3 (d class))
 
 -- ## The statement
@@ -117,5 +113,6 @@ module _ {tree : List ℕ} {l at limit : ℕ} {before : Mem} (p : StmtThere tree
     pub fun-fit : {n : ℕ} → ra ≡ Next n → Fit m1 l limit
     fun-fit q = ways.fun-fit tree l at (p .left) mark span sp (a .at-depth (p .left - 1)) (p .there) q
 
-    pub fun-done : {n name : ℕ} {now : Mem} {rb : Step} → ra ≡ Next n → name ≡ word16 tree (at + 10) → ((class : ℕ) → Did class limit l n steady (define-name limit name span) m1 now rb) → StmtDone class limit l tree at before out now out1 rb
+    pub fun-done : {n name : ℕ} {now : Mem} {rb : Step} → ra ≡ Next n → name ≡ word16 tree (at + 10) → ((class : ℕ) → Did class limit l n steady (define-name limit name span) m1 now rb)
+        → StmtDone class limit l tree at before out now out1 rb
     fun-done q e d = done-of p (ways.fun-done tree l at (p .left) mark span sp (a .at-depth (p .left - 1)) q e (d class))

@@ -3,7 +3,7 @@
 use mathlib.Core.Path.{_≡_, refl, sym, _∙_}
 use mathlib.Core.List.{List}
 use mathlib.Core.Logic.{⊎-elim}
-use Prim.Native.Nat.{ℕ, _+_, _-_, _*_, _≤_, _<_}
+use Prim.Native.Nat.{ℕ, _+_, _-_, _*_, _≤_}
 use lib.ListN.{length}
 use Rattle.rules.specs.declared.Span.{Span}
 use Rattle.rules.specs.declared.Refusal.{Refusal}
@@ -81,7 +81,8 @@ module _ {tree : List ℕ} {l at limit : ℕ} {before : Mem} (p : StmtThere tree
                     ways.if-place-2 tree l at (p .left) mark span (a (p .left - 1)) qa (b class) qb (d .at-depth (p .left - 1)) qd (e class) qe f qf (p .there),
                   )
 
-                  row-done : {n3 : ℕ} → rf ≡ Next n3 → {now : Mem} {rg : Step} → ((class : ℕ) → Did class limit l n3 steady (patch-jump k span) m5 now rg) → StmtDone class limit l tree at before out now out5 rg
+                  row-done : {n3 : ℕ} → rf ≡ Next n3 → {now : Mem} {rg : Step} → ((class : ℕ) → Did class limit l n3 steady (patch-jump k span) m5 now rg)
+                      → StmtDone class limit l tree at before out now out5 rg
                   row-done qf g = done-of p (ways.if-done tree l at (p .left) mark span (a (p .left - 1)) qa (b class) qb (d .at-depth (p .left - 1)) qd (e class) qe f qf sp (g class))
 
                 -- there is no second part
@@ -102,7 +103,8 @@ module _ {tree : List ℕ} {l at limit : ℕ} {before : Mem} (p : StmtThere tree
 
                   pub no : {t : ℕ} → 2 * (length tree - at) + 1 ≡ t → Child tree m4 n2 l limit t
                   no s =
-                      child-of p s (ways.if-far-2 tree l at (p .left) mark span (a (p .left - 1)) qa (b class) qb (d .at-depth (p .left - 1)) qd (p .there)) (ones.one-there tree l n2 (p .left - 1) no-ready row-there) no-ready
+                      child-of p s (ways.if-far-2 tree l at (p .left) mark span (a (p .left - 1)) qa (b class) qb (d .at-depth (p .left - 1)) qd (p .there))
+                      (ones.one-there tree l n2 (p .left - 1) no-ready row-there) no-ready
 
                   module _ {m5 : Mem} {out5 : List ℕ} {rf : Step} (f : StmtDone class limit l tree n2 m4 out3 m5 out5 rf) where
                     pub stop-5 : {x : Refusal} → rf ≡ Stop x → StmtDone class limit l tree at before out m5 out5 rf

@@ -46,7 +46,8 @@ module _ {tree : List ℕ} {l at limit : ℕ} {before : Mem} (p : StmtThere tree
   pub head : ClassHead tree at
   head = ways.class-head tree l at (p .left) mark (p .there)
 
-module _ {tree : List ℕ} {l at limit : ℕ} {before : Mem} (p : StmtThere tree before at l limit) (mark : letters tree at ≡ marks.SC) {span : Span} (sp : span ≡ span-of tree (at + 2)) {m1 : Mem} {ra : Step}
+module _ {tree : List ℕ} {l at limit : ℕ} {before : Mem} (p : StmtThere tree before at l limit) (mark : letters tree at ≡ marks.SC) {span : Span} (sp : span ≡ span-of tree (at + 2)) {m1 : Mem}
+    {ra : Step}
     (a : (class : ℕ) → ClassOpened class limit l tree at span before m1 ra) where
   pub stop : {class : ℕ} (out : List ℕ) {x : Refusal} → ra ≡ Stop x → StmtDone class limit l tree at before out m1 out ra
   stop {class} out q = done-of p (ways.class-stop tree l at (p .left) mark span sp (a class) out q)
@@ -85,10 +86,12 @@ module _ {tree : List ℕ} {l at limit : ℕ} {before : Mem} (p : StmtThere tree
         pub close : Fit (mem t2 code2 spans2) l limit × (word8 tree (at + 12) ≡ 1 → 0 < getD t2 (l * level-words + depth-place) 0)
         close = (w .row .ready .fit, λ q. calls.deep-enough t2 code2 spans2 l (ways.class-deep tree l at (w .left) mark span sp (a 0) qa inner i (w .row) (w .there) q))
 
-        pub done : {class : ℕ} → more ≤ 0 → {now : Mem} {rc : Step} → ((class : ℕ) → ClassClosed class limit l tree at next span (mem t2 code2 spans2) now rc) → StmtDone class limit l tree at before out now out2 rc
+        pub done : {class : ℕ} → more ≤ 0 → {now : Mem} {rc : Step} → ((class : ℕ) → ClassClosed class limit l tree at next span (mem t2 code2 spans2) now rc)
+            → StmtDone class limit l tree at before out now out2 rc
         done {class} h g = any-depth tree l at (w .left) (w .there) (ways.class-done tree l at (w .left) mark span sp (a class) qa inner i (w .row) h g)
 
-      module _ (h : 0 < more) {name kind : ℕ} {of : Span} (eo : of ≡ span-of tree (next + 2)) (en : name ≡ word16 tree (next + 10)) (ek : type-of kind ≡ method-type name) {m3 : Mem} {out3 : List ℕ} {rb : Step}
+      module _ (h : 0 < more) {name kind : ℕ} {of : Span} (eo : of ≡ span-of tree (next + 2)) (en : name ≡ word16 tree (next + 10)) (ek : type-of kind ≡ method-type name) {m3 : Mem}
+          {out3 : List ℕ} {rb : Step}
           (b : FunDone inner limit l kind of tree next (mem t2 code2 spans2) out2 m3 out3 rb) where
         pub method-fit : {n : ℕ} → rb ≡ Next n → Fit m3 l limit
         method-fit q = functions.method-fit tree l next (w .left - 1) of eo kind en ek (b .at-depth (w .left - 1 - 1)) (one h) q

@@ -35,7 +35,8 @@ pub done-of : {tree : List ℕ} {ready before now : Mem} {at l limit class : ℕ
 done-of {tree} {at = at} {l = l} p w = any-depth tree l at (p .left) (p .there) w
 
 -- a statement that finishes no function
-pub plainly : {tree : List ℕ} {before now : Mem} {at l limit class : ℕ} {out : List ℕ} {r : Step} → StmtThere tree before at l limit → ((d : ℕ) → Plainly class limit l (stmt-at tree d l at) before now r)
+pub plainly : {tree : List ℕ} {before now : Mem} {at l limit class : ℕ} {out : List ℕ} {r : Step} → StmtThere tree before at l limit
+    → ((d : ℕ) → Plainly class limit l (stmt-at tree d l at) before now r)
     → StmtDone class limit l tree at before out now out r
 plainly {tree} {at = at} {l = l} {out = out} p h = record { at-depth = λ d. calls.plainly tree d l at out (h d) }
 
@@ -72,7 +73,8 @@ pub record RowOf (class limit l : ℕ) (tree : List ℕ) (count from : ℕ) (bef
   pub whole : There (stmts-at tree count left l from)
   pub row : rows.Row class limit l tree count left from before out now out′ next more
 
-pub row-start : {class limit l count from more : ℕ} {tree : List ℕ} {m : Mem} {out : List ℕ} → RowThere tree m count from l limit → more ≡ count → RowOf class limit l tree count from m out m out from more
+pub row-start : {class limit l count from more : ℕ} {tree : List ℕ} {m : Mem} {out : List ℕ} → RowThere tree m count from l limit → more ≡ count
+    → RowOf class limit l tree count from m out m out from more
 row-start {class} {limit} {l} {count} {from} {more} {tree} {m} {out} p q = record {
   left = p .left;
   whole = p .there;
@@ -108,7 +110,8 @@ pub record RowIn (class limit l : ℕ) (tree : List ℕ) (at count from : ℕ) (
   pub row : RowOf class limit l tree count from before out now out′ next more
   pub far : at < next
 
-module _ {class limit l at count from : ℕ} {tree : List ℕ} {before now : Mem} {out out′ : List ℕ} {next more : ℕ} (w : RowIn class limit l tree at count from before out now out′ next more) (h : 0 < more) where
+module _ {class limit l at count from : ℕ} {tree : List ℕ} {before now : Mem} {out out′ : List ℕ} {next more : ℕ} (w : RowIn class limit l tree at count from before out now out′ next more)
+    (h : 0 < more) where
   pub in-stmt : {t : ℕ} → at + 10 ≤ length tree → 2 * (length tree - at) + 1 ≡ t → Child tree now next l limit t
   in-stmt {t} b e = (to-child (length tree) at next t (w .far) b e, row-child (w .row) h)
 
@@ -118,5 +121,6 @@ module _ {class limit l at count from : ℕ} {tree : List ℕ} {before now : Mem
   pub in-fun : {t : ℕ} → at + 1 ≤ length tree → 2 * (length tree - at) ≡ t → Child tree now next l limit t
   in-fun {t} b e = (in-falls t b e, row-child (w .row) h)
 
-  pub in-step : {now′ : Mem} {out″ : List ℕ} {a : Step} → StmtDone class limit l tree next now out′ now′ out″ a → {v : ℕ} → a ≡ Next v → RowIn class limit l tree at count from before out now′ out″ v (more - 1)
+  pub in-step : {now′ : Mem} {out″ : List ℕ} {a : Step} → StmtDone class limit l tree next now out′ now′ out″ a → {v : ℕ} → a ≡ Next v
+      → RowIn class limit l tree at count from before out now′ out″ v (more - 1)
   in-step b q = record { row = row-step (w .row) h b q; far = later (w .row) h b (w .far) q }

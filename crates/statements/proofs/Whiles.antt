@@ -3,7 +3,7 @@ use mathlib.Core.Path.{_≡_}
 use mathlib.Core.Bool.{true}
 use mathlib.Core.Option.{some}
 use mathlib.Core.List.{List}
-use Prim.Native.Nat.{ℕ, _+_, _-_, _*_, _≤_, _<_}
+use Prim.Native.Nat.{ℕ, _+_, _-_, _*_, _≤_}
 use lib.ListN.{length}
 use Rattle.rules.specs.declared.Span.{Span}
 use Rattle.rules.specs.declared.Refusal.{Refusal}
@@ -50,9 +50,12 @@ module _ {tree : List ℕ} {l at limit : ℕ} {t0 code0 spans0 : List ℕ} (p : 
             pub close : Fit m3 l limit × (start ≤ code-len m3 l) × (true ≡ true → j + 2 ≤ code-len m3 l)
             close = (
               ways.while-fit-2 tree l at (p .left) mark span (p .ready .fit) (w .says class code0 spans0) (a (p .left - 1)) qa (b class) qb (d .at-depth (p .left - 1)) qd (p .there),
-              ways.while-start tree l at (p .left) mark span (p .ready .fit) (w .says class code0 spans0) (a (p .left - 1)) qa (b class) qb (d .at-depth (p .left - 1)) qd (p .there) (w .is code0 spans0),
+              ways.while-start tree l at (p .left) mark span (p .ready .fit) (w .says class code0 spans0) (a (p .left - 1)) qa (b class) qb (d .at-depth (p .left - 1)) qd (p .there)
+                  (w .is code0 spans0),
               λ _. ways.while-place tree l at (p .left) mark span (p .ready .fit) (w .says class code0 spans0) (a (p .left - 1)) qa (b class) qb (d .at-depth (p .left - 1)) qd (p .there),
             )
 
-            pub done : {now : Mem} {rg : Step} → ((class : ℕ) → Did class limit l n2 steady (close-loop limit start (some j) span) m3 now rg) → StmtDone class limit l tree at (mem t0 code0 spans0) out now out3 rg
-            done g = done-of p (ways.while-done tree l at (p .left) mark span (p .ready .fit) (w .says class code0 spans0) (a (p .left - 1)) qa (b class) qb (d .at-depth (p .left - 1)) qd sp (g class))
+            pub done : {now : Mem} {rg : Step} → ((class : ℕ) → Did class limit l n2 steady (close-loop limit start (some j) span) m3 now rg)
+                → StmtDone class limit l tree at (mem t0 code0 spans0) out now out3 rg
+            done g = done-of p
+                (ways.while-done tree l at (p .left) mark span (p .ready .fit) (w .says class code0 spans0) (a (p .left - 1)) qa (b class) qb (d .at-depth (p .left - 1)) qd sp (g class))

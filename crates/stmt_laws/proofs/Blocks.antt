@@ -47,7 +47,8 @@ free-shallower = record { past = λ made rest. refl }
 pub begun : {class limit l at n : ℕ} {before now : Mem} (out : List ℕ) → at ≤ n → Gave class limit l deeper begin-scope tt before now → Run class limit l at n deeper begin-scope tt before out now out
 begun out h g = of-gave out refl h g
 
-pub ready-begun : {class limit l at n left : ℕ} {tree : List ℕ} {before now : Mem} → at ≤ n → 0 < left → Ready tree before at left l limit → Gave class limit l deeper begin-scope tt before now → Ready tree now n (left - 1) l limit
+pub ready-begun : {class limit l at n left : ℕ} {tree : List ℕ} {before now : Mem} → at ≤ n → 0 < left → Ready tree before at left l limit → Gave class limit l deeper begin-scope tt before now
+    → Ready tree now n (left - 1) l limit
 ready-begun {l = l} {left = left} {before = before} h g y o = ready-after y (begun [] h o) (less-deep (depth-at before l) left g (y .shallow))
 
 -- ## The block
@@ -71,7 +72,8 @@ module _ (tree : List ℕ) (l at left : ℕ) (mark : letters tree at ≡ marks.S
 
     -- the scope is still open
     pub block-deep : {k : ℕ} → There (stmt-at tree left l at) → r ≡ Next k → 0 < depth-at mid l
-    block-deep h q = let b = block-at tree (word16 tree 2) left (funs-left l) at mark (h .is) in over-zero (depth-at before l) (grown (w .did (b .stmts) (h .next) (b .row-is)) q .gave .ahead .deep ∙ o .ahead .deep)
+    block-deep h q = let b = block-at tree (word16 tree 2) left (funs-left l) at mark (h .is) in over-zero (depth-at before l)
+        (grown (w .did (b .stmts) (h .next) (b .row-is)) q .gave .ahead .deep ∙ o .ahead .deep)
 
     pub block-done : {k : ℕ} {now : Mem} {r′ : Step} → r ≡ Next k → ((class : ℕ) → Did class limit l k shallower (end-scope limit span) mid now r′)
         → Walked class limit l at (stmt-at tree left l at) (compile-stmt limit) before out now out′ r′

@@ -1,50 +1,24 @@
--- What the members of the cycle need of one another: that the measure falls, and the same fact by the values that the code has read.
-use mathlib.Core.Path.{_≡_, sym, ap, subst, _∙_}
+-- What the arms need of what was read: bounds, and the same fact by the values that the code has.
+use mathlib.Core.Path.{_≡_, sym, subst}
 use mathlib.Core.List.{List}
-use Prim.Native.Nat.{ℕ, suc, _+_, _-_, _*_, _/_, _%_, _≤_, _<_}
+use Prim.Native.Nat.{ℕ, suc, _+_, _-_, _*_, _≤_, _<_}
 use native.Mathlib.Omega.{arith}
 use native.Mathlib.Numerals.{add-one}
 use lib.ListN.{length, getD}
 use Rattle.rules.specs.declared.Span.{Span}
-use Rattle.rules.specs.Tree.{Stmts, Stmt}
-use Rattle.rules.specs.Reader.{Read, got}
-use Rattle.rules.specs.Compiler.{Compile, compile-stmt, compile-stmts}
-use Rattle.fields.specs.Words.{word16, letters}
-use Rattle.tree_laws.proofs.Statements.{any-stmt-at, class-left}
+use Rattle.rules.specs.Compiler.{compile-stmt, compile-stmts}
+use Rattle.fields.specs.Words.{word16}
+use Rattle.tree_laws.proofs.Statements.{any-stmt-at}
 use Rattle.tree_laws.proofs.Later.{later-stmt}
-use Rattle.state.specs.Layout.{levels, deepest, Wf, depth-place, level-words}
-use Rattle.steps.specs.View.{Mem, mem, Fit, depth-at, steady, Did}
+use Rattle.state.specs.Layout.{levels, deepest, depth-place, level-words}
+use Rattle.steps.specs.View.{Mem, mem, Fit, depth-at}
 use Rattle.steps.specs.declared.Step.{Step}
 use Rattle.expressions.specs.Exprs.{There}
-use Rattle.stmt_output_laws.specs.Output.{funs-left, stmt-at, stmts-at, Worked, Walked, Ready}
+use Rattle.stmt_output_laws.specs.Output.{funs-left, stmt-at, stmts-at, Walked, Ready}
 use Rattle.stmt_output_laws.proofs.Growing.{plain}
 use Rattle.stmt_plain.specs.Plain.{Plainly}
 use Rattle.stmt_loops.specs.Loops.{cond-at, Conditioned, incr-at, Incremented}
 use Rattle.stmt_loops.specs.declared.Cond.{Cond}
-use Rattle.fields.specs.Marks as marks
-
--- ## The measure
-
-pub to-row : (left t : ℕ) → 0 < left → 4 * left + 1 ≡ t → 4 * (left - 1) + 3 < t
-to-row left t h e = omega arith
-
-pub to-stmt : (left t : ℕ) → 0 < left → 4 * left + 1 ≡ t → 4 * (left - 1) + 2 < t
-to-stmt left t h e = omega arith
-
-pub to-arm : (left t : ℕ) → 4 * left + 2 ≡ t → 4 * left + 1 < t
-to-arm left t e = omega arith
-
-pub to-one : (left t : ℕ) → 4 * left + 3 ≡ t → 4 * left + 2 < t
-to-one left t e = omega arith
-
-pub to-function : (left t : ℕ) → 0 < left → 4 * left + 1 ≡ t → 4 * (left - 1) + 4 < t
-to-function left t h e = omega arith
-
-pub to-method : (left t : ℕ) → 0 < left → 4 * left + 1 ≡ t → 4 * (left - 1) + 1 < t
-to-method left t h e = omega arith
-
-pub to-body : (left t : ℕ) → 4 * left + 4 ≡ t → 4 * left + 3 < t
-to-body left t e = omega arith
 
 -- ## What stands at a place
 
@@ -69,20 +43,23 @@ pub row-as : (tree : List ℕ) {count k : ℕ} (left l at : ℕ) → count ≡ k
 row-as tree left l at q h = subst (λ (n : ℕ). There (stmts-at tree n left l at)) (sym q) h
 
 pub walked-as : (tree : List ℕ) {count k : ℕ} (left l at : ℕ) {class limit : ℕ} {before : Mem} {out : List ℕ} {now : Mem} {out′ : List ℕ} {r : Step} → count ≡ k
-    → Walked class limit l at (stmts-at tree count left l at) (compile-stmts limit) before out now out′ r → Walked class limit l at (stmts-at tree k left l at) (compile-stmts limit) before out now out′ r
+    → Walked class limit l at (stmts-at tree count left l at) (compile-stmts limit) before out now out′ r
+    → Walked class limit l at (stmts-at tree k left l at) (compile-stmts limit) before out now out′ r
 walked-as tree left l at {class} {limit} {before} {out} {now} {out′} {r} q w = subst (λ (n : ℕ). Walked class limit l at (stmts-at tree n left l at) (compile-stmts limit) before out now out′ r) q w
 
 pub cond-as : (tree : List ℕ) {p k : ℕ} (left at : ℕ) → p ≡ k → There (cond-at tree k left at) → There (cond-at tree p left at)
 cond-as tree left at q h = subst (λ (n : ℕ). There (cond-at tree n left at)) (sym q) h
 
-pub conditioned-as : (tree : List ℕ) {p k : ℕ} (left at : ℕ) {class limit l : ℕ} {span : Span} {before now : Mem} {r : Cond} → p ≡ k → Conditioned class limit l (cond-at tree p left at) span before now r
+pub conditioned-as : (tree : List ℕ) {p k : ℕ} (left at : ℕ) {class limit l : ℕ} {span : Span} {before now : Mem} {r : Cond} → p ≡ k
+    → Conditioned class limit l (cond-at tree p left at) span before now r
     → Conditioned class limit l (cond-at tree k left at) span before now r
 conditioned-as tree left at {class} {limit} {l} {span} {before} {now} {r} q w = subst (λ (n : ℕ). Conditioned class limit l (cond-at tree n left at) span before now r) q w
 
 pub incr-as : (tree : List ℕ) {p k : ℕ} (left at : ℕ) → p ≡ k → There (incr-at tree k left at) → There (incr-at tree p left at)
 incr-as tree left at q h = subst (λ (n : ℕ). There (incr-at tree n left at)) (sym q) h
 
-pub incremented-as : (tree : List ℕ) {p k : ℕ} (left at : ℕ) {class limit l : ℕ} {span : Span} {before now : Mem} {r : Step} → p ≡ k → Incremented class limit l (incr-at tree p left at) span before now r
+pub incremented-as : (tree : List ℕ) {p k : ℕ} (left at : ℕ) {class limit l : ℕ} {span : Span} {before now : Mem} {r : Step} → p ≡ k
+    → Incremented class limit l (incr-at tree p left at) span before now r
     → Incremented class limit l (incr-at tree k left at) span before now r
 incremented-as tree left at {class} {limit} {l} {span} {before} {now} {r} q w = subst (λ (n : ℕ). Incremented class limit l (incr-at tree n left at) span before now r) q w
 
@@ -113,7 +90,8 @@ pub row-higher : (tree : List ℕ) {count k : ℕ} (left l at : ℕ) → count �
 row-higher tree {count} left l at q h = subst (λ (j : ℕ). There (stmts-at tree count left j at)) (sym (add-one l)) (row-as tree left (suc l) at q h)
 
 pub walked-higher : (tree : List ℕ) {count k : ℕ} (left l at : ℕ) {class limit : ℕ} {before : Mem} {out : List ℕ} {now : Mem} {out′ : List ℕ} {r : Step} → count ≡ k
-    → Walked class limit (l + 1) at (stmts-at tree count left (l + 1) at) (compile-stmts limit) before out now out′ r → Walked class limit (suc l) at (stmts-at tree k left (suc l) at) (compile-stmts limit) before out now out′ r
+    → Walked class limit (l + 1) at (stmts-at tree count left (l + 1) at) (compile-stmts limit) before out now out′ r
+    → Walked class limit (suc l) at (stmts-at tree k left (suc l) at) (compile-stmts limit) before out now out′ r
 walked-higher tree {count} left l at {class} {limit} {before} {out} {now} {out′} {r} q w =
     walked-as tree left (suc l) at q (subst (λ (j : ℕ). Walked class limit j at (stmts-at tree count left j at) (compile-stmts limit) before out now out′ r) (add-one l) w)
 
@@ -134,8 +112,3 @@ below-levels l h = omega arith
 pub plainly : (tree : List ℕ) (left l at : ℕ) {class limit : ℕ} {before now : Mem} {r : Step} (out : List ℕ) → Plainly class limit l (stmt-at tree left l at) before now r
     → Walked class limit l at (stmt-at tree left l at) (compile-stmt limit) before out now out r
 plainly tree left l at out p = record { did = λ s n h. plain out (ten-on at (later-stmt tree (word16 tree 2) left (funs-left l) at h)) (p .did s n h) }
-
--- none of the other nine kinds
-pub last-kind : (tree : List ℕ) (left l at : ℕ) → There (stmt-at tree left l at) → (letters tree at ≡ marks.SE → ⊥) → (letters tree at ≡ marks.SP → ⊥) → (letters tree at ≡ marks.SV → ⊥) → (letters tree at ≡ marks.SR → ⊥)
-    → (letters tree at ≡ marks.SB → ⊥) → (letters tree at ≡ marks.SI → ⊥) → (letters tree at ≡ marks.SW → ⊥) → (letters tree at ≡ marks.SO → ⊥) → (letters tree at ≡ marks.SF → ⊥) → letters tree at ≡ marks.SC
-last-kind tree left l at h e p v t b i w o f = class-left tree (word16 tree 2) left (funs-left l) at (h .is) e p v b i w o t f

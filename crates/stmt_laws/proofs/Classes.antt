@@ -1,33 +1,32 @@
 -- A class: what opens it, its methods one after the other with the class as the innermost one, and what closes it.
 use mathlib.Core.Path.{_≡_, refl, sym, ap, subst, _∙_}
 use mathlib.Core.Bool.{Bool, true, false}
-use mathlib.Core.Option.{Option, some}
+use mathlib.Core.Option.{Option}
 use mathlib.Core.List.{List, []}
 use Prim.Native.Nat.{ℕ, suc, _+_, _-_, _*_, _≤_, _<_}
 use native.Mathlib.Omega.{arith}
 use native.Mathlib.Nat.{le-refl}
-use lib.ListN.{length, getD}
 use lib.Dec.{ltb}
 use Rattle.rules.specs.declared.Span.{Span}
 use Rattle.rules.specs.declared.Refusal.{Refusal}
-use Rattle.rules.specs.Tree.{Stmt, StmtClass, Superclass, Fun, Methods, []ᵐ, method}
+use Rattle.rules.specs.Tree.{Stmt, StmtClass, Superclass, Methods}
 use Rattle.rules.specs.Reader.{got}
-use Rattle.rules.specs.TreeFile.{flags, maybe, read-superclass, read-method, read-methods}
-use Rattle.rules.specs.Compiler.{Compiler, Compile, _>>_, is-some, some-methods, pop-class-ctx, compile-stmt, compile-methods}
+use Rattle.rules.specs.TreeFile.{maybe, read-superclass, read-method}
+use Rattle.rules.specs.Compiler.{Compiler, _>>_, is-some, some-methods, compile-stmt, compile-methods}
 use Rattle.fields.specs.Words.{word8, word16, letters, span-of}
 use Rattle.tree_laws.proofs.Statements.{ClassAt, class-at, MethodRowAt, no-methods, more-methods, superclass-at, maybe-yes, maybe-no, flag-on}
-use Rattle.tree_laws.proofs.Later.{later-methods}
 use Rattle.state.specs.Layout.{deepest}
-use Rattle.steps.specs.View.{Mem, Fit, depth-at, steady, Gave, Refused, Did}
+use Rattle.steps.specs.View.{Mem, depth-at, steady, Refused, Did}
 use Rattle.steps.specs.declared.Step.{Step}
 use Rattle.steps.specs.declared.Step.the-variants.{Next, Stop}
 use Rattle.steps.proofs.Steps.{went, valued, stuck, refused-seq}
 use Rattle.expressions.specs.Exprs.{There}
 use Rattle.steps.proofs.Monad.{on-to}
-use Rattle.stmt_output_laws.specs.Output.{funs-left, stmt-at, method-at, methods-at, Grew, Worked, Walked, Ready}
+use Rattle.stmt_output_laws.specs.Output.{funs-left, stmt-at, method-at, methods-at, Grew, Walked, Ready}
 use Rattle.stmt_output_laws.specs.Parts.{open-class, close-class, compile-method}
-use Rattle.stmt_output_laws.proofs.Growing.{Run, free-steady, of-gave, of-grew, to-grew, run-seq, run-refused-seq, grown, reached, refused, worked, stopped, conclude, ready-after, Onward, onward-start, onward-step, onward-refused, onward-done}
-use Rattle.stmt_classes.specs.Classes.{inner, opening, closing, entering, ClassHead, InnerClass, ClassOpened, ClassClosed}
+use Rattle.stmt_output_laws.proofs.Growing.{Run, of-gave, of-grew, run-seq, run-refused-seq, grown, reached, refused}
+use Rattle.stmt_output_laws.proofs.Growing.{stopped, conclude, ready-after, Onward, onward-start, onward-step, onward-refused, onward-done}
+use Rattle.stmt_classes.specs.Classes.{inner, opening, closing, ClassHead, InnerClass, ClassOpened, ClassClosed}
 use Rattle.stmt_classes.proofs.Cut.{class-then-pop, class-grown, closes, free-closing, some-count}
 use Rattle.stmt_laws.proofs.Calls.{same-on}
 use Rattle.stmt_laws.proofs.Cuts.{no-methods-cut, methods-cut}
@@ -46,12 +45,18 @@ pub record Row (class limit l : ℕ) (tree : List ℕ) (count left from : ℕ) (
   pub deep : depth-at now l ≡ depth-at before l
   pub to : (methods : Methods) (n : ℕ) → methods-at tree count left l from ≡ got methods n → Remains class limit l tree left from methods n before out now out′ next more
 
-pub row-start : {class limit l count k left from : ℕ} {tree : List ℕ} {before : Mem} {out : List ℕ} → k ≡ count → Ready tree before from left l limit → Row class limit l tree count left from before out before out from k
-row-start {l = l} {left = left} {from = from} {tree = tree} q y = record { ready = y; deep = refl; to = λ methods n r. record { others = methods; is = ap (λ (j : ℕ). methods-at tree j left l from) q ∙ r; onward = onward-start (y .fit) } }
+pub row-start : {class limit l count k left from : ℕ} {tree : List ℕ} {before : Mem} {out : List ℕ} → k ≡ count → Ready tree before from left l limit
+    → Row class limit l tree count left from before out before out from k
+row-start {l = l} {left = left} {from = from} {tree = tree} q y = record {
+  ready = y;
+  deep = refl;
+  to = λ methods n r. record { others = methods; is = ap (λ (j : ℕ). methods-at tree j left l from) q ∙ r; onward = onward-start (y .fit) };
+}
 
 module _ {class limit l count left from : ℕ} {tree : List ℕ} {before : Mem} {out : List ℕ} {now : Mem} {out′ : List ℕ} {next more : ℕ}
     (w : Row class limit l tree count left from before out now out′ next more) where
-  head-of : {methods : Methods} {n : ℕ} (r : methods-at tree count left l from ≡ got methods n) → 0 < more → MethodRowAt (read-method tree (word16 tree 2) left (funs-left l)) (more - 1) next (w .to methods n r .others) n
+  head-of : {methods : Methods} {n : ℕ} (r : methods-at tree count left l from ≡ got methods n) → 0 < more
+      → MethodRowAt (read-method tree (word16 tree 2) left (funs-left l)) (more - 1) next (w .to methods n r .others) n
   head-of {methods} {n} r h =
       let p : suc (more - 1) ≡ more = omega arith in
       more-methods (read-method tree (word16 tree 2) left (funs-left l)) (more - 1) next (ap (λ (k : ℕ). methods-at tree k left l next) p ∙ w .to methods n r .is)
@@ -130,7 +135,8 @@ has-super tree d true at q r = ap is-some (maybe-yes (read-superclass tree (word
 has-super tree d false at q r = let z : _≡_ {A = ℕ} 0 1 = cc in absurd (omega arith)
 
 module _ (tree : List ℕ) (l at left : ℕ) (mark : letters tree at ≡ marks.SC) where
-  abbrev parts : {s : Stmt} {n : ℕ} → stmt-at tree left l at ≡ got s n → ClassAt tree (word16 tree 2) (read-superclass tree (word16 tree 2) (left - 1)) (read-method tree (word16 tree 2) (left - 1) (funs-left l)) at s n
+  abbrev parts : {s : Stmt} {n : ℕ} → stmt-at tree left l at ≡ got s n
+      → ClassAt tree (word16 tree 2) (read-superclass tree (word16 tree 2) (left - 1)) (read-method tree (word16 tree 2) (left - 1) (funs-left l)) at s n
   parts h = class-at tree (word16 tree 2) left (funs-left l) at mark h
 
   pub class-head : There (stmt-at tree left l at) → ClassHead tree at
@@ -169,7 +175,8 @@ module _ (tree : List ℕ) (l at left : ℕ) (mark : letters tree at ≡ marks.S
           omega (arith, e, k)
 
       begins : (out : List ℕ) {s : Stmt} {n : ℕ} (h : stmt-at tree left l at ≡ got s n)
-          → Run class limit l at (parts h .mid) (opening (is-some (parts h .super))) (open-class limit (word16 tree (at + 10)) (parts h .super) (some-methods (parts h .methods)) span) tt before out m1 out
+          → Run class limit l at (parts h .mid) (opening (is-some (parts h .super))) (open-class limit (word16 tree (at + 10)) (parts h .super) (some-methods (parts h .methods)) span) tt before
+          out m1 out
       begins out h = of-gave out refl (behind h) (went (opened h) qa)
 
       pub class-row : There (stmt-at tree left l at) → There (methods-at tree (word16 tree (at + 13)) (left - 1) l first)
@@ -193,17 +200,18 @@ module _ (tree : List ℕ) (l at left : ℕ) (mark : letters tree at ≡ marks.S
             → Walked class limit l at (stmt-at tree left l at) (compile-stmt limit) before out m3 out3 rb
         class-stop-2 g {rb = rb} {x = x} b q = record {
           did = λ s n h. by-parts (whole h) (class-then-pop limit span (word16 tree (at + 10)) (parts h .super) (parts h .methods))
-              (stopped q (refused-seq (run-refused-seq (begins out h) _ (refused-seq (subst (λ (c : ℕ). Refused c l (compile-methods limit (parts h .methods)) m1 x) (inner-is h) (row-stop w b g q (parts h .methods) n (rows h))) _)) _));
+              (stopped q
+              (refused-seq
+              (run-refused-seq (begins out h) _
+              (refused-seq (subst (λ (c : ℕ). Refused c l (compile-methods limit (parts h .methods)) m1 x) (inner-is h) (row-stop w b g q (parts h .methods) n (rows h))) _)) _));
         }
-
-        pub class-fit : Fit m2 l limit
-        class-fit = w .ready .fit
 
         -- the scope of `super` is open where there is one
         pub class-deep : There (stmt-at tree left l at) → word8 tree (at + 12) ≡ 1 → 0 < depth-at m2 l
         class-deep h q =
             subst (λ (k : ℕ). 0 < k) (sym (w .deep ∙ begins [] (h .is) .gave .ahead .deep))
-            (open-depth (is-some (parts (h .is) .super)) (depth-at before l) (has-super tree (left - 1) (parts (h .is) .has) (at + 15) (flag-on (word8 tree (at + 12)) (parts (h .is) .look) q) (parts (h .is) .one)))
+            (open-depth (is-some (parts (h .is) .super)) (depth-at before l)
+            (has-super tree (left - 1) (parts (h .is) .has) (at + 15) (flag-on (word8 tree (at + 12)) (parts (h .is) .look) q) (parts (h .is) .one)))
 
         pub class-done : more ≤ 0 → {now : Mem} {rc : Step} → ((class : ℕ) → ClassClosed class limit l tree at next span m2 now rc)
             → Walked class limit l at (stmt-at tree left l at) (compile-stmt limit) before out now out2 rc

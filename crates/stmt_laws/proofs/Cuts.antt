@@ -6,7 +6,9 @@ use Rattle.rules.specs.declared.Span.{Span}
 use Rattle.rules.specs.Tree.{Expr, Stmt, Stmts, StmtBlock, StmtFor, StmtFun, StmtIf, StmtWhile, []ˢ, _∷ˢ_, Fun, Methods, []ᵐ, method}
 use Rattle.rules.specs.Op as op
 use Rattle.rules.specs.Chunk.{CS}
-use Rattle.rules.specs.Compiler.{Compiler, ok, Compile, _>>=_, _>>_, return, done, Function, begin-scope, start-loop, end-scope, patch-jump, emit-op, emit-op-constant, emit-jump, emit-loop, for-cond, for-incr, for-end, define-name, fun-name, method-type, compile-expr, compile-stmt, compile-stmts, compile-function, compile-methods}
+use Rattle.rules.specs.Compiler.{Compiler, ok, Compile, _>>=_, _>>_, return, done, Function, begin-scope, start-loop, end-scope}
+use Rattle.rules.specs.Compiler.{patch-jump, emit-op, emit-op-constant, emit-jump, emit-loop, for-cond, for-incr, for-end, define-name, fun-name, method-type}
+use Rattle.rules.specs.Compiler.{compile-expr, compile-stmt, compile-stmts, compile-function, compile-methods}
 use Rattle.stmt_jumps.specs.Jumps.{open-jump, turn-jump}
 use Rattle.steps.proofs.Monad.{regroup, later}
 use Rattle.stmt_jumps.proofs.Jumps.{open-cut, turn-cut}
@@ -60,7 +62,9 @@ module _ (limit : ℕ) where
   unfolding compile-stmt
   if-cut span cond yes-part no-part s =
       seq-like (compile-expr limit cond) _ _
-      (λ s. open-cut (λ j. compile-stmt limit yes-part >> (emit-jump limit op.JUMP span >>= λ k. patch-jump j span >> (emit-op limit op.POP span >> (compile-stmts limit no-part >> patch-jump k span)))) limit span s
+      (λ s. open-cut
+      (λ j. compile-stmt limit yes-part >> (emit-jump limit op.JUMP span >>= λ k. patch-jump j span >> (emit-op limit op.POP span >> (compile-stmts limit no-part >> patch-jump k span)))) limit
+      span s
       ∙ bind-like (open-jump limit span) _ _ (λ j. seq-like (compile-stmt limit yes-part) _ _ (turn-cut (λ k. compile-stmts limit no-part >> patch-jump k span) limit j span)) s)
       s
 

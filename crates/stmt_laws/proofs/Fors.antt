@@ -54,7 +54,8 @@ row-if k false stmt at h q r =
     ap (λ (j : ℕ). read-stmts j stmt at) e ∙ none-row stmt at ∙ r
 
 module _ (tree : List ℕ) (l at left : ℕ) (mark : letters tree at ≡ marks.SO) where
-  abbrev parts : {s : Stmt} {n : ℕ} → stmt-at tree left l at ≡ got s n → ForAt tree (word16 tree 2) (read-expr tree (word16 tree 2) (left - 1)) (read-stmt tree (word16 tree 2) (left - 1) (funs-left l)) at s n
+  abbrev parts : {s : Stmt} {n : ℕ} → stmt-at tree left l at ≡ got s n
+      → ForAt tree (word16 tree 2) (read-expr tree (word16 tree 2) (left - 1)) (read-stmt tree (word16 tree 2) (left - 1) (funs-left l)) at s n
   parts h = for-at tree (word16 tree 2) left (funs-left l) at mark h
 
   whole : (span : Span) (sp : span ≡ span-of tree (at + 2)) {s : Stmt} {n : ℕ} (h : stmt-at tree left l at ≡ got s n) → s ≡ StmtFor span (parts h .init) (parts h .cond) (parts h .body) (parts h .incr)
@@ -76,7 +77,8 @@ module _ (tree : List ℕ) (l at left : ℕ) (mark : letters tree at ≡ marks.S
 
     pub for-stop : (sp : span ≡ span-of tree (at + 2)) {x : Refusal} → ra ≡ Stop x → Walked class limit l at (stmt-at tree left l at) (compile-stmt limit) before out m1 out1 ra
     for-stop sp q = record {
-      did = λ s n h. by-parts (whole span sp h) (for-cut limit span (parts h .init) (parts h .cond) (parts h .body) (parts h .incr)) (stopped q (run-refused-seq scope _ (refused-seq (refused (init-did h) q) _)));
+      did = λ s n h. by-parts (whole span sp h) (for-cut limit span (parts h .init) (parts h .cond) (parts h .body) (parts h .incr))
+          (stopped q (run-refused-seq scope _ (refused-seq (refused (init-did h) q) _)));
     }
 
     module _ {n1 : ℕ} (qa : ra ≡ Next n1) where
@@ -95,7 +97,8 @@ module _ (tree : List ℕ) (l at left : ℕ) (mark : letters tree at ≡ marks.S
       pub for-cond-there : There (stmt-at tree left l at) → There (cond-at tree (word8 tree (at + 10)) (left - 1) n1)
       for-cond-there h = record { thing = parts (h .is) .cond; next = parts (h .is) .mid₂; is = cond-read (h .is) }
 
-      module _ {start : ℕ} (fit1 : Fit m1 l limit) (ask : Told class l code-length start m1) {m2 : Mem} {b : Cond} (t : Conditioned class limit l (cond-at tree (word8 tree (at + 10)) (left - 1) n1) span m1 m2 b) where
+      module _ {start : ℕ} (fit1 : Fit m1 l limit) (ask : Told class l code-length start m1) {m2 : Mem} {b : Cond}
+          (t : Conditioned class limit l (cond-at tree (word8 tree (at + 10)) (left - 1) n1) span m1 m2 b) where
         asked : {k : ℕ} → Run class limit l k k steady start-loop start m1 out1 m1 out1
         asked {k} = told-run out1 fit1 (le-refl k) ask
 
@@ -105,14 +108,20 @@ module _ (tree : List ℕ) (l at left : ℕ) (mark : letters tree at ≡ marks.S
         pub for-stop-2 : (sp : span ≡ span-of tree (at + 2)) {x : Refusal} → b .step ≡ Stop x → Walked class limit l at (stmt-at tree left l at) (compile-stmt limit) before out m2 out1 (b .step)
         for-stop-2 sp q = record {
           did = λ s n h. by-parts (whole span sp h) (for-cut limit span (parts h .init) (parts h .cond) (parts h .body) (parts h .incr))
-              (stopped q (run-refused-seq scope _ (run-refused-seq (first h) _ (run-refused (asked {k = parts h .mid₁}) _ (refused-bind (subst (λ (z : Step). ConditionedAs class limit l (parts h .mid₂) (parts h .cond) span m1 m2 (b .some) (b .place) z) q (tested h)) _)))));
+              (stopped q
+              (run-refused-seq scope _
+              (run-refused-seq (first h) _
+              (run-refused (asked {k = parts h .mid₁}) _
+              (refused-bind (subst (λ (z : Step). ConditionedAs class limit l (parts h .mid₂) (parts h .cond) span m1 m2 (b .some) (b .place) z) q (tested h)) _)))));
         }
 
         module _ {n2 : ℕ} (qb : b .step ≡ Next n2) where
-          passed : {s : Stmt} {n : ℕ} (h : stmt-at tree left l at ≡ got s n) → Gave class limit l steady (for-cond limit (parts h .cond) span) (place-of (b .some) (b .place)) m1 m2 × (n2 ≡ parts h .mid₂) × (b .some ≡ true → b .place + 2 ≤ code-len m2 l)
+          passed : {s : Stmt} {n : ℕ} (h : stmt-at tree left l at ≡ got s n) → Gave class limit l steady (for-cond limit (parts h .cond) span) (place-of (b .some) (b .place)) m1 m2
+              × (n2 ≡ parts h .mid₂) × (b .some ≡ true → b .place + 2 ≤ code-len m2 l)
           passed h = subst (λ (z : Step). ConditionedAs class limit l (parts h .mid₂) (parts h .cond) span m1 m2 (b .some) (b .place) z) qb (tested h)
 
-          second : {s : Stmt} {n : ℕ} (h : stmt-at tree left l at ≡ got s n) → Run class limit l (parts h .mid₁) (parts h .mid₂) steady (for-cond limit (parts h .cond) span) (place-of (b .some) (b .place)) m1 out1 m2 out1
+          second : {s : Stmt} {n : ℕ} (h : stmt-at tree left l at ≡ got s n)
+              → Run class limit l (parts h .mid₁) (parts h .mid₂) steady (for-cond limit (parts h .cond) span) (place-of (b .some) (b .place)) m1 out1 m2 out1
           second h = of-gave out1 refl (later-maybe tree _ (left - 1) (parts h .two)) (passed h .0)
 
           pub for-body : There (stmt-at tree left l at) → There (stmt-at tree (left - 1) l n2)
@@ -129,7 +138,8 @@ module _ (tree : List ℕ) (l at left : ℕ) (mark : letters tree at ≡ marks.S
           pub for-ready : There (stmt-at tree left l at) → 0 < left → Ready tree before at left l limit → Ready tree m2 n2 (left - 1) l limit
           for-ready h g y =
               subst (λ (p : ℕ). Ready tree m2 p (left - 1) l limit) (sym (passed (h .is) .1))
-              (ready-after y (run-seq (record { past = λ made rest. refl }) _ scope (run-seq free-steady (for-cond limit (parts (h .is) .cond) span) (first (h .is)) (second (h .is)))) (less-deep (depth-at before l) left g (y .shallow)))
+              (ready-after y (run-seq (record { past = λ made rest. refl }) _ scope (run-seq free-steady (for-cond limit (parts (h .is) .cond) span) (first (h .is)) (second (h .is))))
+              (less-deep (depth-at before l) left g (y .shallow)))
 
           module _ {m3 : Mem} {out3 : List ℕ} {rd : Step} (d : Walked class limit l n2 (stmt-at tree (left - 1) l n2) (compile-stmt limit) m2 out1 m3 out3 rd) where
             body-did : {s : Stmt} {n : ℕ} (h : stmt-at tree left l at ≡ got s n) → Worked class limit l n2 (parts h .mid₃) (compile-stmt limit (parts h .body)) m2 out1 m3 out3 rd
@@ -158,7 +168,11 @@ module _ (tree : List ℕ) (l at left : ℕ) (mark : letters tree at ≡ marks.S
                 pub for-stop-4 : (sp : span ≡ span-of tree (at + 2)) {x : Refusal} → re ≡ Stop x → Walked class limit l at (stmt-at tree left l at) (compile-stmt limit) before out m4 out3 re
                 for-stop-4 sp q = record {
                   did = λ s n h. by-parts (whole span sp h) (for-cut limit span (parts h .init) (parts h .cond) (parts h .body) (parts h .incr))
-                      (stopped q (run-refused-seq scope _ (run-refused-seq (first h) _ (run-refused (asked {k = parts h .mid₁}) _ (run-refused (second h) _ (run-refused-seq (third h) _ (refused-seq (stuck (e .did (parts h .incr) n (incr-read h)) q) _)))))));
+                      (stopped q
+                      (run-refused-seq scope _
+                      (run-refused-seq (first h) _
+                      (run-refused (asked {k = parts h .mid₁}) _
+                      (run-refused (second h) _ (run-refused-seq (third h) _ (refused-seq (stuck (e .did (parts h .incr) n (incr-read h)) q) _)))))));
                 }
 
                 module _ {n4 : ℕ} (qe : re ≡ Next n4) where
@@ -172,7 +186,8 @@ module _ (tree : List ℕ) (l at left : ℕ) (mark : letters tree at ≡ marks.S
                   for-fit-3 h = fourth (h .is) .gave .ahead .fit
 
                   pub for-start : There (stmt-at tree left l at) → start ≡ code-len m1 l → start ≤ code-len m4 l
-                  for-start h q = subst (λ (k : ℕ). k ≤ code-len m4 l) (sym q) (le-trans (second (h .is) .gave .ahead .up) (le-trans (third (h .is) .gave .ahead .up) (fourth (h .is) .gave .ahead .up)))
+                  for-start h q = subst (λ (k : ℕ). k ≤ code-len m4 l) (sym q)
+                      (le-trans (second (h .is) .gave .ahead .up) (le-trans (third (h .is) .gave .ahead .up) (fourth (h .is) .gave .ahead .up)))
 
                   pub for-place : There (stmt-at tree left l at) → b .some ≡ true → b .place + 2 ≤ code-len m4 l
                   for-place h q = still (b .place) (still (b .place) (passed (h .is) .2 q) (third (h .is) .gave)) (fourth (h .is) .gave)
@@ -181,7 +196,11 @@ module _ (tree : List ℕ) (l at left : ℕ) (mark : letters tree at ≡ marks.S
                     pub for-stop-5 : (sp : span ≡ span-of tree (at + 2)) {x : Refusal} → rf ≡ Stop x → Walked class limit l at (stmt-at tree left l at) (compile-stmt limit) before out m5 out3 rf
                     for-stop-5 sp q = record {
                       did = λ s n h. by-parts (whole span sp h) (for-cut limit span (parts h .init) (parts h .cond) (parts h .body) (parts h .incr))
-                          (stopped q (run-refused-seq scope _ (run-refused-seq (first h) _ (run-refused (asked {k = parts h .mid₁}) _ (run-refused (second h) _ (run-refused-seq (third h) _ (run-refused-seq (fourth h) _ (refused-seq (stuck f q) _))))))));
+                          (stopped q
+                          (run-refused-seq scope _
+                          (run-refused-seq (first h) _
+                          (run-refused (asked {k = parts h .mid₁}) _
+                          (run-refused (second h) _ (run-refused-seq (third h) _ (run-refused-seq (fourth h) _ (refused-seq (stuck f q) _))))))));
                     }
 
                     module _ {v : ℕ} (qf : rf ≡ Next v) where
@@ -193,7 +212,9 @@ module _ (tree : List ℕ) (l at left : ℕ) (mark : letters tree at ≡ marks.S
 
                       -- the scope is still open
                       pub for-deep : There (stmt-at tree left l at) → 0 < depth-at m5 l
-                      for-deep h = over-zero (depth-at before l) (went f qf .ahead .deep ∙ fourth (h .is) .gave .ahead .deep ∙ third (h .is) .gave .ahead .deep ∙ second (h .is) .gave .ahead .deep ∙ first (h .is) .gave .ahead .deep ∙ o .ahead .deep)
+                      for-deep h = over-zero (depth-at before l)
+                          (went f qf .ahead .deep ∙ fourth (h .is) .gave .ahead .deep ∙ third (h .is) .gave .ahead .deep ∙ second (h .is) .gave .ahead .deep ∙ first (h .is) .gave .ahead .deep
+                          ∙ o .ahead .deep)
 
                       pub for-done : (sp : span ≡ span-of tree (at + 2)) {now : Mem} {rg : Step} → Did class limit l n4 shallower (end-scope limit span) m5 now rg
                           → Walked class limit l at (stmt-at tree left l at) (compile-stmt limit) before out now out3 rg
@@ -201,8 +222,14 @@ module _ (tree : List ℕ) (l at left : ℕ) (mark : letters tree at ≡ marks.S
                         did = λ s n h. by-parts (whole span sp h) (for-cut limit span (parts h .init) (parts h .cond) (parts h .body) (parts h .incr))
                             (conclude
                             (λ z. to-grew one-up-one-down refl (λ x. refl)
-                            (run-seq (record { past = λ made rest. refl }) _ scope (run-seq (record { past = λ made rest. refl }) _ (first h) (run-bind (record { past = λ made rest. refl }) _ asked (run-bind (record { past = λ made rest. refl }) _ (second h) (run-seq (record { past = λ made rest. refl }) _ (third h)
+                            (run-seq (record { past = λ made rest. refl }) _ scope
+                            (run-seq (record { past = λ made rest. refl }) _ (first h)
+                            (run-bind (record { past = λ made rest. refl }) _ asked
+                            (run-bind (record { past = λ made rest. refl }) _ (second h) (run-seq (record { past = λ made rest. refl }) _ (third h)
                             (run-seq (record { past = λ made rest. refl }) _ (fourth h) (run-seq free-shallower _ fifth (of-gave out3 refl (le-refl n) z)))))))))
-                            (λ x z. run-refused-seq scope _ (run-refused-seq (first h) _ (run-refused (asked {k = parts h .mid₁}) _ (run-refused (second h) _ (run-refused-seq (third h) _ (run-refused-seq (fourth h) _ (run-refused-seq (fifth {k = n}) _ z)))))))
+                            (λ x z. run-refused-seq scope _
+                            (run-refused-seq (first h) _
+                            (run-refused (asked {k = parts h .mid₁}) _
+                            (run-refused (second h) _ (run-refused-seq (third h) _ (run-refused-seq (fourth h) _ (run-refused-seq (fifth {k = n}) _ z)))))))
                             (on-to (ends h) g));
                       }

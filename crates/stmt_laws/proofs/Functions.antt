@@ -46,9 +46,6 @@ pub one-more-level : (l : ℕ) → 0 < funs-left l → suc l < levels
 unfolding funs-left
 one-more-level l h = omega arith
 
-pub back-on : (left : ℕ) → 0 < left → left - 1 + 1 ≡ left
-back-on left h = omega arith
-
 inner-deep : (d e left : ℕ) → e ≡ d + 1 → d + 2 * (left + 1) ≤ deepest → e + 2 * left ≤ deepest
 inner-deep d e left q h = omega arith
 
@@ -128,13 +125,14 @@ module _ (tree : List ℕ) (l at left kind : ℕ) (span : Span) where
       function-row h = record { thing = parts (h .is) .body; next = h .next; is = row-of (h .is) }
 
       -- the body starts behind the parameters
-      behind : {f : Fun} {n : ℕ} (h : fun-at tree left l at ≡ got f n) → at + 1 ≤ first + 2
+      pub behind : {f : Fun} {n : ℕ} (h : fun-at tree left l at ≡ got f n) → at + 1 ≤ first + 2
       behind h = let z = later-names tree (word16 tree 2) (TreeForm at) (word16 tree (at + 12)) (at + 14) (parts h .row-is) in let e = inside h .1 in omega (arith, z, e)
 
       image-kept : {f : Fun} {n : ℕ} (h : fun-at tree left l at ≡ got f n) → suc l < levels → (i : ℕ) → image-at ≤ i → getD t1 i 0 ≡ getD t i 0
       image-kept h low i g = inside h .0 .kept .above i (above-image l i low g)
 
-      pub function-ready : {limit : ℕ} (code spans : List ℕ) → There (fun-at tree left l at) → suc l < levels → Ready tree (mem t code spans) at (left + 1) l limit → Ready tree (mem t1 code spans) (first + 2) left (suc l) limit
+      pub function-ready : {limit : ℕ} (code spans : List ℕ) → There (fun-at tree left l at) → suc l < levels → Ready tree (mem t code spans) at (left + 1) l limit
+          → Ready tree (mem t1 code spans) (first + 2) left (suc l) limit
       function-ready code spans h low y =
           let p = image-kept (h .is) low image-at (le-refl image-at) in
           let q = image-kept (h .is) low (image-at + 1) (omega arith) in
@@ -156,7 +154,8 @@ module _ (tree : List ℕ) (l at left kind : ℕ) (span : Span) where
         agreed : {f : Fun} {n : ℕ} (h : fun-at tree left l at ≡ got f n) → suc l < levels → (rest : Rest) → Agrees class (mem t code spans) rest → Agrees class (mem t1 code spans) rest
         agreed h low rest g = record { innermost = g .innermost; made = g .made ∙ sym (image-kept h low image-at (le-refl image-at)) }
 
-        pub function-stop-2 : suc l < levels → {x : Refusal} → rb ≡ Stop x → Walked class limit l at (fun-at tree left l at) (λ f. compile-function limit f (type-of kind) span) (mem t code spans) out m2 out2 rb
+        pub function-stop-2 : suc l < levels → {x : Refusal} → rb ≡ Stop x
+            → Walked class limit l at (fun-at tree left l at) (λ f. compile-function limit f (type-of kind) span) (mem t code spans) out m2 out2 rb
         function-stop-2 low q = record {
           did = λ f n h.
               worked-like (whole limit h)
@@ -187,13 +186,15 @@ module _ (tree : List ℕ) (l at left kind : ℕ) (span : Span) where
 
           module _ (low : suc l < levels) (now : Mem) (out3 : List ℕ) where
             -- words of the levels around, from the start to the end
-            same : {f : Fun} {n : ℕ} (h : fun-at tree left l at ≡ got f n) → Finished class limit l span m2 out2 now out3 → (k o : ℕ) → k ≤ l → depth-place ≤ o → o ≤ type-place → getD (t-of now) (k * level-words + o) 0 ≡ getD t (k * level-words + o) 0
+            same : {f : Fun} {n : ℕ} (h : fun-at tree left l at ≡ got f n) → Finished class limit l span m2 out2 now out3 → (k o : ℕ) → k ≤ l → depth-place ≤ o → o ≤ type-place
+                → getD (t-of now) (k * level-words + o) 0 ≡ getD t (k * level-words + o) 0
             same h d k o p q r = d .under k o p q r ∙ grew h .gave .ahead .under k o (lower p) q r ∙ inside h .0 .kept .below (k * level-words + o) (below-level l k o p r)
 
             longer : {f : Fun} {n : ℕ} (h : fun-at tree left l at ≡ got f n) → Finished class limit l span m2 out2 now out3 → codeEnd t ≤ codeEnd (t-of now)
             longer h d = let p = grew h .gave .ahead .head code-from-place (omega arith) (omega arith) in let q = inside h .0 .from in let u = d .up in omega (arith, p, q, u)
 
-            added-function : {f : Fun} {n : ℕ} (h : fun-at tree left l at ≡ got f n) (d : Finished class limit l span m2 out2 now out3) → Added at n (grew h .made ++ (d .function ∷ [])) t out (t-of now) out3
+            added-function : {f : Fun} {n : ℕ} (h : fun-at tree left l at ≡ got f n) (d : Finished class limit l span m2 out2 now out3)
+                → Added at n (grew h .made ++ (d .function ∷ [])) t out (t-of now) out3
             added-function h d =
                 let p = image-kept h low image-at (le-refl image-at) in
                 let q = image-kept h low (image-at + 1) (omega arith) in
@@ -208,16 +209,19 @@ module _ (tree : List ℕ) (l at left kind : ℕ) (span : Span) where
                 }
 
             finish : {f : Fun} {n : ℕ} (h : fun-at tree left l at ≡ got f n) → Finished class limit l span m2 out2 now out3
-                → Grew class limit l at n (open-function (type-of kind) (word16 tree (at + 10)) (parts h .params) span >> (compile-stmts limit (parts h .body) >> close-function limit span)) (mem t code spans) out now out3
+                → Grew class limit l at n (open-function (type-of kind) (word16 tree (at + 10)) (parts h .params) span >> (compile-stmts limit (parts h .body) >> close-function limit span))
+                (mem t code spans) out now out3
             finish {f} {n} h d =
                 let g = grew h in
                 record {
                   made = g .made ++ (d .function ∷ []);
                   gave = record {
                     comes = λ rest z.
-                        seq-ok _ _ _ (inside h .0 .comes code spans rest) ∙ seq-ok _ _ _ (g .gave .comes rest (agreed h low rest z)) ∙ d .comes (more (g .made) rest) (g .gave .agrees rest (agreed h low rest z))
+                        seq-ok _ _ _ (inside h .0 .comes code spans rest) ∙ seq-ok _ _ _ (g .gave .comes rest (agreed h low rest z)) ∙ d .comes (more (g .made) rest)
+                        (g .gave .agrees rest (agreed h low rest z))
                         ∙ ap (λ (x : Rest). ok tt (view now l x)) (more-more (g .made) (d .function ∷ []) rest);
-                    agrees = λ rest z. subst (λ (x : Rest). Agrees class now x) (more-more (g .made) (d .function ∷ []) rest) (d .agrees (more (g .made) rest) (g .gave .agrees rest (agreed h low rest z)));
+                    agrees = λ rest z. subst (λ (x : Rest). Agrees class now x) (more-more (g .made) (d .function ∷ []) rest)
+                        (d .agrees (more (g .made) rest) (g .gave .agrees rest (agreed h low rest z)));
                     ahead = record {
                       fit = d .fit;
                       up = code-up t code spans now l (longer h d) (same h d l code-from-place (le-refl l) (omega arith) (omega arith));
@@ -232,14 +236,17 @@ module _ (tree : List ℕ) (l at left kind : ℕ) (span : Span) where
                 }
 
             refuses : {f : Fun} {n : ℕ} (h : fun-at tree left l at ≡ got f n) {x : Refusal} → ((rest : Rest) → Agrees class m2 rest → close-function limit span (view m2 (suc l) rest) ≡ err x)
-                → Refused class l (open-function (type-of kind) (word16 tree (at + 10)) (parts h .params) span >> (compile-stmts limit (parts h .body) >> close-function limit span)) (mem t code spans) x
+                → Refused class l (open-function (type-of kind) (word16 tree (at + 10)) (parts h .params) span >> (compile-stmts limit (parts h .body) >> close-function limit span))
+                (mem t code spans) x
             refuses h z = record {
               refuses = λ rest g.
-                  seq-ok _ _ _ (inside h .0 .comes code spans rest) ∙ seq-ok _ _ _ (grew h .gave .comes rest (agreed h low rest g)) ∙ z (more (grew h .made) rest) (grew h .gave .agrees rest (agreed h low rest g));
+                  seq-ok _ _ _ (inside h .0 .comes code spans rest) ∙ seq-ok _ _ _ (grew h .gave .comes rest (agreed h low rest g)) ∙ z (more (grew h .made) rest)
+                  (grew h .gave .agrees rest (agreed h low rest g));
             }
 
             done-as : {f : Fun} {n : ℕ} (h : fun-at tree left l at ≡ got f n) (rc : Step) → FunctionClosedAs class limit l n1 span m2 out2 now out3 rc
-                → WorkedAs class limit l at n (open-function (type-of kind) (word16 tree (at + 10)) (parts h .params) span >> (compile-stmts limit (parts h .body) >> close-function limit span)) (mem t code spans) out now out3 rc
+                → WorkedAs class limit l at n (open-function (type-of kind) (word16 tree (at + 10)) (parts h .params) span >> (compile-stmts limit (parts h .body) >> close-function limit span))
+                (mem t code spans) out now out3 rc
             done-as h (Next v) d = (finish h (d .0), d .1 ∙ reached (body-did h) qb)
             done-as h (Stop x) d = refuses h d
 
@@ -280,7 +287,8 @@ module _ (tree : List ℕ) (l at left : ℕ) (mark : letters tree at ≡ marks.S
       (a : Walked class limit l at (fun-at tree (left - 1) l at) (λ f. compile-function limit f (type-of 1) span) before out m1 out1 ra) where
     function-did : {s : Stmt} {n : ℕ} (h : stmt-at tree left l at ≡ got s n) → Worked class limit l at n (compile-function limit (stmt-parts h .function) Function span) before out m1 out1 ra
     function-did {s} {n} h =
-        subst (λ (k : FunctionType). Worked class limit l at n (compile-function limit (stmt-parts h .function) k span) before out m1 out1 ra) a-function (a .did (stmt-parts h .function) n (fun-read h))
+        subst (λ (k : FunctionType). Worked class limit l at n (compile-function limit (stmt-parts h .function) k span) before out m1 out1 ra) a-function
+        (a .did (stmt-parts h .function) n (fun-read h))
 
     fun-whole : {s : Stmt} {n : ℕ} (h : stmt-at tree left l at ≡ got s n) → s ≡ StmtFun span (stmt-parts h .function)
     fun-whole h = stmt-parts h .is ∙ ap (λ (z : Span). StmtFun z (stmt-parts h .function)) (sym sp)
@@ -304,7 +312,8 @@ module _ (tree : List ℕ) (l at left : ℕ) (mark : letters tree at ≡ marks.S
 -- ## A method
 
 module _ (tree : List ℕ) (l at left : ℕ) where
-  abbrev method-parts : {s : Span × Fun} {n : ℕ} → output.method-at tree left l at ≡ got s n → MethodAt tree (word16 tree 2) (read-stmt tree (word16 tree 2) (left - 1) (funs-left l - 1)) left (funs-left l) at s n
+  abbrev method-parts : {s : Span × Fun} {n : ℕ} → output.method-at tree left l at ≡ got s n
+      → MethodAt tree (word16 tree 2) (read-stmt tree (word16 tree 2) (left - 1) (funs-left l - 1)) left (funs-left l) at s n
   method-parts h = method-at tree (word16 tree 2) left (funs-left l) at h
 
   method-read : {s : Span × Fun} {n : ℕ} (h : output.method-at tree left l at ≡ got s n) → fun-at tree (left - 1) l at ≡ got (method-parts h .function) n
@@ -325,7 +334,8 @@ module _ (tree : List ℕ) (l at left : ℕ) where
   method-named : {s : Span × Fun} {n : ℕ} (h : output.method-at tree left l at ≡ got s n) → fun-name (method-parts h .function) ≡ word16 tree (at + 10)
   method-named h = name-of (fun-of tree (word16 tree 2) (read-stmt tree (word16 tree 2) (left - 1) (funs-left (suc l))) at (method-read h) .is)
 
-  module _ (span : Span) (sp : span ≡ span-of tree (at + 2)) (kind : ℕ) {class limit name : ℕ} {before m1 : Mem} {out out1 : List ℕ} {ra : Step} (e : name ≡ word16 tree (at + 10)) (k : type-of kind ≡ method-type name)
+  module _ (span : Span) (sp : span ≡ span-of tree (at + 2)) (kind : ℕ) {class limit name : ℕ} {before m1 : Mem} {out out1 : List ℕ} {ra : Step} (e : name ≡ word16 tree (at + 10))
+      (k : type-of kind ≡ method-type name)
       (a : Walked class limit l at (fun-at tree (left - 1) l at) (λ f. compile-function limit f (type-of kind) span) before out m1 out1 ra) where
     method-did : {s : Span × Fun} {n : ℕ} (h : output.method-at tree left l at ≡ got s n)
         → Worked class limit l at n (compile-function limit (method-parts h .function) (method-type (fun-name (method-parts h .function))) span) before out m1 out1 ra

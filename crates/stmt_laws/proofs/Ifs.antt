@@ -56,7 +56,8 @@ pub eleven-on : (at : ℕ) {n : ℕ} → at + 11 ≤ n → at ≤ n
 eleven-on at h = omega arith
 
 module _ (tree : List ℕ) (l at left : ℕ) (mark : letters tree at ≡ marks.SI) where
-  abbrev parts : {s : Stmt} {n : ℕ} → stmt-at tree left l at ≡ got s n → IfAt tree (word16 tree 2) (read-expr tree (word16 tree 2) (left - 1)) (read-stmt tree (word16 tree 2) (left - 1) (funs-left l)) at s n
+  abbrev parts : {s : Stmt} {n : ℕ} → stmt-at tree left l at ≡ got s n
+      → IfAt tree (word16 tree 2) (read-expr tree (word16 tree 2) (left - 1)) (read-stmt tree (word16 tree 2) (left - 1) (funs-left l)) at s n
   parts h = if-at tree (word16 tree 2) left (funs-left l) at mark h
 
   pub if-cond : There (stmt-at tree left l at) → There (expr-at tree (left - 1) (at + 11))
@@ -68,7 +69,8 @@ module _ (tree : List ℕ) (l at left : ℕ) (mark : letters tree at ≡ marks.S
   module _ (span : Span) {class limit : ℕ} {before m1 : Mem} {ra : Step} (a : Ran class limit l (expr-at tree (left - 1) (at + 11)) before m1 ra) where
     pub if-stop : (sp : span ≡ span-of tree (at + 2)) (out : List ℕ) {x : Refusal} → ra ≡ Stop x → Walked class limit l at (stmt-at tree left l at) (compile-stmt limit) before out m1 out ra
     if-stop sp out q = record {
-      did = λ s n h. by-parts (whole span sp h) (if-cut limit span (parts h .cond) (parts h .yes-part) (parts h .no-part)) (stopped q (refused-seq (stuck (a .did (parts h .cond) (parts h .mid) (parts h .one)) q) _));
+      did = λ s n h. by-parts (whole span sp h) (if-cut limit span (parts h .cond) (parts h .yes-part) (parts h .no-part))
+          (stopped q (refused-seq (stuck (a .did (parts h .cond) (parts h .mid) (parts h .one)) q) _));
     }
 
     pub if-fit : {n1 : ℕ} → There (stmt-at tree left l at) → ra ≡ Next n1 → Fit m1 l limit
@@ -86,12 +88,14 @@ module _ (tree : List ℕ) (l at left : ℕ) (mark : letters tree at ≡ marks.S
           omega (arith, e, k)
 
       first : (out : List ℕ) {s : Stmt} {n : ℕ} (h : stmt-at tree left l at ≡ got s n) → Run class limit l at n1 steady (compile-expr limit (parts h .cond)) tt before out m1 out
-      first out h = of-gave out refl (subst (λ (k : ℕ). at ≤ k) (sym (here h)) (eleven-on at (later-expr tree (word16 tree 2) (left - 1) (at + 11) (parts h .one)))) (went (a .did (parts h .cond) (parts h .mid) (parts h .one)) qa)
+      first out h = of-gave out refl (subst (λ (k : ℕ). at ≤ k) (sym (here h)) (eleven-on at (later-expr tree (word16 tree 2) (left - 1) (at + 11) (parts h .one))))
+          (went (a .did (parts h .cond) (parts h .mid) (parts h .one)) qa)
 
       module _ {m2 : Mem} {rb : Step} (b : Opened class limit l steady (open-jump limit span) m1 m2 rb) where
         pub if-stop-2 : (sp : span ≡ span-of tree (at + 2)) (out : List ℕ) {x : Refusal} → rb ≡ Stop x → Walked class limit l at (stmt-at tree left l at) (compile-stmt limit) before out m2 out rb
         if-stop-2 sp out q = record {
-          did = λ s n h. by-parts (whole span sp h) (if-cut limit span (parts h .cond) (parts h .yes-part) (parts h .no-part)) (stopped q (run-refused-seq (first out h) _ (refused-bind (stuck-to b q) _)));
+          did = λ s n h. by-parts (whole span sp h) (if-cut limit span (parts h .cond) (parts h .yes-part) (parts h .no-part))
+              (stopped q (run-refused-seq (first out h) _ (refused-bind (stuck-to b q) _)));
         }
 
         module _ {j : ℕ} (qb : rb ≡ Next j) where
@@ -157,7 +161,9 @@ module _ (tree : List ℕ) (l at left : ℕ) (mark : letters tree at ≡ marks.S
                   pub if-no-ready : There (stmt-at tree left l at) → Ready tree before at left l limit → Ready tree m4 n2 (left - 1) l limit
                   if-no-ready h y =
                       subst (λ (p : ℕ). Ready tree m4 p (left - 1) l limit) (sym (there (h .is)))
-                      (ready-after y (run-seq free-steady _ (first out (h .is)) (run-bind free-steady (λ _. compile-stmt limit (parts (h .is) .yes-part) >> turn-jump limit j span) (second out) (run-seq free-steady _ (third (h .is)) fourth)))
+                      (ready-after y
+                      (run-seq free-steady _ (first out (h .is))
+                      (run-bind free-steady (λ _. compile-stmt limit (parts (h .is) .yes-part) >> turn-jump limit j span) (second out) (run-seq free-steady _ (third (h .is)) fourth)))
                       (no-deeper (depth-at before l) left (y .shallow)))
 
                   module _ {m5 : Mem} {out5 : List ℕ} {rf : Step} (f : Walked class limit l n2 (stmts-at tree (word8 tree (at + 10)) (left - 1) l n2) (compile-stmts limit) m4 out3 m5 out5 rf) where
@@ -167,7 +173,9 @@ module _ (tree : List ℕ) (l at left : ℕ) (mark : letters tree at ≡ marks.S
                     pub if-stop-5 : (sp : span ≡ span-of tree (at + 2)) {x : Refusal} → rf ≡ Stop x → Walked class limit l at (stmt-at tree left l at) (compile-stmt limit) before out m5 out5 rf
                     if-stop-5 sp q = record {
                       did = λ s n h. by-parts (whole span sp h) (if-cut limit span (parts h .cond) (parts h .yes-part) (parts h .no-part))
-                          (stopped q (run-refused-seq (first out h) _ (run-refused (second out) _ (run-refused-seq (third h) _ (run-refused (fourth {late = parts h .late}) _ (refused-seq (refused (else-did h) q) _))))));
+                          (stopped q
+                          (run-refused-seq (first out h) _
+                          (run-refused (second out) _ (run-refused-seq (third h) _ (run-refused (fourth {late = parts h .late}) _ (refused-seq (refused (else-did h) q) _))))));
                     }
 
                     module _ {n3 : ℕ} (qf : rf ≡ Next n3) where
@@ -186,7 +194,10 @@ module _ (tree : List ℕ) (l at left : ℕ) (mark : letters tree at ≡ marks.S
                         did = λ s n h. by-parts (whole span sp h) (if-cut limit span (parts h .cond) (parts h .yes-part) (parts h .no-part))
                             (conclude
                             (λ z. to-grew (λ d. refl) refl (λ x. refl)
-                            (run-seq free-steady _ (first out h) (run-bind free-steady _ (second out) (run-seq free-steady _ (third h) (run-bind free-steady _ fourth (run-seq free-steady _ (fifth h) (of-gave out5 refl (le-refl n) z)))))))
-                            (λ x z. run-refused-seq (first out h) _ (run-refused (second out) _ (run-refused-seq (third h) _ (run-refused (fourth {late = parts h .late}) _ (run-refused-seq (fifth h) _ z)))))
+                            (run-seq free-steady _ (first out h)
+                            (run-bind free-steady _ (second out)
+                            (run-seq free-steady _ (third h) (run-bind free-steady _ fourth (run-seq free-steady _ (fifth h) (of-gave out5 refl (le-refl n) z)))))))
+                            (λ x z. run-refused-seq (first out h) _
+                            (run-refused (second out) _ (run-refused-seq (third h) _ (run-refused (fourth {late = parts h .late}) _ (run-refused-seq (fifth h) _ z)))))
                             (on-to (reached (else-did h) qf) g));
                       }

@@ -30,12 +30,14 @@ pub record Row (class limit l : ℕ) (tree : List ℕ) (count left from : ℕ) (
   pub ready : Ready tree now next left l limit
   pub to : (stmts : Stmts) (n : ℕ) → stmts-at tree count left l from ≡ got stmts n → Remains class limit l tree left from stmts n before out now out′ next more
 
-pub row-start : {class limit l count left from : ℕ} {tree : List ℕ} {before : Mem} {out : List ℕ} → Ready tree before from left l limit → Row class limit l tree count left from before out before out from count
+pub row-start : {class limit l count left from : ℕ} {tree : List ℕ} {before : Mem} {out : List ℕ} → Ready tree before from left l limit
+    → Row class limit l tree count left from before out before out from count
 row-start y = record { ready = y; to = λ stmts n r. record { others = stmts; is = r; onward = onward-start (y .fit) } }
 
 module _ {class limit l count left from : ℕ} {tree : List ℕ} {before : Mem} {out : List ℕ} {now : Mem} {out′ : List ℕ} {next more : ℕ}
     (w : Row class limit l tree count left from before out now out′ next more) where
-  head-of : {stmts : Stmts} {n : ℕ} (r : stmts-at tree count left l from ≡ got stmts n) → 0 < more → StmtRowAt (read-stmt tree (word16 tree 2) left (funs-left l)) (more - 1) next (w .to stmts n r .others) n
+  head-of : {stmts : Stmts} {n : ℕ} (r : stmts-at tree count left l from ≡ got stmts n) → 0 < more
+      → StmtRowAt (read-stmt tree (word16 tree 2) left (funs-left l)) (more - 1) next (w .to stmts n r .others) n
   head-of {stmts} {n} r h =
       let p : suc (more - 1) ≡ more = omega arith in
       more-stmts (read-stmt tree (word16 tree 2) left (funs-left l)) (more - 1) next (ap (λ (k : ℕ). stmts-at tree k left l next) p ∙ w .to stmts n r .is)

@@ -34,7 +34,8 @@ use Rattle.stmt_laws.proofs.Ifs.{no-deeper}
 use Rattle.fields.specs.Marks as marks
 
 module _ (tree : List ℕ) (l at left : ℕ) (mark : letters tree at ≡ marks.SW) where
-  abbrev parts : {s : Stmt} {n : ℕ} → stmt-at tree left l at ≡ got s n → WhileAt tree (word16 tree 2) (read-expr tree (word16 tree 2) (left - 1)) (read-stmt tree (word16 tree 2) (left - 1) (funs-left l)) at s n
+  abbrev parts : {s : Stmt} {n : ℕ} → stmt-at tree left l at ≡ got s n
+      → WhileAt tree (word16 tree 2) (read-expr tree (word16 tree 2) (left - 1)) (read-stmt tree (word16 tree 2) (left - 1) (funs-left l)) at s n
   parts h = while-at tree (word16 tree 2) left (funs-left l) at mark h
 
   pub while-cond : There (stmt-at tree left l at) → There (expr-at tree (left - 1) (at + 10))
@@ -50,7 +51,8 @@ module _ (tree : List ℕ) (l at left : ℕ) (mark : letters tree at ≡ marks.S
     module _ {m1 : Mem} {ra : Step} (a : Ran class limit l (expr-at tree (left - 1) (at + 10)) before m1 ra) where
       pub while-stop : (sp : span ≡ span-of tree (at + 2)) (out : List ℕ) {x : Refusal} → ra ≡ Stop x → Walked class limit l at (stmt-at tree left l at) (compile-stmt limit) before out m1 out ra
       while-stop sp out q = record {
-        did = λ s n h. by-parts (whole span sp h) (while-cut limit span (parts h .cond) (parts h .body)) (stopped q (run-refused (asked out) _ (refused-seq (stuck (a .did (parts h .cond) (parts h .mid) (parts h .one)) q) _)));
+        did = λ s n h. by-parts (whole span sp h) (while-cut limit span (parts h .cond) (parts h .body))
+            (stopped q (run-refused (asked out) _ (refused-seq (stuck (a .did (parts h .cond) (parts h .mid) (parts h .one)) q) _)));
       }
 
       pub while-fit : {n1 : ℕ} → There (stmt-at tree left l at) → ra ≡ Next n1 → Fit m1 l limit
@@ -68,12 +70,14 @@ module _ (tree : List ℕ) (l at left : ℕ) (mark : letters tree at ≡ marks.S
             omega (arith, e, k)
 
         first : (out : List ℕ) {s : Stmt} {n : ℕ} (h : stmt-at tree left l at ≡ got s n) → Run class limit l at n1 steady (compile-expr limit (parts h .cond)) tt before out m1 out
-        first out h = of-gave out refl (subst (λ (k : ℕ). at ≤ k) (sym (here h)) (ten-on at (later-expr tree (word16 tree 2) (left - 1) (at + 10) (parts h .one)))) (went (a .did (parts h .cond) (parts h .mid) (parts h .one)) qa)
+        first out h = of-gave out refl (subst (λ (k : ℕ). at ≤ k) (sym (here h)) (ten-on at (later-expr tree (word16 tree 2) (left - 1) (at + 10) (parts h .one))))
+            (went (a .did (parts h .cond) (parts h .mid) (parts h .one)) qa)
 
         module _ {m2 : Mem} {rb : Step} (b : Opened class limit l steady (open-jump limit span) m1 m2 rb) where
           pub while-stop-2 : (sp : span ≡ span-of tree (at + 2)) (out : List ℕ) {x : Refusal} → rb ≡ Stop x → Walked class limit l at (stmt-at tree left l at) (compile-stmt limit) before out m2 out rb
           while-stop-2 sp out q = record {
-            did = λ s n h. by-parts (whole span sp h) (while-cut limit span (parts h .cond) (parts h .body)) (stopped q (run-refused (asked out) _ (run-refused-seq (first out h) _ (refused-bind (stuck-to b q) _))));
+            did = λ s n h. by-parts (whole span sp h) (while-cut limit span (parts h .cond) (parts h .body))
+                (stopped q (run-refused (asked out) _ (run-refused-seq (first out h) _ (refused-bind (stuck-to b q) _))));
           }
 
           module _ {j : ℕ} (qb : rb ≡ Next j) where
@@ -115,7 +119,9 @@ module _ (tree : List ℕ) (l at left : ℕ) (mark : letters tree at ≡ marks.S
                 while-done sp {now} {rg} g = record {
                   did = λ s n h. by-parts (whole span sp h) (while-cut limit span (parts h .cond) (parts h .body))
                       (conclude
-                      (λ z. to-grew (λ d. refl) refl (λ x. refl) (run-bind free-steady _ (asked out) (run-seq free-steady _ (first out h) (run-bind free-steady _ (second out) (run-seq free-steady _ (third h) (of-gave out3 refl (le-refl n) z))))))
+                      (λ z. to-grew (λ d. refl) refl (λ x. refl)
+                      (run-bind free-steady _ (asked out)
+                      (run-seq free-steady _ (first out h) (run-bind free-steady _ (second out) (run-seq free-steady _ (third h) (of-gave out3 refl (le-refl n) z))))))
                       (λ x z. run-refused (asked out) _ (run-refused-seq (first out h) _ (run-refused (second out) _ (run-refused-seq (third h) _ z))))
                       (on-to (reached (body-did h) qd) g));
                 }

@@ -148,31 +148,39 @@ module _ (t : ℕ) where
   -- ## The needs
 
   pub add-u8-at-2 : here lts.Need-add-u8-at-2 t
-  add-u8-at-2 c = let b = fors.bound (start-4 t c .pre .1) (mark-4 t c) in omega (arith, b, start-4 t c .good)
+  add-u8-at-2 c =
+      let p = start-4 t c .pre .1 in
+      let b = fors.bound p (mark-4 t c) in
+      omega (arith, b, start-4 t c .good)
 
   pub u8-at-requires-2 : here lts.Need-u8-at-requires-2 t
-  u8-at-requires-2 c κs = let b = fors.bound (start-4 t c .pre .1) (mark-4 t c) in omega (arith, b)
+  u8-at-requires-2 c κs =
+      let p = start-4 t c .pre .1 in
+      let b = fors.bound p (mark-4 t c) in
+      omega (arith, b)
 
   pub begin-scope-requires-2 : here lts.Need-begin-scope-requires-2 t
-  begin-scope-requires-2 c κs = (
-    (start-4 t (c .before .before) .pre .1) .ready .fit .low,
-    (start-4 t (c .before .before) .pre .1) .ready .fit .wf,
-    calls.scope-room _ _ _ _ _ (calls.room _ _ _ _ ((start-4 t
-        (c .before .before) .pre .1) .there)) ((start-4 t (c .before .before) .pre .1) .ready),
-  )
+  begin-scope-requires-2 c κs =
+      let arm = c .before .before in
+      let p = start-4 t arm .pre .1 in
+      (p .ready .fit .low, p .ready .fit .wf, calls.scope-room _ _ _ _ _ (calls.room _ _ _ _ (p .there)) (p .ready))
 
   pub add-next-2 : here lts.Need-add-next-2 t
   add-next-2 c =
-      let begin-scope-arg2 = c .before .before .before in
-      let b = fors.bound (start-4 t (begin-scope-arg2 .before .before) .pre .1) (mark-4 t (begin-scope-arg2 .before .before)) in omega (arith, b, start-4 t (begin-scope-arg2 .before .before) .good)
+      let scope = c .before .before in
+      let arm = scope .before .before .before in
+      let p = start-4 t arm .pre .1 in
+      let b = fors.bound p (mark-4 t arm) in
+      omega (arith, b, start-4 t arm .good)
 
   pub compile-stmt-requires-5 : here lts.Need-compile-stmt-requires-5 t
   compile-stmt-requires-5 c κs =
-      let then6 = init-asked c in
-      let begin-scope2 = then6 .before .before .before in
-      fors.init (start-4 t (begin-scope2 .before .before .before) .pre .1) (mark-4 t (begin-scope2 .before .before .before)) (begin-scope2 .before .before .u8-at2 .ensures) {class
-      = 0} (then6 .before .before .before .begin-scope2 .ensures .gives _ _ ((start-4 t (begin-scope2 .before .before .before) .pre .1) .ready .fit)) (then6 .if6 .taken) (start-4 t
-      (begin-scope2 .before .before .before) .pre .0)
+      let started = init-asked c in
+      let scope = started .before .before .before in
+      let arm = scope .before .before .before in
+      let p = start-4 t arm .pre .1 in
+      fors.init p (mark-4 t arm) (scope .before .before .u8-at2 .ensures) {class = 0} (started .before .before .before .begin-scope2 .ensures .gives _ _ (p .ready .fit))
+      (started .if6 .taken) (start-4 t arm .pre .0)
 
   pub enum-known-a-4 : here lts.Need-enum-known-a-4 t
   enum-known-a-4 c = search needs
@@ -183,8 +191,8 @@ module _ (t : ℕ) where
   pub same-length-49 : here lts.Need-same-length-49 t
   same-length-49 c =
       let init = init-halted c in
-      let then6 = init-asked (init .before) in
-      init .compile-stmt5 .kept .1 .1 .0 ∙ then6 .before .before .before .begin-scope2 .kept .0
+      let started = init-asked (init .before) in
+      init .compile-stmt5 .kept .1 .1 .0 ∙ started .before .before .before .begin-scope2 .kept .0
 
   pub same-length-50 : here lts.Need-same-length-50 t
   same-length-50 c =
@@ -204,30 +212,34 @@ module _ (t : ℕ) where
   pub returns-14 : here lts.Need-returns-14 t
   returns-14 c =
       let init = init-halted c in
-      let then6 = init-asked (init .before) in
-      let begin-scope2 = then6 .before .before .before in
-      fors.stop (start-4 t (begin-scope2 .before .before .before) .pre .1) (mark-4 t (begin-scope2 .before .before .before)) (begin-scope2 .before .before .u8-at2 .ensures) (then6 .before .before .before .begin-scope2 .ensures .gives
-      _ _ ((start-4 t (begin-scope2 .before .before .before) .pre .1) .ready .fit)) (then6 .if6 .taken) (init .compile-stmt5 .ensures) (spanned-4 t (begin-scope2 .before .before .before) .span-at .ensures)
-      (c .enum-told10 .given .1)
+      let started = init-asked (init .before) in
+      let scope = started .before .before .before in
+      let arm = scope .before .before .before in
+      let p = start-4 t arm .pre .1 in
+      fors.stop p (mark-4 t arm) (scope .before .before .u8-at2 .ensures) (started .before .before .before .begin-scope2 .ensures .gives _ _ (p .ready .fit)) (started .if6 .taken)
+      (init .compile-stmt5 .ensures) (spanned-4 t arm .span-at .ensures) (c .enum-told10 .given .1)
 
   pub code-length-requires-2 : here lts.Need-code-length-requires-2 t
   code-length-requires-2 c κs =
-      let t15 = c .before .before .before in
-      let u8-at2 = t15 .before .before .before in
-      let f = fors.fit (start-4 t (u8-at2 .before) .pre .1) (mark-4 t (u8-at2 .before)) (t15 .before .before .before .u8-at2 .ensures) (t15 .before .begin-scope2 .ensures .gives _
-      _ ((start-4 t (u8-at2 .before) .pre .1) .ready .fit)) (spanned-4 t (u8-at2 .before) .span-at .ensures) (joined (c .before) .0) in (f .low, f .wf .size, f .coded .top)
+      let met = c .before in
+      let scope = scoped met in
+      let arm = scope .before .before .before in
+      let p = start-4 t arm .pre .1 in
+      let f = fors.fit p (mark-4 t arm) (scope .before .before .u8-at2 .ensures) (scope .begin-scope2 .ensures .gives _ _ (p .ready .fit)) (spanned-4 t arm .span-at .ensures)
+      (joined met .0) in
+      (f .low, f .wf .size, f .coded .top)
 
   pub for-cond-requires : here lts.Need-for-cond-requires t
   for-cond-requires c κs =
-      let code-length2 = cond-asked c in
-      let slice-known49 = code-length2 .before .before .before in
-      let begin-scope-arg2 = slice-known49 .before .before .before in (
-        fors.cond-there (start-4 t (begin-scope-arg2 .before .before) .pre .1) (mark-4 t (begin-scope-arg2 .before .before)) (begin-scope-arg2 .before .u8-at2 .ensures)
-            (slice-known49 .before .before .begin-scope2 .ensures .gives _ _ ((start-4 t (begin-scope-arg2 .before .before) .pre .1) .ready .fit)) (spanned-4 t (begin-scope-arg2 .before .before) .span-at .ensures)
-            (joined (code-length2 .before .before) .0),
-        fors.fit (start-4 t (begin-scope-arg2 .before .before) .pre .1) (mark-4 t (begin-scope-arg2 .before .before)) (begin-scope-arg2 .before .u8-at2 .ensures)
-            (slice-known49 .before .before .begin-scope2 .ensures .gives _ _ ((start-4 t (begin-scope-arg2 .before .before) .pre .1) .ready .fit)) (spanned-4 t (begin-scope-arg2 .before .before) .span-at .ensures)
-            (joined (code-length2 .before .before) .0),
+      let begin = cond-asked c in
+      let met = begin .before .before in
+      let scope = scoped met in
+      let arm = scope .before .before .before in
+      let p = start-4 t arm .pre .1 in (
+        fors.cond-there p (mark-4 t arm) (scope .before .before .u8-at2 .ensures) (scope .begin-scope2 .ensures .gives _ _ (p .ready .fit)) (spanned-4 t arm .span-at .ensures)
+            (joined met .0),
+        fors.fit p (mark-4 t arm) (scope .before .before .u8-at2 .ensures) (scope .begin-scope2 .ensures .gives _ _ (p .ready .fit)) (spanned-4 t arm .span-at .ensures)
+            (joined met .0),
       )
 
   pub enum-known-test : here lts.Need-enum-known-test t
@@ -239,47 +251,53 @@ module _ (t : ℕ) where
   pub same-length-53 : here lts.Need-same-length-53 t
   same-length-53 c =
       let cond = cond-halted c in
-      let code-length2 = cond-asked (cond .before) in
-      cond .for-cond .kept .1 .1 .1 .0 ∙ joined (code-length2 .before .before) .1
+      let begin = cond-asked (cond .before) in
+      let met = begin .before .before in
+      cond .for-cond .kept .1 .1 .1 .0 ∙ joined met .1
 
   pub same-length-54 : here lts.Need-same-length-54 t
   same-length-54 c =
       let cond = cond-halted c in
-      let code-length2 = cond-asked (cond .before) in
-      cond .for-cond .kept .1 .1 .1 .1 .0 ∙ joined (code-length2 .before .before) .2
+      let begin = cond-asked (cond .before) in
+      let met = begin .before .before in
+      cond .for-cond .kept .1 .1 .1 .1 .0 ∙ joined met .2
 
   pub same-length-55 : here lts.Need-same-length-55 t
   same-length-55 c =
       let cond = cond-halted c in
-      let code-length2 = cond-asked (cond .before) in
-      cond .for-cond .kept .1 .1 .1 .1 .1 .0 ∙ joined (code-length2 .before .before) .3
+      let begin = cond-asked (cond .before) in
+      let met = begin .before .before in
+      cond .for-cond .kept .1 .1 .1 .1 .1 .0 ∙ joined met .3
 
   pub same-length-56 : here lts.Need-same-length-56 t
   same-length-56 c =
       let cond = cond-halted c in
-      let code-length2 = cond-asked (cond .before) in
-      joined (code-length2 .before .before) .4
+      let begin = cond-asked (cond .before) in
+      let met = begin .before .before in
+      joined met .4
 
   pub returns-15 : here lts.Need-returns-15 t
   returns-15 c =
       let cond = cond-halted c in
-      let code-length2 = cond-asked (cond .before) in
-      let slice-known49 = code-length2 .before .before .before in
-      let begin-scope-arg2 = slice-known49 .before .before .before in
-      fors.stop-2 (start-4 t (begin-scope-arg2 .before .before) .pre .1) (mark-4 t (begin-scope-arg2 .before .before)) (begin-scope-arg2 .before .u8-at2 .ensures) (slice-known49 .before .before .begin-scope2 .ensures .gives
-      _ _ ((start-4 t (begin-scope-arg2 .before .before) .pre .1) .ready .fit)) (spanned-4 t (begin-scope-arg2 .before .before) .span-at .ensures) (joined (code-length2 .before .before) .0)
-      (code-length2 .code-length2 .ensures) (cond .for-cond .ensures) (c .enum-told11 .given .1)
+      let begin = cond-asked (cond .before) in
+      let met = begin .before .before in
+      let scope = scoped met in
+      let arm = scope .before .before .before in
+      let p = start-4 t arm .pre .1 in
+      fors.stop-2 p (mark-4 t arm) (scope .before .before .u8-at2 .ensures) (scope .begin-scope2 .ensures .gives _ _ (p .ready .fit)) (spanned-4 t arm .span-at .ensures)
+      (joined met .0) (begin .code-length2 .ensures) (cond .for-cond .ensures) (c .enum-told11 .given .1)
 
   pub compile-stmt-requires-6 : here lts.Need-compile-stmt-requires-6 t
   compile-stmt-requires-6 c κs =
       let past-cond = body-asked c in
       let cond = cond-went past-cond in
-      let code-length2 = cond-asked (cond .before) in
-      let slice-known49 = code-length2 .before .before .before in
-      let begin-scope-arg2 = slice-known49 .before .before .before in
-      fors.body (start-4 t (begin-scope-arg2 .before .before) .pre .1) (mark-4 t (begin-scope-arg2 .before .before)) (begin-scope-arg2 .before .u8-at2 .ensures) (slice-known49 .before .before .begin-scope2 .ensures .gives
-      _ _ ((start-4 t (begin-scope-arg2 .before .before) .pre .1) .ready .fit)) (spanned-4 t (begin-scope-arg2 .before .before) .span-at .ensures) (joined (code-length2 .before .before) .0)
-      (code-length2 .code-length2 .ensures) (cond .for-cond .ensures) (past-cond .before .test .given .1) (start-4 t (begin-scope-arg2 .before .before) .pre .0)
+      let begin = cond-asked (cond .before) in
+      let met = begin .before .before in
+      let scope = scoped met in
+      let arm = scope .before .before .before in
+      let p = start-4 t arm .pre .1 in
+      fors.body p (mark-4 t arm) (scope .before .before .u8-at2 .ensures) (scope .begin-scope2 .ensures .gives _ _ (p .ready .fit)) (spanned-4 t arm .span-at .ensures)
+      (joined met .0) (begin .code-length2 .ensures) (cond .for-cond .ensures) (past-cond .before .test .given .1) (start-4 t arm .pre .0)
 
   pub enum-known-d-3 : here lts.Need-enum-known-d-3 t
   enum-known-d-3 c = search needs
@@ -292,44 +310,49 @@ module _ (t : ℕ) where
       let body = body-halted c in
       let past-cond = body-asked (body .before) in
       let cond = cond-went past-cond in
-      let code-length2 = cond-asked (cond .before) in
-      body .compile-stmt6 .kept .1 .1 .0 ∙ cond .for-cond .kept .1 .1 .1 .0 ∙ joined (code-length2 .before .before) .1
+      let begin = cond-asked (cond .before) in
+      let met = begin .before .before in
+      body .compile-stmt6 .kept .1 .1 .0 ∙ cond .for-cond .kept .1 .1 .1 .0 ∙ joined met .1
 
   pub same-length-58 : here lts.Need-same-length-58 t
   same-length-58 c =
       let body = body-halted c in
       let past-cond = body-asked (body .before) in
       let cond = cond-went past-cond in
-      let code-length2 = cond-asked (cond .before) in
-      body .compile-stmt6 .kept .1 .1 .1 .0 ∙ cond .for-cond .kept .1 .1 .1 .1 .0 ∙ joined (code-length2 .before .before) .2
+      let begin = cond-asked (cond .before) in
+      let met = begin .before .before in
+      body .compile-stmt6 .kept .1 .1 .1 .0 ∙ cond .for-cond .kept .1 .1 .1 .1 .0 ∙ joined met .2
 
   pub same-length-59 : here lts.Need-same-length-59 t
   same-length-59 c =
       let body = body-halted c in
       let past-cond = body-asked (body .before) in
       let cond = cond-went past-cond in
-      let code-length2 = cond-asked (cond .before) in
-      body .compile-stmt6 .kept .1 .1 .1 .1 .0 ∙ cond .for-cond .kept .1 .1 .1 .1 .1 .0 ∙ joined (code-length2 .before .before) .3
+      let begin = cond-asked (cond .before) in
+      let met = begin .before .before in
+      body .compile-stmt6 .kept .1 .1 .1 .1 .0 ∙ cond .for-cond .kept .1 .1 .1 .1 .1 .0 ∙ joined met .3
 
   pub same-length-60 : here lts.Need-same-length-60 t
   same-length-60 c =
       let body = body-halted c in
       let past-cond = body-asked (body .before) in
       let cond = cond-went past-cond in
-      let code-length2 = cond-asked (cond .before) in
-      body .compile-stmt6 .kept .1 .1 .1 .1 .1 .0 ∙ joined (code-length2 .before .before) .4
+      let begin = cond-asked (cond .before) in
+      let met = begin .before .before in
+      body .compile-stmt6 .kept .1 .1 .1 .1 .1 .0 ∙ joined met .4
 
   pub returns-16 : here lts.Need-returns-16 t
   returns-16 c =
       let body = body-halted c in
       let past-cond = body-asked (body .before) in
       let cond = cond-went past-cond in
-      let code-length2 = cond-asked (cond .before) in
-      let slice-known49 = code-length2 .before .before .before in
-      let begin-scope-arg2 = slice-known49 .before .before .before in
-      fors.stop-3 (start-4 t (begin-scope-arg2 .before .before) .pre .1) (mark-4 t (begin-scope-arg2 .before .before)) (begin-scope-arg2 .before .u8-at2 .ensures) (slice-known49 .before .before .begin-scope2 .ensures .gives
-      _ _ ((start-4 t (begin-scope-arg2 .before .before) .pre .1) .ready .fit)) (spanned-4 t (begin-scope-arg2 .before .before) .span-at .ensures) (joined (code-length2 .before .before) .0)
-      (code-length2 .code-length2 .ensures) (cond .for-cond .ensures) (past-cond .before .test .given .1) (body .compile-stmt6 .ensures) (c .enum-told12 .given .1)
+      let begin = cond-asked (cond .before) in
+      let met = begin .before .before in
+      let scope = scoped met in
+      let arm = scope .before .before .before in
+      let p = start-4 t arm .pre .1 in
+      fors.stop-3 p (mark-4 t arm) (scope .before .before .u8-at2 .ensures) (scope .begin-scope2 .ensures .gives _ _ (p .ready .fit)) (spanned-4 t arm .span-at .ensures)
+      (joined met .0) (begin .code-length2 .ensures) (cond .for-cond .ensures) (past-cond .before .test .given .1) (body .compile-stmt6 .ensures) (c .enum-told12 .given .1)
 
   pub for-incr-requires : here lts.Need-for-incr-requires t
   for-incr-requires c κs =
@@ -337,16 +360,16 @@ module _ (t : ℕ) where
       let body = body-went past-body in
       let past-cond = body-asked (body .before) in
       let cond = cond-went past-cond in
-      let code-length2 = cond-asked (cond .before) in
-      let slice-known49 = code-length2 .before .before .before in
-      let begin-scope-arg2 = slice-known49 .before .before .before in (
-        fors.incr-there (start-4 t (begin-scope-arg2 .before .before) .pre .1) (mark-4 t (begin-scope-arg2 .before .before)) (begin-scope-arg2 .before .u8-at2 .ensures)
-            (slice-known49 .before .before .begin-scope2 .ensures .gives _ _ ((start-4 t (begin-scope-arg2 .before .before) .pre .1) .ready .fit)) (spanned-4 t (begin-scope-arg2 .before .before) .span-at .ensures)
-            (joined (code-length2 .before .before) .0) (code-length2 .code-length2 .ensures) (cond .for-cond .ensures) (past-cond .before .test .given .1) (body .compile-stmt6 .ensures)
+      let begin = cond-asked (cond .before) in
+      let met = begin .before .before in
+      let scope = scoped met in
+      let arm = scope .before .before .before in
+      let p = start-4 t arm .pre .1 in (
+        fors.incr-there p (mark-4 t arm) (scope .before .before .u8-at2 .ensures) (scope .begin-scope2 .ensures .gives _ _ (p .ready .fit)) (spanned-4 t arm .span-at .ensures)
+            (joined met .0) (begin .code-length2 .ensures) (cond .for-cond .ensures) (past-cond .before .test .given .1) (body .compile-stmt6 .ensures)
             (past-body .before .d3 .given .1),
-        fors.fit-2 (start-4 t (begin-scope-arg2 .before .before) .pre .1) (mark-4 t (begin-scope-arg2 .before .before)) (begin-scope-arg2 .before .u8-at2 .ensures)
-            (slice-known49 .before .before .begin-scope2 .ensures .gives _ _ ((start-4 t (begin-scope-arg2 .before .before) .pre .1) .ready .fit)) (spanned-4 t (begin-scope-arg2 .before .before) .span-at .ensures)
-            (joined (code-length2 .before .before) .0) (code-length2 .code-length2 .ensures) (cond .for-cond .ensures) (past-cond .before .test .given .1) (body .compile-stmt6 .ensures)
+        fors.fit-2 p (mark-4 t arm) (scope .before .before .u8-at2 .ensures) (scope .begin-scope2 .ensures .gives _ _ (p .ready .fit)) (spanned-4 t arm .span-at .ensures)
+            (joined met .0) (begin .code-length2 .ensures) (cond .for-cond .ensures) (past-cond .before .test .given .1) (body .compile-stmt6 .ensures)
             (past-body .before .d3 .given .1),
       )
 
@@ -363,8 +386,9 @@ module _ (t : ℕ) where
       let body = body-went past-body in
       let past-cond = body-asked (body .before) in
       let cond = cond-went past-cond in
-      let code-length2 = cond-asked (cond .before) in
-      incr .for-incr .kept .1 .1 .1 .0 ∙ body .compile-stmt6 .kept .1 .1 .0 ∙ cond .for-cond .kept .1 .1 .1 .0 ∙ joined (code-length2 .before .before) .1
+      let begin = cond-asked (cond .before) in
+      let met = begin .before .before in
+      incr .for-incr .kept .1 .1 .1 .0 ∙ body .compile-stmt6 .kept .1 .1 .0 ∙ cond .for-cond .kept .1 .1 .1 .0 ∙ joined met .1
 
   pub same-length-62 : here lts.Need-same-length-62 t
   same-length-62 c =
@@ -373,8 +397,9 @@ module _ (t : ℕ) where
       let body = body-went past-body in
       let past-cond = body-asked (body .before) in
       let cond = cond-went past-cond in
-      let code-length2 = cond-asked (cond .before) in
-      incr .for-incr .kept .1 .1 .1 .1 .0 ∙ body .compile-stmt6 .kept .1 .1 .1 .0 ∙ cond .for-cond .kept .1 .1 .1 .1 .0 ∙ joined (code-length2 .before .before) .2
+      let begin = cond-asked (cond .before) in
+      let met = begin .before .before in
+      incr .for-incr .kept .1 .1 .1 .1 .0 ∙ body .compile-stmt6 .kept .1 .1 .1 .0 ∙ cond .for-cond .kept .1 .1 .1 .1 .0 ∙ joined met .2
 
   pub same-length-63 : here lts.Need-same-length-63 t
   same-length-63 c =
@@ -383,8 +408,9 @@ module _ (t : ℕ) where
       let body = body-went past-body in
       let past-cond = body-asked (body .before) in
       let cond = cond-went past-cond in
-      let code-length2 = cond-asked (cond .before) in
-      incr .for-incr .kept .1 .1 .1 .1 .1 .0 ∙ body .compile-stmt6 .kept .1 .1 .1 .1 .0 ∙ cond .for-cond .kept .1 .1 .1 .1 .1 .0 ∙ joined (code-length2 .before .before) .3
+      let begin = cond-asked (cond .before) in
+      let met = begin .before .before in
+      incr .for-incr .kept .1 .1 .1 .1 .1 .0 ∙ body .compile-stmt6 .kept .1 .1 .1 .1 .0 ∙ cond .for-cond .kept .1 .1 .1 .1 .1 .0 ∙ joined met .3
 
   pub same-length-64 : here lts.Need-same-length-64 t
   same-length-64 c =
@@ -393,8 +419,9 @@ module _ (t : ℕ) where
       let body = body-went past-body in
       let past-cond = body-asked (body .before) in
       let cond = cond-went past-cond in
-      let code-length2 = cond-asked (cond .before) in
-      body .compile-stmt6 .kept .1 .1 .1 .1 .1 .0 ∙ joined (code-length2 .before .before) .4
+      let begin = cond-asked (cond .before) in
+      let met = begin .before .before in
+      body .compile-stmt6 .kept .1 .1 .1 .1 .1 .0 ∙ joined met .4
 
   pub returns-17 : here lts.Need-returns-17 t
   returns-17 c =
@@ -403,13 +430,14 @@ module _ (t : ℕ) where
       let body = body-went past-body in
       let past-cond = body-asked (body .before) in
       let cond = cond-went past-cond in
-      let code-length2 = cond-asked (cond .before) in
-      let slice-known49 = code-length2 .before .before .before in
-      let begin-scope-arg2 = slice-known49 .before .before .before in
-      fors.stop-4 (start-4 t (begin-scope-arg2 .before .before) .pre .1) (mark-4 t (begin-scope-arg2 .before .before)) (begin-scope-arg2 .before .u8-at2 .ensures) (slice-known49 .before .before .begin-scope2 .ensures .gives
-      _ _ ((start-4 t (begin-scope-arg2 .before .before) .pre .1) .ready .fit)) (spanned-4 t (begin-scope-arg2 .before .before) .span-at .ensures) (joined (code-length2 .before .before) .0)
-      (code-length2 .code-length2 .ensures) (cond .for-cond .ensures) (past-cond .before .test .given .1) (body .compile-stmt6 .ensures) (past-body .before .d3 .given .1) (incr .for-incr .ensures)
-      (c .enum-told13 .given .1)
+      let begin = cond-asked (cond .before) in
+      let met = begin .before .before in
+      let scope = scoped met in
+      let arm = scope .before .before .before in
+      let p = start-4 t arm .pre .1 in
+      fors.stop-4 p (mark-4 t arm) (scope .before .before .u8-at2 .ensures) (scope .begin-scope2 .ensures .gives _ _ (p .ready .fit)) (spanned-4 t arm .span-at .ensures)
+      (joined met .0) (begin .code-length2 .ensures) (cond .for-cond .ensures) (past-cond .before .test .given .1) (body .compile-stmt6 .ensures) (past-body .before .d3 .given .1)
+      (incr .for-incr .ensures) (c .enum-told13 .given .1)
 
   pub close-loop-requires-2 : here lts.Need-close-loop-requires-2 t
   close-loop-requires-2 c κs =
@@ -419,13 +447,14 @@ module _ (t : ℕ) where
       let body = body-went past-body in
       let past-cond = body-asked (body .before) in
       let cond = cond-went past-cond in
-      let code-length2 = cond-asked (cond .before) in
-      let slice-known49 = code-length2 .before .before .before in
-      let begin-scope-arg2 = slice-known49 .before .before .before in
-      fors.close (start-4 t (begin-scope-arg2 .before .before) .pre .1) (mark-4 t (begin-scope-arg2 .before .before)) (begin-scope-arg2 .before .u8-at2 .ensures) (slice-known49 .before .before .begin-scope2 .ensures .gives
-      _ _ ((start-4 t (begin-scope-arg2 .before .before) .pre .1) .ready .fit)) (spanned-4 t (begin-scope-arg2 .before .before) .span-at .ensures) (joined (code-length2 .before .before) .0)
-      (code-length2 .code-length2 .ensures) (cond .for-cond .ensures) (past-cond .before .test .given .1) (body .compile-stmt6 .ensures) (past-body .before .d3 .given .1) (incr .for-incr .ensures)
-      (past-incr .before .e2 .given .1)
+      let begin = cond-asked (cond .before) in
+      let met = begin .before .before in
+      let scope = scoped met in
+      let arm = scope .before .before .before in
+      let p = start-4 t arm .pre .1 in
+      fors.close p (mark-4 t arm) (scope .before .before .u8-at2 .ensures) (scope .begin-scope2 .ensures .gives _ _ (p .ready .fit)) (spanned-4 t arm .span-at .ensures)
+      (joined met .0) (begin .code-length2 .ensures) (cond .for-cond .ensures) (past-cond .before .test .given .1) (body .compile-stmt6 .ensures) (past-body .before .d3 .given .1)
+      (incr .for-incr .ensures) (past-incr .before .e2 .given .1)
 
   pub enum-told-14 : here lts.Need-enum-told-14 t
   enum-told-14 c = search needs
@@ -442,8 +471,9 @@ module _ (t : ℕ) where
       let body = body-went past-body in
       let past-cond = body-asked (body .before) in
       let cond = cond-went past-cond in
-      let code-length2 = cond-asked (cond .before) in
-      close .close-loop2 .kept .0 ∙ incr .for-incr .kept .1 .1 .1 .0 ∙ body .compile-stmt6 .kept .1 .1 .0 ∙ cond .for-cond .kept .1 .1 .1 .0 ∙ joined (code-length2 .before .before) .1
+      let begin = cond-asked (cond .before) in
+      let met = begin .before .before in
+      close .close-loop2 .kept .0 ∙ incr .for-incr .kept .1 .1 .1 .0 ∙ body .compile-stmt6 .kept .1 .1 .0 ∙ cond .for-cond .kept .1 .1 .1 .0 ∙ joined met .1
 
   pub same-length-66 : here lts.Need-same-length-66 t
   same-length-66 c =
@@ -454,8 +484,9 @@ module _ (t : ℕ) where
       let body = body-went past-body in
       let past-cond = body-asked (body .before) in
       let cond = cond-went past-cond in
-      let code-length2 = cond-asked (cond .before) in
-      close .close-loop2 .kept .1 .0 ∙ incr .for-incr .kept .1 .1 .1 .1 .0 ∙ body .compile-stmt6 .kept .1 .1 .1 .0 ∙ cond .for-cond .kept .1 .1 .1 .1 .0 ∙ joined (code-length2 .before .before) .2
+      let begin = cond-asked (cond .before) in
+      let met = begin .before .before in
+      close .close-loop2 .kept .1 .0 ∙ incr .for-incr .kept .1 .1 .1 .1 .0 ∙ body .compile-stmt6 .kept .1 .1 .1 .0 ∙ cond .for-cond .kept .1 .1 .1 .1 .0 ∙ joined met .2
 
   pub same-length-67 : here lts.Need-same-length-67 t
   same-length-67 c =
@@ -466,9 +497,9 @@ module _ (t : ℕ) where
       let body = body-went past-body in
       let past-cond = body-asked (body .before) in
       let cond = cond-went past-cond in
-      let code-length2 = cond-asked (cond .before) in
-      close .close-loop2 .kept .1 .1 .0 ∙ incr .for-incr .kept .1 .1 .1 .1 .1 .0 ∙ body .compile-stmt6 .kept .1 .1 .1 .1 .0 ∙ cond .for-cond .kept .1 .1 .1 .1 .1 .0 ∙ joined
-      (code-length2 .before .before) .3
+      let begin = cond-asked (cond .before) in
+      let met = begin .before .before in
+      close .close-loop2 .kept .1 .1 .0 ∙ incr .for-incr .kept .1 .1 .1 .1 .1 .0 ∙ body .compile-stmt6 .kept .1 .1 .1 .1 .0 ∙ cond .for-cond .kept .1 .1 .1 .1 .1 .0 ∙ joined met .3
 
   pub same-length-68 : here lts.Need-same-length-68 t
   same-length-68 c =
@@ -479,8 +510,9 @@ module _ (t : ℕ) where
       let body = body-went past-body in
       let past-cond = body-asked (body .before) in
       let cond = cond-went past-cond in
-      let code-length2 = cond-asked (cond .before) in
-      body .compile-stmt6 .kept .1 .1 .1 .1 .1 .0 ∙ joined (code-length2 .before .before) .4
+      let begin = cond-asked (cond .before) in
+      let met = begin .before .before in
+      body .compile-stmt6 .kept .1 .1 .1 .1 .1 .0 ∙ joined met .4
 
   pub returns-18 : here lts.Need-returns-18 t
   returns-18 c =
@@ -491,13 +523,14 @@ module _ (t : ℕ) where
       let body = body-went past-body in
       let past-cond = body-asked (body .before) in
       let cond = cond-went past-cond in
-      let code-length2 = cond-asked (cond .before) in
-      let slice-known49 = code-length2 .before .before .before in
-      let begin-scope-arg2 = slice-known49 .before .before .before in
-      fors.stop-5 (start-4 t (begin-scope-arg2 .before .before) .pre .1) (mark-4 t (begin-scope-arg2 .before .before)) (begin-scope-arg2 .before .u8-at2 .ensures) (slice-known49 .before .before .begin-scope2 .ensures .gives
-      _ _ ((start-4 t (begin-scope-arg2 .before .before) .pre .1) .ready .fit)) (spanned-4 t (begin-scope-arg2 .before .before) .span-at .ensures) (joined (code-length2 .before .before) .0)
-      (code-length2 .code-length2 .ensures) (cond .for-cond .ensures) (past-cond .before .test .given .1) (body .compile-stmt6 .ensures) (past-body .before .d3 .given .1) (incr .for-incr .ensures)
-      (past-incr .before .e2 .given .1) (close .close-loop2 .ensures) (c .enum-told15 .given .1)
+      let begin = cond-asked (cond .before) in
+      let met = begin .before .before in
+      let scope = scoped met in
+      let arm = scope .before .before .before in
+      let p = start-4 t arm .pre .1 in
+      fors.stop-5 p (mark-4 t arm) (scope .before .before .u8-at2 .ensures) (scope .begin-scope2 .ensures .gives _ _ (p .ready .fit)) (spanned-4 t arm .span-at .ensures)
+      (joined met .0) (begin .code-length2 .ensures) (cond .for-cond .ensures) (past-cond .before .test .given .1) (body .compile-stmt6 .ensures) (past-body .before .d3 .given .1)
+      (incr .for-incr .ensures) (past-incr .before .e2 .given .1) (close .close-loop2 .ensures) (c .enum-told15 .given .1)
 
   pub end-scope-requires-2 : here lts.Need-end-scope-requires-2 t
   end-scope-requires-2 c κs =
@@ -509,13 +542,14 @@ module _ (t : ℕ) where
       let body = body-went past-body in
       let past-cond = body-asked (body .before) in
       let cond = cond-went past-cond in
-      let code-length2 = cond-asked (cond .before) in
-      let slice-known49 = code-length2 .before .before .before in
-      let begin-scope-arg2 = slice-known49 .before .before .before in
-      fors.end (start-4 t (begin-scope-arg2 .before .before) .pre .1) (mark-4 t (begin-scope-arg2 .before .before)) (begin-scope-arg2 .before .u8-at2 .ensures) (slice-known49 .before .before .begin-scope2 .ensures .gives
-      _ _ ((start-4 t (begin-scope-arg2 .before .before) .pre .1) .ready .fit)) (spanned-4 t (begin-scope-arg2 .before .before) .span-at .ensures) (joined (code-length2 .before .before) .0)
-      (code-length2 .code-length2 .ensures) (cond .for-cond .ensures) (past-cond .before .test .given .1) (body .compile-stmt6 .ensures) (past-body .before .d3 .given .1) (incr .for-incr .ensures)
-      (past-incr .before .e2 .given .1) (close .close-loop2 .ensures) (past-close .enum-told14 .given .1)
+      let begin = cond-asked (cond .before) in
+      let met = begin .before .before in
+      let scope = scoped met in
+      let arm = scope .before .before .before in
+      let p = start-4 t arm .pre .1 in
+      fors.end p (mark-4 t arm) (scope .before .before .u8-at2 .ensures) (scope .begin-scope2 .ensures .gives _ _ (p .ready .fit)) (spanned-4 t arm .span-at .ensures)
+      (joined met .0) (begin .code-length2 .ensures) (cond .for-cond .ensures) (past-cond .before .test .given .1) (body .compile-stmt6 .ensures) (past-body .before .d3 .given .1)
+      (incr .for-incr .ensures) (past-incr .before .e2 .given .1) (close .close-loop2 .ensures) (past-close .enum-told14 .given .1)
 
   pub same-length-69 : here lts.Need-same-length-69 t
   same-length-69 c =
@@ -528,9 +562,10 @@ module _ (t : ℕ) where
       let body = body-went past-body in
       let past-cond = body-asked (body .before) in
       let cond = cond-went past-cond in
-      let code-length2 = cond-asked (cond .before) in
+      let begin = cond-asked (cond .before) in
+      let met = begin .before .before in
       end .end-scope2 .kept .0 ∙ close .close-loop2 .kept .0 ∙ incr .for-incr .kept .1 .1 .1 .0 ∙ body .compile-stmt6 .kept .1 .1 .0 ∙ cond .for-cond .kept .1 .1 .1 .0 ∙ joined
-      (code-length2 .before .before) .1
+      met .1
 
   pub same-length-70 : here lts.Need-same-length-70 t
   same-length-70 c =
@@ -543,9 +578,10 @@ module _ (t : ℕ) where
       let body = body-went past-body in
       let past-cond = body-asked (body .before) in
       let cond = cond-went past-cond in
-      let code-length2 = cond-asked (cond .before) in
-      end .end-scope2 .kept .1 .0 ∙ close .close-loop2 .kept .1 .0 ∙ incr .for-incr .kept .1 .1 .1 .1 .0 ∙ body .compile-stmt6 .kept .1 .1 .1 .0 ∙ cond .for-cond .kept .1 .1 .1 .1 .0
-      ∙ joined (code-length2 .before .before) .2
+      let begin = cond-asked (cond .before) in
+      let met = begin .before .before in
+      end .end-scope2 .kept .1 .0 ∙ close .close-loop2 .kept .1 .0 ∙ incr .for-incr .kept .1 .1 .1 .1 .0 ∙ body .compile-stmt6 .kept .1 .1 .1 .0
+      ∙ cond .for-cond .kept .1 .1 .1 .1 .0 ∙ joined met .2
 
   pub same-length-71 : here lts.Need-same-length-71 t
   same-length-71 c =
@@ -558,9 +594,10 @@ module _ (t : ℕ) where
       let body = body-went past-body in
       let past-cond = body-asked (body .before) in
       let cond = cond-went past-cond in
-      let code-length2 = cond-asked (cond .before) in
-      end .end-scope2 .kept .1 .1 .0 ∙ close .close-loop2 .kept .1 .1 .0 ∙ incr .for-incr .kept .1 .1 .1 .1 .1 .0 ∙ body .compile-stmt6 .kept .1 .1 .1 .1 .0 ∙ cond .for-cond .kept .1 .1 .1 .1 .1 .0
-      ∙ joined (code-length2 .before .before) .3
+      let begin = cond-asked (cond .before) in
+      let met = begin .before .before in
+      end .end-scope2 .kept .1 .1 .0 ∙ close .close-loop2 .kept .1 .1 .0 ∙ incr .for-incr .kept .1 .1 .1 .1 .1 .0 ∙ body .compile-stmt6 .kept .1 .1 .1 .1 .0
+      ∙ cond .for-cond .kept .1 .1 .1 .1 .1 .0 ∙ joined met .3
 
   pub same-length-72 : here lts.Need-same-length-72 t
   same-length-72 c =
@@ -573,8 +610,9 @@ module _ (t : ℕ) where
       let body = body-went past-body in
       let past-cond = body-asked (body .before) in
       let cond = cond-went past-cond in
-      let code-length2 = cond-asked (cond .before) in
-      body .compile-stmt6 .kept .1 .1 .1 .1 .1 .0 ∙ joined (code-length2 .before .before) .4
+      let begin = cond-asked (cond .before) in
+      let met = begin .before .before in
+      body .compile-stmt6 .kept .1 .1 .1 .1 .1 .0 ∙ joined met .4
 
   pub returns-19 : here lts.Need-returns-19 t
   returns-19 c =
@@ -587,10 +625,11 @@ module _ (t : ℕ) where
       let body = body-went past-body in
       let past-cond = body-asked (body .before) in
       let cond = cond-went past-cond in
-      let code-length2 = cond-asked (cond .before) in
-      let slice-known49 = code-length2 .before .before .before in
-      let begin-scope-arg2 = slice-known49 .before .before .before in
-      fors.done (start-4 t (begin-scope-arg2 .before .before) .pre .1) (mark-4 t (begin-scope-arg2 .before .before)) (begin-scope-arg2 .before .u8-at2 .ensures) (slice-known49 .before .before .begin-scope2 .ensures .gives
-      _ _ ((start-4 t (begin-scope-arg2 .before .before) .pre .1) .ready .fit)) (spanned-4 t (begin-scope-arg2 .before .before) .span-at .ensures) (joined (code-length2 .before .before) .0)
-      (code-length2 .code-length2 .ensures) (cond .for-cond .ensures) (past-cond .before .test .given .1) (body .compile-stmt6 .ensures) (past-body .before .d3 .given .1) (incr .for-incr .ensures)
-      (past-incr .before .e2 .given .1) (close .close-loop2 .ensures) (past-close .enum-told14 .given .1) (end .end-scope2 .ensures)
+      let begin = cond-asked (cond .before) in
+      let met = begin .before .before in
+      let scope = scoped met in
+      let arm = scope .before .before .before in
+      let p = start-4 t arm .pre .1 in
+      fors.done p (mark-4 t arm) (scope .before .before .u8-at2 .ensures) (scope .begin-scope2 .ensures .gives _ _ (p .ready .fit)) (spanned-4 t arm .span-at .ensures)
+      (joined met .0) (begin .code-length2 .ensures) (cond .for-cond .ensures) (past-cond .before .test .given .1) (body .compile-stmt6 .ensures) (past-body .before .d3 .given .1)
+      (incr .for-incr .ensures) (past-incr .before .e2 .given .1) (close .close-loop2 .ensures) (past-close .enum-told14 .given .1) (end .end-scope2 .ensures)

@@ -27,6 +27,9 @@ module _ (t : ℕ) where
   abbrev function-halted : here lts.After-enum-told16 t → here lts.After-compile-function t
   function-halted c = function-left (c .before .before)
 
+  abbrev name-asked : here lts.After-define-name-arg3 t → here lts.After-known-told14 t
+  name-asked c = c .before .before .before
+
   abbrev function-went : here lts.After-known-told14 t → here lts.After-compile-function t
   function-went c = function-left (c .before .before .before)
 
@@ -41,7 +44,8 @@ module _ (t : ℕ) where
   pub compile-function-requires : here lts.Need-compile-function-requires t
   compile-function-requires c κs =
       let arm = function-asked c in
-      functions.function (start-5 t arm .pre .1) (mark-5 t arm) (start-5 t arm .pre .0)
+      let p = start-5 t arm .pre .1 in
+      functions.function p (mark-5 t arm) (start-5 t arm .pre .0)
 
   pub enum-known-a-5 : here lts.Need-enum-known-a-5 t
   enum-known-a-5 c = search needs
@@ -73,60 +77,69 @@ module _ (t : ℕ) where
   returns-20 c =
       let function = function-halted c in
       let arm = function-asked (function .before) in
-      functions.fun-stop (start-5 t arm .pre .1) (mark-5 t arm) (spanned-5 t arm .span-at .ensures) (function .compile-function .ensures) (c .enum-told16 .given .1)
+      let p = start-5 t arm .pre .1 in
+      functions.fun-stop p (mark-5 t arm) (spanned-5 t arm .span-at .ensures) (function .compile-function .ensures) (c .enum-told16 .given .1)
 
   pub add-u16-at-2 : here lts.Need-add-u16-at-2 t
   add-u16-at-2 c =
-      let function = function-went (c .before .before .before) in
+      let past-function = name-asked c in
+      let function = function-went past-function in
       let arm = function-asked (function .before) in
-      let b = functions.fun-bound (start-5 t arm .pre .1) (mark-5 t arm) in omega (arith, b, start-5 t arm .good)
+      let p = start-5 t arm .pre .1 in
+      let b = functions.fun-bound p (mark-5 t arm) in
+      omega (arith, b, start-5 t arm .good)
 
   pub u16-at-requires-2 : here lts.Need-u16-at-requires-2 t
   u16-at-requires-2 c κs =
-      let function = function-went (c .before .before .before) in
+      let past-function = name-asked c in
+      let function = function-went past-function in
       let arm = function-asked (function .before) in
-      let b = functions.fun-bound (start-5 t arm .pre .1) (mark-5 t arm) in omega (arith, b)
+      let p = start-5 t arm .pre .1 in
+      let b = functions.fun-bound p (mark-5 t arm) in
+      omega (arith, b)
 
   pub define-name-requires : here lts.Need-define-name-requires t
   define-name-requires c κs =
-      let define-name-arg = c .before .before .before in
-      let function = function-went (define-name-arg .before) in
+      let past-function = name-asked (c .before) in
+      let function = function-went past-function in
       let arm = function-asked (function .before) in
-      functions.fun-fit (start-5 t arm .pre .1) (mark-5 t arm) (spanned-5 t arm .span-at .ensures) (function .compile-function .ensures) (define-name-arg .before .before .a5 .given .1)
+      let p = start-5 t arm .pre .1 in
+      functions.fun-fit p (mark-5 t arm) (spanned-5 t arm .span-at .ensures) (function .compile-function .ensures) (past-function .before .a5 .given .1)
 
   pub same-length-77 : here lts.Need-same-length-77 t
   same-length-77 c =
       let name = name-left c in
-      let define-name-arg2 = name .before .before .before in
-      let function = function-went (define-name-arg2 .before .before) in
+      let past-function = name-asked (name .before .before) in
+      let function = function-went past-function in
       name .define-name .kept .0 ∙ function .compile-function .kept .1 .1 .0
 
   pub same-length-78 : here lts.Need-same-length-78 t
   same-length-78 c =
       let name = name-left c in
-      let define-name-arg2 = name .before .before .before in
-      let function = function-went (define-name-arg2 .before .before) in
+      let past-function = name-asked (name .before .before) in
+      let function = function-went past-function in
       name .define-name .kept .1 .0 ∙ function .compile-function .kept .1 .1 .1 .0
 
   pub same-length-79 : here lts.Need-same-length-79 t
   same-length-79 c =
       let name = name-left c in
-      let define-name-arg2 = name .before .before .before in
-      let function = function-went (define-name-arg2 .before .before) in
+      let past-function = name-asked (name .before .before) in
+      let function = function-went past-function in
       name .define-name .kept .1 .1 .0 ∙ function .compile-function .kept .1 .1 .1 .1 .0
 
   pub same-length-80 : here lts.Need-same-length-80 t
   same-length-80 c =
       let name = name-left c in
-      let define-name-arg2 = name .before .before .before in
-      let function = function-went (define-name-arg2 .before .before) in
+      let past-function = name-asked (name .before .before) in
+      let function = function-went past-function in
       function .compile-function .kept .1 .1 .1 .1 .1 .0
 
   pub returns-21 : here lts.Need-returns-21 t
   returns-21 c =
       let name = name-left c in
-      let define-name-arg2 = name .before .before .before in
-      let function = function-went (define-name-arg2 .before .before) in
+      let past-function = name-asked (name .before .before) in
+      let function = function-went past-function in
       let arm = function-asked (function .before) in
-      functions.fun-done (start-5 t arm .pre .1) (mark-5 t arm) (spanned-5 t arm .span-at .ensures) (function .compile-function .ensures) (define-name-arg2 .before .before .before .a5 .given .1)
+      let p = start-5 t arm .pre .1 in
+      functions.fun-done p (mark-5 t arm) (spanned-5 t arm .span-at .ensures) (function .compile-function .ensures) (past-function .before .a5 .given .1)
       (name .before .u16-at2 .ensures) (name .define-name .ensures)

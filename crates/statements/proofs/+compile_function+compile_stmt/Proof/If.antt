@@ -117,12 +117,16 @@ module _ (t : ℕ) where
   -- ## The needs
 
   pub add-compile-expr : here lts.Need-add-compile-expr t
-  add-compile-expr c = let b = ifs.bound (start-2 t c .pre .1) (mark-2 t c) in omega (arith, b, start-2 t c .good)
+  add-compile-expr c =
+      let p = start-2 t c .pre .1 in
+      let b = ifs.bound p (mark-2 t c) in
+      omega (arith, b, start-2 t c .good)
 
   pub compile-expr-requires : here lts.Need-compile-expr-requires t
   compile-expr-requires c κs =
       let arm = cond-asked c in
-      (ifs.test (start-2 t arm .pre .1) (mark-2 t arm), (start-2 t arm .pre .1) .ready .fit)
+      let p = start-2 t arm .pre .1 in
+      (ifs.test p (mark-2 t arm), p .ready .fit)
 
   pub enum-known-a-2 : here lts.Need-enum-known-a-2 t
   enum-known-a-2 c = search needs
@@ -149,14 +153,16 @@ module _ (t : ℕ) where
   returns-3 c =
       let cond = cond-halted c in
       let arm = cond-asked (cond .before) in
-      ifs.stop (start-2 t arm .pre .1) (mark-2 t arm) (spanned-2 t arm .span-at .ensures) (cond .compile-expr .ensures) _ (c .enum-told2 .given .1)
+      let p = start-2 t arm .pre .1 in
+      ifs.stop p (mark-2 t arm) (spanned-2 t arm .span-at .ensures) (cond .compile-expr .ensures) _ (c .enum-told2 .given .1)
 
   pub open-jump-requires : here lts.Need-open-jump-requires t
   open-jump-requires c κs =
       let past-cond = jump-asked c in
       let cond = cond-went past-cond in
       let arm = cond-asked (cond .before) in
-      ifs.fit (start-2 t arm .pre .1) (mark-2 t arm) (spanned-2 t arm .span-at .ensures) (cond .compile-expr .ensures) (past-cond .before .a2 .given .1)
+      let p = start-2 t arm .pre .1 in
+      ifs.fit p (mark-2 t arm) (spanned-2 t arm .span-at .ensures) (cond .compile-expr .ensures) (past-cond .before .a2 .given .1)
 
   pub enum-known-b : here lts.Need-enum-known-b t
   enum-known-b c = search needs
@@ -191,8 +197,9 @@ module _ (t : ℕ) where
       let past-cond = jump-asked (jump .before) in
       let cond = cond-went past-cond in
       let arm = cond-asked (cond .before) in
-      ifs.stop-2 (start-2 t arm .pre .1) (mark-2 t arm) (spanned-2 t arm .span-at .ensures) (cond .compile-expr .ensures) (past-cond .before .a2 .given .1) (jump .open-jump .ensures)
-      _ (c .enum-told3 .given .1)
+      let p = start-2 t arm .pre .1 in
+      ifs.stop-2 p (mark-2 t arm) (spanned-2 t arm .span-at .ensures) (cond .compile-expr .ensures) (past-cond .before .a2 .given .1) (jump .open-jump .ensures) _
+      (c .enum-told3 .given .1)
 
   pub compile-stmt-requires-2 : here lts.Need-compile-stmt-requires-2 t
   compile-stmt-requires-2 c κs =
@@ -201,7 +208,8 @@ module _ (t : ℕ) where
       let past-cond = jump-asked (jump .before) in
       let cond = cond-went past-cond in
       let arm = cond-asked (cond .before) in
-      ifs.yes (start-2 t arm .pre .1) (mark-2 t arm) (spanned-2 t arm .span-at .ensures) (cond .compile-expr .ensures) (past-cond .before .a2 .given .1) (jump .open-jump .ensures)
+      let p = start-2 t arm .pre .1 in
+      ifs.yes p (mark-2 t arm) (spanned-2 t arm .span-at .ensures) (cond .compile-expr .ensures) (past-cond .before .a2 .given .1) (jump .open-jump .ensures)
       (past-jump .before .b .given .1) (start-2 t arm .pre .0)
 
   pub enum-known-d : here lts.Need-enum-known-d t
@@ -250,7 +258,8 @@ module _ (t : ℕ) where
       let past-cond = jump-asked (jump .before) in
       let cond = cond-went past-cond in
       let arm = cond-asked (cond .before) in
-      ifs.stop-3 (start-2 t arm .pre .1) (mark-2 t arm) (spanned-2 t arm .span-at .ensures) (cond .compile-expr .ensures) (past-cond .before .a2 .given .1) (jump .open-jump .ensures)
+      let p = start-2 t arm .pre .1 in
+      ifs.stop-3 p (mark-2 t arm) (spanned-2 t arm .span-at .ensures) (cond .compile-expr .ensures) (past-cond .before .a2 .given .1) (jump .open-jump .ensures)
       (past-jump .before .b .given .1) (yes .compile-stmt2 .ensures) (c .enum-told4 .given .1)
 
   pub turn-jump-requires : here lts.Need-turn-jump-requires t
@@ -262,7 +271,8 @@ module _ (t : ℕ) where
       let past-cond = jump-asked (jump .before) in
       let cond = cond-went past-cond in
       let arm = cond-asked (cond .before) in
-      ifs.turn (start-2 t arm .pre .1) (mark-2 t arm) (spanned-2 t arm .span-at .ensures) (cond .compile-expr .ensures) (past-cond .before .a2 .given .1) (jump .open-jump .ensures)
+      let p = start-2 t arm .pre .1 in
+      ifs.turn p (mark-2 t arm) (spanned-2 t arm .span-at .ensures) (cond .compile-expr .ensures) (past-cond .before .a2 .given .1) (jump .open-jump .ensures)
       (past-jump .before .b .given .1) (yes .compile-stmt2 .ensures) (past-yes .before .d .given .1)
 
   pub enum-known-e : here lts.Need-enum-known-e t
@@ -321,7 +331,8 @@ module _ (t : ℕ) where
       let past-cond = jump-asked (jump .before) in
       let cond = cond-went past-cond in
       let arm = cond-asked (cond .before) in
-      ifs.stop-4 (start-2 t arm .pre .1) (mark-2 t arm) (spanned-2 t arm .span-at .ensures) (cond .compile-expr .ensures) (past-cond .before .a2 .given .1) (jump .open-jump .ensures)
+      let p = start-2 t arm .pre .1 in
+      ifs.stop-4 p (mark-2 t arm) (spanned-2 t arm .span-at .ensures) (cond .compile-expr .ensures) (past-cond .before .a2 .given .1) (jump .open-jump .ensures)
       (past-jump .before .b .given .1) (yes .compile-stmt2 .ensures) (past-yes .before .d .given .1) (turn .turn-jump .ensures) (c .enum-told5 .given .1)
 
   pub add-u8-at : here lts.Need-add-u8-at t
@@ -334,7 +345,9 @@ module _ (t : ℕ) where
       let past-cond = jump-asked (jump .before) in
       let cond = cond-went past-cond in
       let arm = cond-asked (cond .before) in
-      let b = ifs.bound (start-2 t arm .pre .1) (mark-2 t arm) in omega (arith, b, start-2 t arm .good)
+      let p = start-2 t arm .pre .1 in
+      let b = ifs.bound p (mark-2 t arm) in
+      omega (arith, b, start-2 t arm .good)
 
   pub u8-at-requires : here lts.Need-u8-at-requires t
   u8-at-requires c κs =
@@ -346,12 +359,14 @@ module _ (t : ℕ) where
       let past-cond = jump-asked (jump .before) in
       let cond = cond-went past-cond in
       let arm = cond-asked (cond .before) in
-      let b = ifs.bound (start-2 t arm .pre .1) (mark-2 t arm) in omega (arith, b)
+      let p = start-2 t arm .pre .1 in
+      let b = ifs.bound p (mark-2 t arm) in
+      omega (arith, b)
 
   pub patch-jump-requires : here lts.Need-patch-jump-requires t
   patch-jump-requires c κs =
-      let then3 = patch-asked c in
-      let turn = turn-went (then3 .before .before) in
+      let without = patch-asked c in
+      let turn = turn-went (without .before .before) in
       let past-yes = turn-asked (turn .before) in
       let yes = yes-went past-yes in
       let past-jump = yes-asked (yes .before) in
@@ -359,15 +374,16 @@ module _ (t : ℕ) where
       let past-cond = jump-asked (jump .before) in
       let cond = cond-went past-cond in
       let arm = cond-asked (cond .before) in
-      ifs.none-patch (start-2 t arm .pre .1) (mark-2 t arm) (spanned-2 t arm .span-at .ensures) (cond .compile-expr .ensures) (past-cond .before .a2 .given .1) (jump .open-jump .ensures)
-      (past-jump .before .b .given .1) (yes .compile-stmt2 .ensures) (past-yes .before .d .given .1) (turn .turn-jump .ensures) (then3 .before .before .before .e .given .1) (then3 .before .u8-at .ensures)
-      (then3 .if3 .taken)
+      let p = start-2 t arm .pre .1 in
+      ifs.none-patch p (mark-2 t arm) (spanned-2 t arm .span-at .ensures) (cond .compile-expr .ensures) (past-cond .before .a2 .given .1) (jump .open-jump .ensures)
+      (past-jump .before .b .given .1) (yes .compile-stmt2 .ensures) (past-yes .before .d .given .1) (turn .turn-jump .ensures) (without .before .before .before .e .given .1)
+      (without .before .u8-at .ensures) (without .if3 .taken)
 
   pub same-length-23 : here lts.Need-same-length-23 t
   same-length-23 c =
       let patch = patch-left c in
-      let then3 = patch-asked (patch .before) in
-      let turn = turn-went (then3 .before .before) in
+      let without = patch-asked (patch .before) in
+      let turn = turn-went (without .before .before) in
       let past-yes = turn-asked (turn .before) in
       let yes = yes-went past-yes in
       let past-jump = yes-asked (yes .before) in
@@ -379,8 +395,8 @@ module _ (t : ℕ) where
   pub same-length-24 : here lts.Need-same-length-24 t
   same-length-24 c =
       let patch = patch-left c in
-      let then3 = patch-asked (patch .before) in
-      let turn = turn-went (then3 .before .before) in
+      let without = patch-asked (patch .before) in
+      let turn = turn-went (without .before .before) in
       let past-yes = turn-asked (turn .before) in
       let yes = yes-went past-yes in
       let past-jump = yes-asked (yes .before) in
@@ -392,21 +408,22 @@ module _ (t : ℕ) where
   pub same-length-25 : here lts.Need-same-length-25 t
   same-length-25 c =
       let patch = patch-left c in
-      let then3 = patch-asked (patch .before) in
-      let turn = turn-went (then3 .before .before) in
+      let without = patch-asked (patch .before) in
+      let turn = turn-went (without .before .before) in
       let past-yes = turn-asked (turn .before) in
       let yes = yes-went past-yes in
       let past-jump = yes-asked (yes .before) in
       let jump = jump-went past-jump in
       let past-cond = jump-asked (jump .before) in
       let cond = cond-went past-cond in
-      patch .patch-jump .kept .1 .1 .0 ∙ turn .turn-jump .kept .1 .1 .0 ∙ yes .compile-stmt2 .kept .1 .1 .1 .1 .0 ∙ jump .open-jump .kept .1 .1 .0 ∙ cond .compile-expr .kept .1 .1 .1 .1 .0
+      patch .patch-jump .kept .1 .1 .0 ∙ turn .turn-jump .kept .1 .1 .0 ∙ yes .compile-stmt2 .kept .1 .1 .1 .1 .0 ∙ jump .open-jump .kept .1 .1 .0
+      ∙ cond .compile-expr .kept .1 .1 .1 .1 .0
 
   pub same-length-26 : here lts.Need-same-length-26 t
   same-length-26 c =
       let patch = patch-left c in
-      let then3 = patch-asked (patch .before) in
-      let turn = turn-went (then3 .before .before) in
+      let without = patch-asked (patch .before) in
+      let turn = turn-went (without .before .before) in
       let past-yes = turn-asked (turn .before) in
       let yes = yes-went past-yes in
       yes .compile-stmt2 .kept .1 .1 .1 .1 .1 .0
@@ -414,8 +431,8 @@ module _ (t : ℕ) where
   pub returns-7 : here lts.Need-returns-7 t
   returns-7 c =
       let patch = patch-left c in
-      let then3 = patch-asked (patch .before) in
-      let turn = turn-went (then3 .before .before) in
+      let without = patch-asked (patch .before) in
+      let turn = turn-went (without .before .before) in
       let past-yes = turn-asked (turn .before) in
       let yes = yes-went past-yes in
       let past-jump = yes-asked (yes .before) in
@@ -423,14 +440,15 @@ module _ (t : ℕ) where
       let past-cond = jump-asked (jump .before) in
       let cond = cond-went past-cond in
       let arm = cond-asked (cond .before) in
-      ifs.none-done (start-2 t arm .pre .1) (mark-2 t arm) (spanned-2 t arm .span-at .ensures) (cond .compile-expr .ensures) (past-cond .before .a2 .given .1) (jump .open-jump .ensures)
-      (past-jump .before .b .given .1) (yes .compile-stmt2 .ensures) (past-yes .before .d .given .1) (turn .turn-jump .ensures) (then3 .before .before .before .e .given .1) (then3 .before .u8-at .ensures)
-      (then3 .if3 .taken) (patch .patch-jump .ensures)
+      let p = start-2 t arm .pre .1 in
+      ifs.none-done p (mark-2 t arm) (spanned-2 t arm .span-at .ensures) (cond .compile-expr .ensures) (past-cond .before .a2 .given .1) (jump .open-jump .ensures)
+      (past-jump .before .b .given .1) (yes .compile-stmt2 .ensures) (past-yes .before .d .given .1) (turn .turn-jump .ensures) (without .before .before .before .e .given .1)
+      (without .before .u8-at .ensures) (without .if3 .taken) (patch .patch-jump .ensures)
 
   pub compile-stmt-requires-3 : here lts.Need-compile-stmt-requires-3 t
   compile-stmt-requires-3 c κs =
-      let else3 = no-asked c in
-      let turn = turn-went (else3 .before .before) in
+      let with-else = no-asked c in
+      let turn = turn-went (with-else .before .before) in
       let past-yes = turn-asked (turn .before) in
       let yes = yes-went past-yes in
       let past-jump = yes-asked (yes .before) in
@@ -438,9 +456,10 @@ module _ (t : ℕ) where
       let past-cond = jump-asked (jump .before) in
       let cond = cond-went past-cond in
       let arm = cond-asked (cond .before) in
-      ifs.no (start-2 t arm .pre .1) (mark-2 t arm) (spanned-2 t arm .span-at .ensures) (cond .compile-expr .ensures) (past-cond .before .a2 .given .1) (jump .open-jump .ensures)
-      (past-jump .before .b .given .1) (yes .compile-stmt2 .ensures) (past-yes .before .d .given .1) (turn .turn-jump .ensures) (else3 .before .before .before .e .given .1) (else3 .before .u8-at .ensures)
-      (else3 .if3 .left) (start-2 t arm .pre .0)
+      let p = start-2 t arm .pre .1 in
+      ifs.no p (mark-2 t arm) (spanned-2 t arm .span-at .ensures) (cond .compile-expr .ensures) (past-cond .before .a2 .given .1) (jump .open-jump .ensures)
+      (past-jump .before .b .given .1) (yes .compile-stmt2 .ensures) (past-yes .before .d .given .1) (turn .turn-jump .ensures) (with-else .before .before .before .e .given .1)
+      (with-else .before .u8-at .ensures) (with-else .if3 .left) (start-2 t arm .pre .0)
 
   pub enum-known-f : here lts.Need-enum-known-f t
   enum-known-f c = search needs
@@ -451,8 +470,8 @@ module _ (t : ℕ) where
   pub same-length-27 : here lts.Need-same-length-27 t
   same-length-27 c =
       let no = no-halted c in
-      let else3 = no-asked (no .before) in
-      let turn = turn-went (else3 .before .before) in
+      let with-else = no-asked (no .before) in
+      let turn = turn-went (with-else .before .before) in
       let past-yes = turn-asked (turn .before) in
       let yes = yes-went past-yes in
       let past-jump = yes-asked (yes .before) in
@@ -464,8 +483,8 @@ module _ (t : ℕ) where
   pub same-length-28 : here lts.Need-same-length-28 t
   same-length-28 c =
       let no = no-halted c in
-      let else3 = no-asked (no .before) in
-      let turn = turn-went (else3 .before .before) in
+      let with-else = no-asked (no .before) in
+      let turn = turn-went (with-else .before .before) in
       let past-yes = turn-asked (turn .before) in
       let yes = yes-went past-yes in
       let past-jump = yes-asked (yes .before) in
@@ -477,21 +496,22 @@ module _ (t : ℕ) where
   pub same-length-29 : here lts.Need-same-length-29 t
   same-length-29 c =
       let no = no-halted c in
-      let else3 = no-asked (no .before) in
-      let turn = turn-went (else3 .before .before) in
+      let with-else = no-asked (no .before) in
+      let turn = turn-went (with-else .before .before) in
       let past-yes = turn-asked (turn .before) in
       let yes = yes-went past-yes in
       let past-jump = yes-asked (yes .before) in
       let jump = jump-went past-jump in
       let past-cond = jump-asked (jump .before) in
       let cond = cond-went past-cond in
-      no .compile-stmt3 .kept .1 .1 .1 .1 .0 ∙ turn .turn-jump .kept .1 .1 .0 ∙ yes .compile-stmt2 .kept .1 .1 .1 .1 .0 ∙ jump .open-jump .kept .1 .1 .0 ∙ cond .compile-expr .kept .1 .1 .1 .1 .0
+      no .compile-stmt3 .kept .1 .1 .1 .1 .0 ∙ turn .turn-jump .kept .1 .1 .0 ∙ yes .compile-stmt2 .kept .1 .1 .1 .1 .0 ∙ jump .open-jump .kept .1 .1 .0
+      ∙ cond .compile-expr .kept .1 .1 .1 .1 .0
 
   pub same-length-30 : here lts.Need-same-length-30 t
   same-length-30 c =
       let no = no-halted c in
-      let else3 = no-asked (no .before) in
-      let turn = turn-went (else3 .before .before) in
+      let with-else = no-asked (no .before) in
+      let turn = turn-went (with-else .before .before) in
       let past-yes = turn-asked (turn .before) in
       let yes = yes-went past-yes in
       no .compile-stmt3 .kept .1 .1 .1 .1 .1 .0 ∙ yes .compile-stmt2 .kept .1 .1 .1 .1 .1 .0
@@ -499,8 +519,8 @@ module _ (t : ℕ) where
   pub returns-8 : here lts.Need-returns-8 t
   returns-8 c =
       let no = no-halted c in
-      let else3 = no-asked (no .before) in
-      let turn = turn-went (else3 .before .before) in
+      let with-else = no-asked (no .before) in
+      let turn = turn-went (with-else .before .before) in
       let past-yes = turn-asked (turn .before) in
       let yes = yes-went past-yes in
       let past-jump = yes-asked (yes .before) in
@@ -508,16 +528,17 @@ module _ (t : ℕ) where
       let past-cond = jump-asked (jump .before) in
       let cond = cond-went past-cond in
       let arm = cond-asked (cond .before) in
-      ifs.stop-5 (start-2 t arm .pre .1) (mark-2 t arm) (spanned-2 t arm .span-at .ensures) (cond .compile-expr .ensures) (past-cond .before .a2 .given .1) (jump .open-jump .ensures)
-      (past-jump .before .b .given .1) (yes .compile-stmt2 .ensures) (past-yes .before .d .given .1) (turn .turn-jump .ensures) (else3 .before .before .before .e .given .1) (else3 .before .u8-at .ensures)
-      (else3 .if3 .left) (no .compile-stmt3 .ensures) (c .enum-told6 .given .1)
+      let p = start-2 t arm .pre .1 in
+      ifs.stop-5 p (mark-2 t arm) (spanned-2 t arm .span-at .ensures) (cond .compile-expr .ensures) (past-cond .before .a2 .given .1) (jump .open-jump .ensures)
+      (past-jump .before .b .given .1) (yes .compile-stmt2 .ensures) (past-yes .before .d .given .1) (turn .turn-jump .ensures) (with-else .before .before .before .e .given .1)
+      (with-else .before .u8-at .ensures) (with-else .if3 .left) (no .compile-stmt3 .ensures) (c .enum-told6 .given .1)
 
   pub patch-jump-requires-2 : here lts.Need-patch-jump-requires-2 t
   patch-jump-requires-2 c κs =
       let past-no = land-asked c in
       let no = no-went past-no in
-      let else3 = no-asked (no .before) in
-      let turn = turn-went (else3 .before .before) in
+      let with-else = no-asked (no .before) in
+      let turn = turn-went (with-else .before .before) in
       let past-yes = turn-asked (turn .before) in
       let yes = yes-went past-yes in
       let past-jump = yes-asked (yes .before) in
@@ -525,63 +546,66 @@ module _ (t : ℕ) where
       let past-cond = jump-asked (jump .before) in
       let cond = cond-went past-cond in
       let arm = cond-asked (cond .before) in
-      ifs.one-patch (start-2 t arm .pre .1) (mark-2 t arm) (spanned-2 t arm .span-at .ensures) (cond .compile-expr .ensures) (past-cond .before .a2 .given .1) (jump .open-jump .ensures)
-      (past-jump .before .b .given .1) (yes .compile-stmt2 .ensures) (past-yes .before .d .given .1) (turn .turn-jump .ensures) (else3 .before .before .before .e .given .1) (else3 .before .u8-at .ensures)
-      (else3 .if3 .left) (no .compile-stmt3 .ensures) (past-no .before .f .given .1)
+      let p = start-2 t arm .pre .1 in
+      ifs.one-patch p (mark-2 t arm) (spanned-2 t arm .span-at .ensures) (cond .compile-expr .ensures) (past-cond .before .a2 .given .1) (jump .open-jump .ensures)
+      (past-jump .before .b .given .1) (yes .compile-stmt2 .ensures) (past-yes .before .d .given .1) (turn .turn-jump .ensures) (with-else .before .before .before .e .given .1)
+      (with-else .before .u8-at .ensures) (with-else .if3 .left) (no .compile-stmt3 .ensures) (past-no .before .f .given .1)
 
   pub same-length-31 : here lts.Need-same-length-31 t
   same-length-31 c =
       let land = land-left c in
       let past-no = land-asked (land .before) in
       let no = no-went past-no in
-      let else3 = no-asked (no .before) in
-      let turn = turn-went (else3 .before .before) in
+      let with-else = no-asked (no .before) in
+      let turn = turn-went (with-else .before .before) in
       let past-yes = turn-asked (turn .before) in
       let yes = yes-went past-yes in
       let past-jump = yes-asked (yes .before) in
       let jump = jump-went past-jump in
       let past-cond = jump-asked (jump .before) in
       let cond = cond-went past-cond in
-      land .patch-jump2 .kept .0 ∙ no .compile-stmt3 .kept .1 .1 .0 ∙ turn .turn-jump .kept .0 ∙ yes .compile-stmt2 .kept .1 .1 .0 ∙ jump .open-jump .kept .0 ∙ cond .compile-expr .kept .1 .1 .0
+      land .patch-jump2 .kept .0 ∙ no .compile-stmt3 .kept .1 .1 .0 ∙ turn .turn-jump .kept .0 ∙ yes .compile-stmt2 .kept .1 .1 .0 ∙ jump .open-jump .kept .0
+      ∙ cond .compile-expr .kept .1 .1 .0
 
   pub same-length-32 : here lts.Need-same-length-32 t
   same-length-32 c =
       let land = land-left c in
       let past-no = land-asked (land .before) in
       let no = no-went past-no in
-      let else3 = no-asked (no .before) in
-      let turn = turn-went (else3 .before .before) in
+      let with-else = no-asked (no .before) in
+      let turn = turn-went (with-else .before .before) in
       let past-yes = turn-asked (turn .before) in
       let yes = yes-went past-yes in
       let past-jump = yes-asked (yes .before) in
       let jump = jump-went past-jump in
       let past-cond = jump-asked (jump .before) in
       let cond = cond-went past-cond in
-      land .patch-jump2 .kept .1 .0 ∙ no .compile-stmt3 .kept .1 .1 .1 .0 ∙ turn .turn-jump .kept .1 .0 ∙ yes .compile-stmt2 .kept .1 .1 .1 .0 ∙ jump .open-jump .kept .1 .0 ∙ cond .compile-expr .kept .1 .1 .1 .0
+      land .patch-jump2 .kept .1 .0 ∙ no .compile-stmt3 .kept .1 .1 .1 .0 ∙ turn .turn-jump .kept .1 .0 ∙ yes .compile-stmt2 .kept .1 .1 .1 .0 ∙ jump .open-jump .kept .1 .0
+      ∙ cond .compile-expr .kept .1 .1 .1 .0
 
   pub same-length-33 : here lts.Need-same-length-33 t
   same-length-33 c =
       let land = land-left c in
       let past-no = land-asked (land .before) in
       let no = no-went past-no in
-      let else3 = no-asked (no .before) in
-      let turn = turn-went (else3 .before .before) in
+      let with-else = no-asked (no .before) in
+      let turn = turn-went (with-else .before .before) in
       let past-yes = turn-asked (turn .before) in
       let yes = yes-went past-yes in
       let past-jump = yes-asked (yes .before) in
       let jump = jump-went past-jump in
       let past-cond = jump-asked (jump .before) in
       let cond = cond-went past-cond in
-      land .patch-jump2 .kept .1 .1 .0 ∙ no .compile-stmt3 .kept .1 .1 .1 .1 .0 ∙ turn .turn-jump .kept .1 .1 .0 ∙ yes .compile-stmt2 .kept .1 .1 .1 .1 .0 ∙ jump .open-jump .kept .1 .1 .0
-      ∙ cond .compile-expr .kept .1 .1 .1 .1 .0
+      land .patch-jump2 .kept .1 .1 .0 ∙ no .compile-stmt3 .kept .1 .1 .1 .1 .0 ∙ turn .turn-jump .kept .1 .1 .0 ∙ yes .compile-stmt2 .kept .1 .1 .1 .1 .0
+      ∙ jump .open-jump .kept .1 .1 .0 ∙ cond .compile-expr .kept .1 .1 .1 .1 .0
 
   pub same-length-34 : here lts.Need-same-length-34 t
   same-length-34 c =
       let land = land-left c in
       let past-no = land-asked (land .before) in
       let no = no-went past-no in
-      let else3 = no-asked (no .before) in
-      let turn = turn-went (else3 .before .before) in
+      let with-else = no-asked (no .before) in
+      let turn = turn-went (with-else .before .before) in
       let past-yes = turn-asked (turn .before) in
       let yes = yes-went past-yes in
       no .compile-stmt3 .kept .1 .1 .1 .1 .1 .0 ∙ yes .compile-stmt2 .kept .1 .1 .1 .1 .1 .0
@@ -591,8 +615,8 @@ module _ (t : ℕ) where
       let land = land-left c in
       let past-no = land-asked (land .before) in
       let no = no-went past-no in
-      let else3 = no-asked (no .before) in
-      let turn = turn-went (else3 .before .before) in
+      let with-else = no-asked (no .before) in
+      let turn = turn-went (with-else .before .before) in
       let past-yes = turn-asked (turn .before) in
       let yes = yes-went past-yes in
       let past-jump = yes-asked (yes .before) in
@@ -600,6 +624,7 @@ module _ (t : ℕ) where
       let past-cond = jump-asked (jump .before) in
       let cond = cond-went past-cond in
       let arm = cond-asked (cond .before) in
-      ifs.one-done (start-2 t arm .pre .1) (mark-2 t arm) (spanned-2 t arm .span-at .ensures) (cond .compile-expr .ensures) (past-cond .before .a2 .given .1) (jump .open-jump .ensures)
-      (past-jump .before .b .given .1) (yes .compile-stmt2 .ensures) (past-yes .before .d .given .1) (turn .turn-jump .ensures) (else3 .before .before .before .e .given .1) (else3 .before .u8-at .ensures)
-      (else3 .if3 .left) (no .compile-stmt3 .ensures) (past-no .before .f .given .1) (land .patch-jump2 .ensures)
+      let p = start-2 t arm .pre .1 in
+      ifs.one-done p (mark-2 t arm) (spanned-2 t arm .span-at .ensures) (cond .compile-expr .ensures) (past-cond .before .a2 .given .1) (jump .open-jump .ensures)
+      (past-jump .before .b .given .1) (yes .compile-stmt2 .ensures) (past-yes .before .d .given .1) (turn .turn-jump .ensures) (with-else .before .before .before .e .given .1)
+      (with-else .before .u8-at .ensures) (with-else .if3 .left) (no .compile-stmt3 .ensures) (past-no .before .f .given .1) (land .patch-jump2 .ensures)

@@ -35,7 +35,8 @@ module _ (t : ℕ) where
   pub compile-plain-requires : here lts.Need-compile-plain-requires t
   compile-plain-requires c κs =
       let arm = plain-asked c in
-      (record { left = (start-7 t arm .pre .1) .left; there = (start-7 t arm .pre .1) .there }, others arm, (start-7 t arm .pre .1) .ready .fit)
+      let p = start-7 t arm .pre .1 in
+      (record { left = p .left; there = p .there }, others arm, p .ready .fit)
 
   pub same-length-96 : here lts.Need-same-length-96 t
   same-length-96 c =
@@ -56,4 +57,5 @@ module _ (t : ℕ) where
   returns-26 c =
       let plain = plain-left c in
       let arm = plain-asked (plain .before) in
-      walks.plainly (start-7 t arm .pre .1) (plain .compile-plain .ensures)
+      let p = start-7 t arm .pre .1 in
+      walks.plainly p (plain .compile-plain .ensures)

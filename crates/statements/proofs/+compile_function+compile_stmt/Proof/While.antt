@@ -74,15 +74,23 @@ module _ (t : ℕ) where
 
   pub code-length-requires : here lts.Need-code-length-requires t
   code-length-requires c κs =
-      ((start-3 t (c .before) .pre .1) .ready .fit .low, (start-3 t (c .before) .pre .1) .ready .fit .wf .size, (start-3 t (c .before) .pre .1) .ready .fit .coded .top)
+      let arm = c .before in
+      let p = start-3 t arm .pre .1 in
+      (p .ready .fit .low, p .ready .fit .wf .size, p .ready .fit .coded .top)
 
   pub add-compile-expr-2 : here lts.Need-add-compile-expr-2 t
-  add-compile-expr-2 c = let b = calls.bound _ _ _ _ ((start-3 t (c .before .before) .pre .1) .there) in omega (arith, b, start-3 t (c .before .before) .good)
+  add-compile-expr-2 c =
+      let arm = c .before .before in
+      let p = start-3 t arm .pre .1 in
+      let b = calls.bound _ _ _ _ (p .there) in
+      omega (arith, b, start-3 t arm .good)
 
   pub compile-expr-requires-2 : here lts.Need-compile-expr-requires-2 t
   compile-expr-requires-2 c κs =
-      let code-length = cond-asked c in
-      (whiles.test (start-3 t (code-length .before .before) .pre .1) (mark-3 t (code-length .before .before)), (start-3 t (code-length .before .before) .pre .1) .ready .fit)
+      let begin = cond-asked c in
+      let arm = begin .before .before in
+      let p = start-3 t arm .pre .1 in
+      (whiles.test p (mark-3 t arm), p .ready .fit)
 
   pub enum-known-a-3 : here lts.Need-enum-known-a-3 t
   enum-known-a-3 c = search needs
@@ -108,17 +116,19 @@ module _ (t : ℕ) where
   pub returns-10 : here lts.Need-returns-10 t
   returns-10 c =
       let cond = cond-halted c in
-      let code-length = cond-asked (cond .before) in
-      whiles.stop (start-3 t (code-length .before .before) .pre .1) (mark-3 t (code-length .before .before)) (spanned-3 t (code-length .before .before) .span-at .ensures)
-      (code-length .code-length .ensures) (cond .compile-expr2 .ensures) _ (c .enum-told7 .given .1)
+      let begin = cond-asked (cond .before) in
+      let arm = begin .before .before in
+      let p = start-3 t arm .pre .1 in
+      whiles.stop p (mark-3 t arm) (spanned-3 t arm .span-at .ensures) (begin .code-length .ensures) (cond .compile-expr2 .ensures) _ (c .enum-told7 .given .1)
 
   pub open-jump-requires-2 : here lts.Need-open-jump-requires-2 t
   open-jump-requires-2 c κs =
       let past-cond = jump-asked c in
       let cond = cond-went past-cond in
-      let code-length = cond-asked (cond .before) in
-      whiles.fit (start-3 t (code-length .before .before) .pre .1) (mark-3 t (code-length .before .before)) (spanned-3 t (code-length .before .before) .span-at .ensures)
-      (code-length .code-length .ensures) (cond .compile-expr2 .ensures) (past-cond .before .a3 .given .1)
+      let begin = cond-asked (cond .before) in
+      let arm = begin .before .before in
+      let p = start-3 t arm .pre .1 in
+      whiles.fit p (mark-3 t arm) (spanned-3 t arm .span-at .ensures) (begin .code-length .ensures) (cond .compile-expr2 .ensures) (past-cond .before .a3 .given .1)
 
   pub enum-known-b-2 : here lts.Need-enum-known-b-2 t
   enum-known-b-2 c = search needs
@@ -152,9 +162,11 @@ module _ (t : ℕ) where
       let jump = jump-halted c in
       let past-cond = jump-asked (jump .before) in
       let cond = cond-went past-cond in
-      let code-length = cond-asked (cond .before) in
-      whiles.stop-2 (start-3 t (code-length .before .before) .pre .1) (mark-3 t (code-length .before .before)) (spanned-3 t (code-length .before .before) .span-at .ensures)
-      (code-length .code-length .ensures) (cond .compile-expr2 .ensures) (past-cond .before .a3 .given .1) (jump .open-jump2 .ensures) _ (c .enum-told8 .given .1)
+      let begin = cond-asked (cond .before) in
+      let arm = begin .before .before in
+      let p = start-3 t arm .pre .1 in
+      whiles.stop-2 p (mark-3 t arm) (spanned-3 t arm .span-at .ensures) (begin .code-length .ensures) (cond .compile-expr2 .ensures) (past-cond .before .a3 .given .1)
+      (jump .open-jump2 .ensures) _ (c .enum-told8 .given .1)
 
   pub compile-stmt-requires-4 : here lts.Need-compile-stmt-requires-4 t
   compile-stmt-requires-4 c κs =
@@ -162,10 +174,11 @@ module _ (t : ℕ) where
       let jump = jump-went past-jump in
       let past-cond = jump-asked (jump .before) in
       let cond = cond-went past-cond in
-      let code-length = cond-asked (cond .before) in
-      whiles.body (start-3 t (code-length .before .before) .pre .1) (mark-3 t (code-length .before .before)) (spanned-3 t (code-length .before .before) .span-at .ensures)
-      (code-length .code-length .ensures) (cond .compile-expr2 .ensures) (past-cond .before .a3 .given .1) (jump .open-jump2 .ensures) (past-jump .before .b2 .given .1) (start-3 t
-      (code-length .before .before) .pre .0)
+      let begin = cond-asked (cond .before) in
+      let arm = begin .before .before in
+      let p = start-3 t arm .pre .1 in
+      whiles.body p (mark-3 t arm) (spanned-3 t arm .span-at .ensures) (begin .code-length .ensures) (cond .compile-expr2 .ensures) (past-cond .before .a3 .given .1)
+      (jump .open-jump2 .ensures) (past-jump .before .b2 .given .1) (start-3 t arm .pre .0)
 
   pub enum-known-d-2 : here lts.Need-enum-known-d-2 t
   enum-known-d-2 c = search needs
@@ -212,10 +225,11 @@ module _ (t : ℕ) where
       let jump = jump-went past-jump in
       let past-cond = jump-asked (jump .before) in
       let cond = cond-went past-cond in
-      let code-length = cond-asked (cond .before) in
-      whiles.stop-3 (start-3 t (code-length .before .before) .pre .1) (mark-3 t (code-length .before .before)) (spanned-3 t (code-length .before .before) .span-at .ensures)
-      (code-length .code-length .ensures) (cond .compile-expr2 .ensures) (past-cond .before .a3 .given .1) (jump .open-jump2 .ensures) (past-jump .before .b2 .given .1) (body .compile-stmt4 .ensures)
-      (c .enum-told9 .given .1)
+      let begin = cond-asked (cond .before) in
+      let arm = begin .before .before in
+      let p = start-3 t arm .pre .1 in
+      whiles.stop-3 p (mark-3 t arm) (spanned-3 t arm .span-at .ensures) (begin .code-length .ensures) (cond .compile-expr2 .ensures) (past-cond .before .a3 .given .1)
+      (jump .open-jump2 .ensures) (past-jump .before .b2 .given .1) (body .compile-stmt4 .ensures) (c .enum-told9 .given .1)
 
   pub close-loop-requires : here lts.Need-close-loop-requires t
   close-loop-requires c κs =
@@ -225,10 +239,11 @@ module _ (t : ℕ) where
       let jump = jump-went past-jump in
       let past-cond = jump-asked (jump .before) in
       let cond = cond-went past-cond in
-      let code-length = cond-asked (cond .before) in
-      whiles.close (start-3 t (code-length .before .before) .pre .1) (mark-3 t (code-length .before .before)) (spanned-3 t (code-length .before .before) .span-at .ensures)
-      (code-length .code-length .ensures) (cond .compile-expr2 .ensures) (past-cond .before .a3 .given .1) (jump .open-jump2 .ensures) (past-jump .before .b2 .given .1) (body .compile-stmt4 .ensures)
-      (past-body .before .d2 .given .1)
+      let begin = cond-asked (cond .before) in
+      let arm = begin .before .before in
+      let p = start-3 t arm .pre .1 in
+      whiles.close p (mark-3 t arm) (spanned-3 t arm .span-at .ensures) (begin .code-length .ensures) (cond .compile-expr2 .ensures) (past-cond .before .a3 .given .1)
+      (jump .open-jump2 .ensures) (past-jump .before .b2 .given .1) (body .compile-stmt4 .ensures) (past-body .before .d2 .given .1)
 
   pub same-length-45 : here lts.Need-same-length-45 t
   same-length-45 c =
@@ -279,7 +294,8 @@ module _ (t : ℕ) where
       let jump = jump-went past-jump in
       let past-cond = jump-asked (jump .before) in
       let cond = cond-went past-cond in
-      let code-length = cond-asked (cond .before) in
-      whiles.done (start-3 t (code-length .before .before) .pre .1) (mark-3 t (code-length .before .before)) (spanned-3 t (code-length .before .before) .span-at .ensures)
-      (code-length .code-length .ensures) (cond .compile-expr2 .ensures) (past-cond .before .a3 .given .1) (jump .open-jump2 .ensures) (past-jump .before .b2 .given .1) (body .compile-stmt4 .ensures)
-      (past-body .before .d2 .given .1) (close .close-loop .ensures)
+      let begin = cond-asked (cond .before) in
+      let arm = begin .before .before in
+      let p = start-3 t arm .pre .1 in
+      whiles.done p (mark-3 t arm) (spanned-3 t arm .span-at .ensures) (begin .code-length .ensures) (cond .compile-expr2 .ensures) (past-cond .before .a3 .given .1)
+      (jump .open-jump2 .ensures) (past-jump .before .b2 .given .1) (body .compile-stmt4 .ensures) (past-body .before .d2 .given .1) (close .close-loop .ensures)
