@@ -10,7 +10,7 @@ use Rattle.rules.specs.TreeFile.{read-stmts, read-stmt}
 use Rattle.rules.specs.Entry.{Compiled, refused, compile-tree}
 use Rattle.steps.specs.declared.Step.{Step}
 use Rattle.steps.specs.declared.Step.the-variants.{Next, Stop}
-use Rattle.expressions.specs.Exprs.{There}
+use Rattle.expr_parts.specs.Exprs.{There}
 use Rattle.stmt_output_laws.specs.Output.{funs-left}
 use Rattle.tree.specs.Checked.{checked-file}
 use Rattle.tree.specs.declared.Checked.{Checked}

@@ -1,4 +1,2 @@
--- The laws of the arms: one for each way out of a function of src/.
-pub mod Operators
-pub mod Calls
+-- The laws of the arms: one for each way out of `compile_expr`.
 pub mod Arms

@@ -13,7 +13,7 @@ use Rattle.tree_laws.proofs.Later.{later-stmt}
 use Rattle.state.specs.Layout.{levels, deepest, depth-place, level-words}
 use Rattle.steps.specs.View.{Mem, mem, Fit, depth-at}
 use Rattle.steps.specs.declared.Step.{Step}
-use Rattle.expressions.specs.Exprs.{There}
+use Rattle.expr_parts.specs.Exprs.{There}
 use Rattle.stmt_output_laws.specs.Output.{funs-left, stmt-at, stmts-at, Walked, Ready}
 use Rattle.stmt_output_laws.proofs.Growing.{plain}
 use Rattle.stmt_plain.specs.Plain.{Plainly}

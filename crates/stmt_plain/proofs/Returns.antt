@@ -23,7 +23,7 @@ use Rattle.steps.proofs.Steps.{valued, next, stop, halt, then-on, ask, ask-refu
 use Rattle.step_returns.proofs.Returns.{told-type}
 use Rattle.steps.specs.declared.Step.{Step}
 use Rattle.steps.specs.declared.Step.the-variants.{Next, Stop}
-use Rattle.expressions.specs.Exprs.{Somewhere, expr-at, Ran}
+use Rattle.expr_parts.specs.Exprs.{Somewhere, expr-at, Ran}
 use Rattle.steps.proofs.Monad.{like, on-to, nothing}
 use Rattle.stmt_output_laws.specs.Output.{funs-left, stmt-at}
 use Rattle.stmt_plain.specs.Plain.{StmtSomewhere, Plainly, Flagged, return-kind, may-return}

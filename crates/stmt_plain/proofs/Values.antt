@@ -20,7 +20,7 @@ use Rattle.steps.specs.View.{Mem, steady, Did}
 use Rattle.steps.proofs.Steps.{valued, halt, then-on, by-name}
 use Rattle.steps.specs.declared.Step.{Step}
 use Rattle.steps.specs.declared.Step.the-variants.{Next, Stop}
-use Rattle.expressions.specs.Exprs.{There, Somewhere, expr-at, Ran}
+use Rattle.expr_parts.specs.Exprs.{There, Somewhere, expr-at, Ran}
 use Rattle.steps.proofs.Monad.{on-to}
 use Rattle.stmt_output_laws.specs.Output.{funs-left, stmt-at}
 use Rattle.stmt_plain.specs.Plain.{StmtSomewhere, NoOther, Plainly, Flagged, Announced, ValueRan}

@@ -15,7 +15,7 @@ use Rattle.rules.specs.Compiler.{Compile, _>>=_, done, refuse, the, FunctionTyp
 use Rattle.fields.specs.Words.{word16, letters}
 use Rattle.steps.specs.View.{Mem, steady, Did}
 use Rattle.steps.specs.declared.Step.{Step}
-use Rattle.expressions.specs.Exprs.{There}
+use Rattle.expr_parts.specs.Exprs.{There}
 use Rattle.stmt_output_laws.specs.Output.{stmt-at}
 use Rattle.fields.specs.Marks as marks
 

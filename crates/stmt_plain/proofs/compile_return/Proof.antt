@@ -4,7 +4,7 @@ use Prim.Native.Nat.{_+_, _≤_}
 use native.Mathlib.Omega.{arith}
 use lib.ListN.{length}
 use borrow.Author.Needs.{needs}
-use Rattle.expressions.specs.Exprs.{Somewhere}
+use Rattle.expr_parts.specs.Exprs.{Somewhere}
 use Rattle.expressions.proofs.Arms.{ran-fit}
 use Rattle.stmt_plain.proofs.Returns as ways
 use Rattle.stmt_plain.proofs.compile_return.Statement.{statement}

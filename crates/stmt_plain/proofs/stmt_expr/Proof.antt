@@ -3,7 +3,7 @@
 use Prim.Native.Nat.{_+_}
 use native.Mathlib.Omega.{arith}
 use borrow.Author.Needs.{needs}
-use Rattle.expressions.specs.Exprs.{Somewhere}
+use Rattle.expr_parts.specs.Exprs.{Somewhere}
 use Rattle.expressions.proofs.Arms.{ran-fit}
 use Rattle.stmt_plain.proofs.Values as ways
 use Rattle.stmt_plain.proofs.stmt_expr.Statement.{statement}

@@ -1,9 +1,9 @@
 -- The ten infix operators that leave nothing open.
 use mathlib.Core.Path.{refl}
-use Rattle.expressions.proofs.Operators.{codes, infix-opcode}
+use Rattle.expr_parts.proofs.Operators.{codes, infix-opcode}
 use borrow.Author.Needs.{needs}
-use Rattle.expressions.proofs.infix_op.Statement.{statement}
-use Rattle.expressions.proofs.infix_op.Tie as tie
+use Rattle.expr_parts.proofs.infix_op.Statement.{statement}
+use Rattle.expr_parts.proofs.infix_op.Tie as tie
 
 array-read-result : tie.Need-array-read-result
 array-read-result c = search needs

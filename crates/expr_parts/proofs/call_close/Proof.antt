@@ -4,11 +4,11 @@
 use mathlib.Core.Path.{sym, _∙_}
 use Rattle.tree_laws.proofs.Expressions.{any-at, get-at, super-at}
 use Rattle.steps.proofs.Steps.{went}
-use Rattle.expressions.proofs.Calls.{close-super-stop, close-super, close-object, close-value, low-byte}
+use Rattle.expr_parts.proofs.Calls.{close-super-stop, close-super, close-object, close-value, low-byte}
 use native.Mathlib.Omega.{arith}
 use borrow.Author.Needs.{needs}
-use Rattle.expressions.proofs.call_close.Statement.{statement}
-use Rattle.expressions.proofs.call_close.Tie as tie
+use Rattle.expr_parts.proofs.call_close.Statement.{statement}
+use Rattle.expr_parts.proofs.call_close.Tie as tie
 
 abbrev known : tie.After-slice-known2 → tie.Start
 known c = c .before .before .before

@@ -4,8 +4,8 @@
 use Rattle.rules.specs.Compiler.{compile-super}
 use Rattle.steps.proofs.Steps.{went, halt, then-on}
 use borrow.Author.Needs.{needs}
-use Rattle.expressions.proofs.compile_super.Statement.{statement}
-use Rattle.expressions.proofs.compile_super.Tie as tie
+use Rattle.expr_parts.proofs.compile_super.Statement.{statement}
+use Rattle.expr_parts.proofs.compile_super.Tie as tie
 
 abbrev start : tie.After-slice-known3 → tie.Start
 start c = c .before .before .before

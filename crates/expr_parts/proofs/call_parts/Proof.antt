@@ -1,11 +1,11 @@
 -- How many parts a call has.
 use mathlib.Core.Path.{sym, _∙_}
 use Rattle.tree_laws.proofs.Expressions.{any-at}
-use Rattle.expressions.proofs.Calls.{parts-super, parts-other}
+use Rattle.expr_parts.proofs.Calls.{parts-super, parts-other}
 use native.Mathlib.Omega.{arith}
 use borrow.Author.Needs.{needs}
-use Rattle.expressions.proofs.call_parts.Statement.{statement}
-use Rattle.expressions.proofs.call_parts.Tie as tie
+use Rattle.expr_parts.proofs.call_parts.Statement.{statement}
+use Rattle.expr_parts.proofs.call_parts.Tie as tie
 
 add-u16-at : tie.Need-add-u16-at
 add-u16-at c = let b = any-at _ _ _ _ (c .before .pre .there .is) .bound in omega (arith, b)

@@ -1,10 +1,10 @@
 -- After the right side: an opcode, or the operand of a jump.
 -- The places first, each over the one before: of a call `-asked` is the place where it is made, `-left` the call from where its areas have come back,
 -- `-went` and `-halted` the call once its answer is known.
-use Rattle.expressions.proofs.Operators.{closed-plain, closed-jump}
+use Rattle.expr_parts.proofs.Operators.{closed-plain, closed-jump}
 use borrow.Author.Needs.{needs}
-use Rattle.expressions.proofs.after_right.Statement.{statement}
-use Rattle.expressions.proofs.after_right.Tie as tie
+use Rattle.expr_parts.proofs.after_right.Statement.{statement}
+use Rattle.expr_parts.proofs.after_right.Tie as tie
 
 abbrev start : tie.After-slice-known3 → tie.Start
 start c = c .before .before .before

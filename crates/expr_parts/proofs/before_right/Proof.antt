@@ -3,10 +3,10 @@
 -- `-went` and `-halted` the call once its answer is known.
 use mathlib.Core.Path.{_∙_}
 use Rattle.steps.proofs.Steps.{went, went-to, placed, still}
-use Rattle.expressions.proofs.Operators.{begun-plain, begun-stop, begun-and, begun-or-stop, begun-or-stop-2, begun-or}
+use Rattle.expr_parts.proofs.Operators.{begun-plain, begun-stop, begun-and, begun-or-stop, begun-or-stop-2, begun-or}
 use borrow.Author.Needs.{needs}
-use Rattle.expressions.proofs.before_right.Statement.{statement}
-use Rattle.expressions.proofs.before_right.Tie as tie
+use Rattle.expr_parts.proofs.before_right.Statement.{statement}
+use Rattle.expr_parts.proofs.before_right.Tie as tie
 
 abbrev start : tie.After-slice-known3 → tie.Start
 start c = c .before .before .before

@@ -19,7 +19,7 @@ use Rattle.steps.specs.View.{Mem, Fit, code-len, steady, Gave, Refused, Did, Op
 use Rattle.steps.proofs.Steps.{went, went-to, placed, stuck, stuck-to, still, gave-bind, gave-seq, gave-refused, gave-refused-seq, refused-bind, refused-seq, by-name}
 use Rattle.steps.specs.declared.Step.{Step}
 use Rattle.steps.specs.declared.Step.the-variants.{Next, Stop}
-use Rattle.expressions.specs.Exprs.{PrefixOp, InfixOp, before-right, after-right, BegunAs, BegunBy, Begun, Closed}
+use Rattle.expr_parts.specs.Exprs.{PrefixOp, InfixOp, before-right, after-right, BegunAs, BegunBy, Begun, Closed}
 use Rattle.steps.proofs.Monad.{returned, cut-and, cut-or}
 
 same-some : {A : Type 0} {a b : A} → some a ≡ some b → a ≡ b

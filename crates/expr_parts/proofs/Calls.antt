@@ -27,8 +27,8 @@ use Rattle.steps.specs.View.{Mem, Rest, view, Agrees, Fit, steady, Ahead, Gave,
 use Rattle.steps.proofs.Steps.{went, valued, stuck, next, stop, halt, then-on, ahead-then, refused-seq, ask-seq, passed, failed}
 use Rattle.steps.specs.declared.Step.{Step}
 use Rattle.steps.specs.declared.Step.the-variants.{Next, Stop}
-use Rattle.expressions.specs.Exprs.{There, expr-at, Ran, Callee, on-object, on-super, on-value, callee-of, parts, first-part, part-count, open-callee, call-open, call-close, CallOpened, CallParts}
-use Rattle.expressions.specs.Exprs.{CallClosed}
+use Rattle.expr_parts.specs.Exprs.{There, expr-at, Ran, Callee, on-object, on-super, on-value, callee-of, parts, first-part, part-count, open-callee, call-open, call-close, CallOpened, CallParts}
+use Rattle.expr_parts.specs.Exprs.{CallClosed}
 use Rattle.steps.proofs.Monad.{regroup, nothing, stays}
 use Rattle.fields.specs.Marks as marks
 

@@ -1,7 +1,7 @@
 -- The two prefix operators.
-use Rattle.expressions.proofs.Operators.{prefix-zero, prefix-one}
-use Rattle.expressions.proofs.prefix_op.Statement.{statement}
-use Rattle.expressions.proofs.prefix_op.Tie as tie
+use Rattle.expr_parts.proofs.Operators.{prefix-zero, prefix-one}
+use Rattle.expr_parts.proofs.prefix_op.Statement.{statement}
+use Rattle.expr_parts.proofs.prefix_op.Tie as tie
 
 returns : tie.Need-returns
 returns c = prefix-zero _ (c .if1 .taken)

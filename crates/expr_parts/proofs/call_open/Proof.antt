@@ -3,11 +3,11 @@
 -- `-went` and `-halted` the call once its answer is known.
 use mathlib.Core.Path.{sym, _∙_}
 use Rattle.tree_laws.proofs.Expressions.{any-at, get-at, super-at}
-use Rattle.expressions.proofs.Calls.{too-many, super-stop, super-open, object-open, value-open}
+use Rattle.expr_parts.proofs.Calls.{too-many, super-stop, super-open, object-open, value-open}
 use native.Mathlib.Omega.{arith}
 use borrow.Author.Needs.{needs}
-use Rattle.expressions.proofs.call_open.Statement.{statement}
-use Rattle.expressions.proofs.call_open.Tie as tie
+use Rattle.expr_parts.proofs.call_open.Statement.{statement}
+use Rattle.expr_parts.proofs.call_open.Tie as tie
 
 abbrev known : tie.After-slice-known2 → tie.Start
 known c = c .before .before .before
