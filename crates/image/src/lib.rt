@@ -8,6 +8,7 @@ ghost use Rattle.image.specs.Counted.{counted-in, code-place, code-part,
 use code::Verdict;
 use fields::Mark;
 use records::Head;
+use records::Header;
 use records::Place;
 use rules::Answer;
 use rules::Refusal;
@@ -16,7 +17,7 @@ use rules::Refusal;
 fn count_of(image: &[u8]) -> Verdict
     ensures { λ r. ⌜ r ≡ counted-in (image-of (now (image .entry))) ⌝ }
 {
-    if !fields::has(image, 0, 6) {
+    if !fields::has(image, 0, Header::FIRST) {
         return Verdict::No;
     }
     if fields::mark_at(image, 0) != Mark::IMAGE {
