@@ -10,6 +10,7 @@ use answers::refused;
 use fields::Mark;
 use image_code::Verdict;
 use image_records::Head;
+use image_records::Header;
 use image_records::Place;
 use rules::Answer;
 use rules::Refusal;
@@ -18,7 +19,7 @@ use rules::Refusal;
 fn count_of(image: &[u8]) -> Verdict
     ensures { λ r. ⌜ r ≡ counted-in (image-of (now (image .entry))) ⌝ }
 {
-    if !fields::has(image, 0, 6) {
+    if !fields::has(image, 0, Header::FIRST) {
         return Verdict::No;
     }
     if fields::mark_at(image, 0) != Mark::IMAGE {

@@ -13,6 +13,7 @@ ghost use Rattle.image_functions.specs.declared.Done.the-variants as don
 ghost use Rattle.image_functions.specs.Judged.{Constants-right, code-done, Judged, Next-is, functions-done};
 use image_code::Verdict;
 use image_records::Head;
+use image_records::Header;
 use image_records::Place;
 use image_records::Summed;
 
@@ -159,7 +160,7 @@ fn function(
     let mut kinds = [0u32; 256];
     let Place::At(runs_at) = constants_right(
         s,
-        at + 17,
+        at + Header::BYTES,
         fields::wide16(h.constants),
         k,
         counts,
@@ -210,7 +211,7 @@ fn judge_all(
     requires { ⌜ (length (now words) ≡ 256) × ((length (now stamps) ≡ 4096) × (length (now ring) ≡ 131072)) ⌝ }
     ensures { λ r. ⌜ r ≡ functions-done 0 [] (length (now (s .entry))) (many count (read-function (now (s .entry))) 6) ⌝ }
 {
-    let mut at: usize = 6;
+    let mut at: usize = Header::FIRST;
     let mut k: usize = 0;
     let mut total: usize = 0;
     while k < count {

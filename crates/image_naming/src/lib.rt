@@ -14,6 +14,7 @@ ghost use Rattle.image_constants.specs.Words.{constant-of};
 ghost use Rattle.image_constants.specs.Earlier.{is-got, earlier};
 ghost use Rattle.image_naming.specs.Noted.{Capped, Noted, names-one, Constants-noted, Function-noted};
 use image_records::Head;
+use image_records::Header;
 use image_records::Place;
 use image_records::Word;
 
@@ -65,8 +66,13 @@ fn note_function(s: &[u8], at: usize, base: usize, seen: &mut [u8]) -> Place
     let Head::Is(h) = image_records::head_of(s, at) else {
         return Place::Bad;
     };
-    let Place::At(runs_at) = note_constants(s, at + 17, fields::wide16(h.constants), base, seen)
-    else {
+    let Place::At(runs_at) = note_constants(
+        s,
+        at + Header::BYTES,
+        fields::wide16(h.constants),
+        base,
+        seen,
+    ) else {
         return Place::Bad;
     };
     image_records::skip_function(s, at)
@@ -77,7 +83,7 @@ fn note_all(s: &[u8], count: usize, base: usize, seen: &mut [u8])
     requires { ⌜ Capped (now seen) × (is-got (many count (read-function (now s)) 6) ≡ true) ⌝ }
     ensures { λ r. ⌜ Noted base (λ (number : ℕ). names-in-all number (earlier (now (s .entry)) count)) (now (seen .entry)) (now (seen .exit)) ⌝ }
 {
-    let mut at: usize = 6;
+    let mut at: usize = Header::FIRST;
     let mut i: usize = 0;
     while i < count {
         let Place::At(next) = note_function(s, at, base, seen) else {

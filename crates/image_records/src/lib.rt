@@ -29,6 +29,20 @@ pub struct Header {
     pub code: u32,
 }
 
+impl Header {
+    // how many bytes it has, its mark among them
+    pub const BYTES: usize = 17;
+
+    // where that of the first function stands, behind the image's mark and count
+    pub const FIRST: usize = 6;
+}
+
+// A run's bytes, its mark among them.
+const RUN_BYTES: usize = 11;
+
+// No number's bits are above: no sign, no NaN. The rules' `max-bits`.
+const MAX_BITS: u64 = 0x7FF0000000000000;
+
 pub enum Head {
     Is(Header),
     Bad,
@@ -49,7 +63,7 @@ fn number_at(s: &[u8], at: usize) -> Word
         return Word::Bad;
     }
     let bits = fields::u64_at(s, at + 2);
-    if bits > 0x7FF0000000000000 {
+    if bits > MAX_BITS {
         return Word::Bad;
     }
     Word::Is(2 * bits, at + 10)
@@ -115,7 +129,7 @@ pub fn skip_constants(s: &[u8], begin: usize, n: usize) -> Place
 pub fn head_of(s: &[u8], at: usize) -> Head
     ensures { λ r. ⌜ r ≡ head-at (now (s .entry)) at ⌝ }
 {
-    if !fields::has(s, at, 17) {
+    if !fields::has(s, at, Header::BYTES) {
         return Head::Bad;
     }
     if fields::mark_at(s, at) != Mark::FUNCTION {
@@ -158,7 +172,7 @@ pub fn runs(s: &[u8], begin: usize, n: usize) -> Summed
     let mut end: u32 = 0;
     let mut count: u64 = 255;
     while i < n {
-        if !fields::has(s, at, 11) {
+        if !fields::has(s, at, RUN_BYTES) {
             return Summed::Bad;
         }
         if fields::mark_at(s, at) != Mark::RUN {
@@ -177,7 +191,7 @@ pub fn runs(s: &[u8], begin: usize, n: usize) -> Summed
         start = a;
         end = e;
         count = c;
-        at += 11;
+        at += RUN_BYTES;
         i += 1;
     }
     Summed::Are(sum, at)
@@ -190,13 +204,13 @@ pub fn skip_runs(s: &[u8], begin: usize, n: usize) -> Place
     let mut at = begin;
     let mut i: usize = 0;
     while i < n {
-        if !fields::has(s, at, 11) {
+        if !fields::has(s, at, RUN_BYTES) {
             return Place::Bad;
         }
         if fields::mark_at(s, at) != Mark::RUN {
             return Place::Bad;
         }
-        at += 11;
+        at += RUN_BYTES;
         i += 1;
     }
     Place::At(at)
@@ -225,7 +239,8 @@ pub fn skip_function(s: &[u8], at: usize) -> Place
     let Head::Is(h) = head_of(s, at) else {
         return Place::Bad;
     };
-    let Place::At(runs_at) = skip_constants(s, at + 17, fields::wide16(h.constants)) else {
+    let Place::At(runs_at) = skip_constants(s, at + Header::BYTES, fields::wide16(h.constants))
+    else {
         return Place::Bad;
     };
     let Place::At(mark_at) = skip_runs(s, runs_at, fields::wide32(h.runs)) else {
@@ -242,7 +257,7 @@ pub fn skip_function(s: &[u8], at: usize) -> Place
 pub fn function_place(s: &[u8], k: usize) -> Place
     ensures { λ r. ⌜ r ≡ place-told (many k (read-function (now (s .entry))) 6) ⌝ }
 {
-    let mut at: usize = 6;
+    let mut at: usize = Header::FIRST;
     let mut i: usize = 0;
     while i < k {
         let Place::At(next) = skip_function(s, at) else {
