@@ -26,8 +26,20 @@ add-at c = omega arith
 loop-less : tie.Need-loop-less Inv-loop μ-loop
 loop-less c = omega arith
 
+-- ## Places
+
+abbrev start-of-shared-slice-known : tie.After-shared-slice-known Inv-loop μ-loop → tie.Start Inv-loop μ-loop
+start-of-shared-slice-known c = c .before
+
+abbrev start-of-then1 : tie.Then1 Inv-loop μ-loop → tie.Start Inv-loop μ-loop
+start-of-then1 c = start-of-shared-slice-known (c .before .before .before)
+
+-- ## Needs
+
 loop-again : tie.Need-loop-again Inv-loop μ-loop
-loop-again c = closing-skip (c .before .before .before .before .args .kinds .now) (c .before .before .before .before .args .code .now) (c .before .before .loop .named) (c .before .before .loop .at) (c .before .before .loop .skip) (c .before .before .loop .skip - 1) (c .before .before .loop .inv) (c .before .loop-test .taken) (omega arith)
+loop-again c =
+    closing-skip (start-of-then1 c .args .kinds .now) (start-of-then1 c .args .code .now) (c .before .before .loop .named) (c .before .before .loop .at)
+    (c .before .before .loop .skip) (c .before .before .loop .skip - 1) (c .before .before .loop .inv) (c .before .loop-test .taken) (omega arith)
 
 width-at-requires : tie.Need-width-at-requires Inv-loop μ-loop
 width-at-requires c κs = c .before .loop-test .taken
@@ -230,7 +242,9 @@ loop-again-3 c =
     closing-other kinds code (loop .named) (loop .at) (loop .skip) w (loop .inv) z (within .loop-test .taken) is (seen .if2 .left)
 
 returns : tie.Need-returns Inv-loop μ-loop
-returns c = closing-done (c .before .before .before .args .kinds .now) (c .before .before .before .args .code .now) (c .before .loop .named) (c .before .loop .at) (c .before .loop .skip) (c .before .loop .inv) (c .loop-test .left)
+returns c =
+    closing-done (c .before .before .before .args .kinds .now) (c .before .before .before .args .code .now) (c .before .loop .named) (c .before .loop .at)
+    (c .before .loop .skip) (c .before .loop .inv) (c .loop-test .left)
 
 pub closures-spec : {M : Type 1} → statement M
 closures-spec =
