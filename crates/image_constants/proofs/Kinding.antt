@@ -69,7 +69,8 @@ module _ (s : List ℕ) (j k : ℕ) (g : is-got (many k (read-function s) 6) ≡
   walk-headless at e b r =
       let f = head-fails s at b in
       let p = place-same at e in
-      absurd (let z : _≡_ {A = Read ObjectFunction} (bad (f .fault)) (got (nth .value) (nth .next)) = sym (f .is) ∙ ap (read-function s) (sym p) ∙ nth .is in let y : _≡_ {A = ℕ} 0 1 = cc in omega arith)
+      absurd (let z : _≡_ {A = Read ObjectFunction} (bad (f .fault)) (got (nth .value) (nth .next)) = sym (f .is) ∙ ap (read-function s) (sym p) ∙ nth .is in
+      let y : _≡_ {A = ℕ} 0 1 = cc in omega arith)
 
   pub walk-there : (at : ℕ) → place.At at ≡ place-told (many j (read-function s) 6) → (h : Header) → head.Is h ≡ head-at s at → h .upvalues ≡ upvalues-at (earlier s k) j
   unfolding upvalues-at upvalues-in

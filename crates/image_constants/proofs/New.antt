@@ -101,7 +101,8 @@ module _ (words : List ℕ) (mark : ℕ) where
           new = more-new i (n .new) (λ j h e. fresh j h (e ∙ sym is-word));
           marked =
               λ j h. ⊎-elim
-              (λ (x : j ≡ i). ap (λ (m : ℕ). getD stamps (place (getD words m 0)) 0) x ∙ ap (λ (w : ℕ). getD stamps (place w) 0) (sym is-word) ∙ ap (λ (m : ℕ). getD stamps m 0) (sym is-slot) ∙ stamped)
+              (λ (x : j ≡ i). ap (λ (m : ℕ). getD stamps (place (getD words m 0)) 0) x ∙ ap (λ (w : ℕ). getD stamps (place w) 0) (sym is-word) ∙ ap
+              (λ (m : ℕ). getD stamps m 0) (sym is-slot) ∙ stamped)
               (λ (x : j < i). n .marked j x) (eq-or-lt-of-le (omega arith));
         }
 
@@ -113,7 +114,9 @@ module _ (words : List ℕ) (mark : ℕ) where
           new =
               more-new i (n .new)
               (λ j h e. other (rw (is-slot ∙ ap (λ (w : ℕ). place w) (is-word ∙ sym e)) (n .marked j h)));
-          marked = λ j h. stays (place (getD words j 0)) (λ d. ⊎-elim (λ (x : j ≡ i). absurd (d (ap (λ (m : ℕ). place (getD words m 0)) x ∙ ap (λ (w : ℕ). place w) (sym is-word) ∙ sym is-slot))) (λ (x : j < i). n .marked j x) (eq-or-lt-of-le (omega arith))) (eqb (place (getD words j 0)) slot) refl;
+          marked = λ j h. stays (place (getD words j 0)) (λ d. ⊎-elim
+              (λ (x : j ≡ i). absurd (d (ap (λ (m : ℕ). place (getD words m 0)) x ∙ ap (λ (w : ℕ). place w) (sym is-word) ∙ sym is-slot)))
+              (λ (x : j < i). n .marked j x) (eq-or-lt-of-le (omega arith))) (eqb (place (getD words j 0)) slot) refl;
         }
       where
         inside : slot < length stamps

@@ -33,28 +33,65 @@ same-length : tie.Need-same-length Inv-loop μ-loop
 same-length c = c .before .before .before .before .loop .inv .size
 
 returns : tie.Need-returns Inv-loop μ-loop
-returns c = gather-stop (c .before .before .before .before .before .before .before .args .s .now) (c .before .before .before .before .before .before .before .args .begin) (c .before .before .before .before .before .before .before .args .n) (c .before .before .before .before .loop .words) (length (c .before .before .before .before .before .before .before .args .words .now)) (c .before .before .before .before .loop .at) (c .before .before .before .before .loop .i) (c .before .before .before .before .loop .inv) (c .before .before .before .loop-test .taken) (constant-fails (read-constant (c .before .before .before .before .before .before .before .args .s .now) (c .before .before .before .before .loop .at)) (sym (c .enum-told .given .1) ∙ c .before .before .constant .ensures))
+returns c =
+    gather-stop (c .before .before .before .before .before .before .before .args .s .now)
+    (c .before .before .before .before .before .before .before .args .begin) (c .before .before .before .before .before .before .before .args .n)
+    (c .before .before .before .before .loop .words) (length (c .before .before .before .before .before .before .before .args .words .now))
+    (c .before .before .before .before .loop .at) (c .before .before .before .before .loop .i) (c .before .before .before .before .loop .inv)
+    (c .before .before .before .loop-test .taken) (constant-fails
+    (read-constant (c .before .before .before .before .before .before .before .args .s .now) (c .before .before .before .before .loop .at))
+    (sym (c .enum-told .given .1) ∙ c .before .before .constant .ensures))
 
 mul-words : tie.Need-mul-words Inv-loop μ-loop
-mul-words c = omega (arith, c .before .before .before .before .before .before .before .before .pre, c .before .before .before .before .loop-test .taken, c .before .before .before .before .before .before .before .before .good)
+mul-words c =
+    omega (
+      arith,
+      c .before .before .before .before .before .before .before .before .pre,
+      c .before .before .before .before .loop-test .taken,
+      c .before .before .before .before .before .before .before .before .good,
+    )
 
 slice-write-words : tie.Need-slice-write-words Inv-loop μ-loop
-slice-write-words c = omega (arith, c .before .before .before .before .before .before .before .before .pre, c .before .before .before .before .loop-test .taken, c .before .before .before .before .before .loop .inv .size)
+slice-write-words c =
+    omega (
+      arith,
+      c .before .before .before .before .before .before .before .before .pre,
+      c .before .before .before .before .loop-test .taken,
+      c .before .before .before .before .before .loop .inv .size,
+    )
 
 add-i : tie.Need-add-i Inv-loop μ-loop
-add-i c = omega (arith, c .before .before .before .before .before .before .before .before .pre, c .before .before .before .before .loop-test .taken, c .before .before .before .before .before .before .before .before .good)
+add-i c =
+    omega (
+      arith,
+      c .before .before .before .before .before .before .before .before .pre,
+      c .before .before .before .before .loop-test .taken,
+      c .before .before .before .before .before .before .before .before .good,
+    )
 
 loop-less : tie.Need-loop-less Inv-loop μ-loop
 loop-less c = omega (arith, c .before .before .before .before .loop-test .taken)
 
 loop-again : tie.Need-loop-again Inv-loop μ-loop
-loop-again c = gather-on (c .before .before .before .before .before .before .before .before .args .s .now) (c .before .before .before .before .before .before .before .before .args .begin) (c .before .before .before .before .before .before .before .before .args .n) (c .before .before .before .before .before .loop .words) (length (c .before .before .before .before .before .before .before .before .args .words .now)) (c .before .before .before .before .before .loop .at) (c .before .before .before .before .before .loop .i) (c .before .before .before .before .before .loop .inv) (c .before .word .given .0 .0) (c .before .word .given .0 .1 .0) (c .before .before .before .before .before .before .before .before .pre) (c .before .before .before .before .loop-test .taken) (constant-is (read-constant (c .before .before .before .before .before .before .before .before .args .s .now) (c .before .before .before .before .before .loop .at)) (c .before .word .given .0 .0) (c .before .word .given .0 .1 .0) (sym (c .before .word .given .1) ∙ c .before .before .before .constant .ensures))
+loop-again c =
+    gather-on (c .before .before .before .before .before .before .before .before .args .s .now)
+    (c .before .before .before .before .before .before .before .before .args .begin)
+    (c .before .before .before .before .before .before .before .before .args .n) (c .before .before .before .before .before .loop .words)
+    (length (c .before .before .before .before .before .before .before .before .args .words .now)) (c .before .before .before .before .before .loop .at)
+    (c .before .before .before .before .before .loop .i) (c .before .before .before .before .before .loop .inv) (c .before .word .given .0 .0)
+    (c .before .word .given .0 .1 .0) (c .before .before .before .before .before .before .before .before .pre)
+    (c .before .before .before .before .loop-test .taken)
+    (constant-is (read-constant (c .before .before .before .before .before .before .before .before .args .s .now)
+    (c .before .before .before .before .before .loop .at)) (c .before .word .given .0 .0) (c .before .word .given .0 .1 .0)
+    (sym (c .before .word .given .1) ∙ c .before .before .before .constant .ensures))
 
 same-length-2 : tie.Need-same-length-2 Inv-loop μ-loop
 same-length-2 c = c .before .loop .inv .size
 
 returns-2 : tie.Need-returns-2 Inv-loop μ-loop
-returns-2 c = gather-done (c .before .before .before .before .args .s .now) (c .before .before .before .before .args .begin) (c .before .before .before .before .args .n) (c .before .loop .words) (length (c .before .before .before .before .args .words .now)) (c .before .loop .at) (c .before .loop .i) (c .before .loop .inv) (c .loop-test .left)
+returns-2 c =
+    gather-done (c .before .before .before .before .args .s .now) (c .before .before .before .before .args .begin) (c .before .before .before .before .args .n)
+    (c .before .loop .words) (length (c .before .before .before .before .args .words .now)) (c .before .loop .at) (c .before .loop .i) (c .before .loop .inv) (c .loop-test .left)
 
 pub gather-spec : {M : Type 1} → statement M
 gather-spec =

@@ -11,10 +11,13 @@ use Rattle.image_constants.proofs.kind_of.Statement.{statement}
 use Rattle.image_constants.proofs.kind_of.Tie as tie
 
 returns : tie.Need-returns
-returns c = word-number (earlier (c .before .before .before .args .s .now) (c .before .before .before .args .k)) (c .before .before .before .args .k) (c .before .before .before .args .word) (c .if1 .taken)
+returns c =
+    word-number (earlier (c .before .before .before .args .s .now) (c .before .before .before .args .k)) (c .before .before .before .args .k) (c .before .before .before .args .word) (c .if1 .taken)
 
 returns-2 : tie.Need-returns-2
-returns-2 c = word-string (earlier (c .before .before .before .before .args .s .now) (c .before .before .before .before .args .k)) (c .before .before .before .before .args .k) (c .before .before .before .before .args .word) (c .before .if1 .left) (c .if2 .taken)
+returns-2 c =
+    word-string (earlier (c .before .before .before .before .args .s .now) (c .before .before .before .before .args .k))
+    (c .before .before .before .before .args .k) (c .before .before .before .before .args .word) (c .before .if1 .left) (c .if2 .taken)
 
 wide64-requires : tie.Need-wide64-requires
 wide64-requires c κs = search needs
@@ -29,10 +32,19 @@ add-result : tie.Need-add-result
 add-result c = omega (arith, c .wide16 .ensures .1)
 
 returns-3 : tie.Need-returns-3
-returns-3 c = rw (c .wide16 .ensures .0, c .before .upvalues-of .ensures, c .before .before .before .wide64 .ensures) (word-function (earlier (c .before .before .before .before .before .before .before .before .args .s .now) (c .before .before .before .before .before .before .before .before .args .k)) (c .before .before .before .before .before .before .before .before .args .k) (c .before .before .before .before .before .before .before .before .args .word) (c .before .before .before .before .before .if1 .left) (c .before .before .before .before .if2 .left) (omega (arith, c .before .before .if3 .taken, c .before .before .before .wide64 .ensures)))
+returns-3 c =
+    rw (c .wide16 .ensures .0, c .before .upvalues-of .ensures, c .before .before .before .wide64 .ensures)
+    (word-function (earlier (c .before .before .before .before .before .before .before .before .args .s .now)
+    (c .before .before .before .before .before .before .before .before .args .k))
+    (c .before .before .before .before .before .before .before .before .args .k)
+    (c .before .before .before .before .before .before .before .before .args .word) (c .before .before .before .before .before .if1 .left)
+    (c .before .before .before .before .if2 .left) (omega (arith, c .before .before .if3 .taken, c .before .before .before .wide64 .ensures)))
 
 returns-4 : tie.Need-returns-4
-returns-4 c = word-late (earlier (c .before .before .before .before .before .before .args .s .now) (c .before .before .before .before .before .before .args .k)) (c .before .before .before .before .before .before .args .k) (c .before .before .before .before .before .before .args .word) (c .before .before .before .if1 .left) (c .before .before .if2 .left) (omega (arith, c .if3 .left, c .before .wide64 .ensures))
+returns-4 c =
+    word-late (earlier (c .before .before .before .before .before .before .args .s .now) (c .before .before .before .before .before .before .args .k))
+    (c .before .before .before .before .before .before .args .k) (c .before .before .before .before .before .before .args .word)
+    (c .before .before .before .if1 .left) (c .before .before .if2 .left) (omega (arith, c .if3 .left, c .before .wide64 .ensures))
 
 pub kind-of-spec : {M : Type 1} → statement M
 kind-of-spec =

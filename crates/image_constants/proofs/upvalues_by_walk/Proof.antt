@@ -19,7 +19,9 @@ enum-told : tie.Need-enum-told
 enum-told c = search needs
 
 returns : tie.Need-returns
-returns c = λ k h g. walk-lost (c .before .before .before .before .args .s .now) (c .before .before .before .before .args .j) k g h (sym (c .enum-told .given .1) ∙ c .before .before .function-place .ensures) 0
+returns c =
+    λ k h g. walk-lost (c .before .before .before .before .args .s .now) (c .before .before .before .before .args .j) k g h
+    (sym (c .enum-told .given .1) ∙ c .before .before .function-place .ensures) 0
 
 head-of-requires : tie.Need-head-of-requires
 head-of-requires c κs = search needs
@@ -31,10 +33,18 @@ enum-told-2 : tie.Need-enum-told-2
 enum-told-2 c = search needs
 
 returns-2 : tie.Need-returns-2
-returns-2 c = λ k h g. walk-headless (c .before .before .before .before .before .before .before .before .args .s .now) (c .before .before .before .before .before .before .before .before .args .j) k g h (c .before .before .before .before .at .given .0 .0) (sym (c .before .before .before .before .at .given .1) ∙ c .before .before .before .before .before .before .function-place .ensures) (sym (c .enum-told2 .given .1) ∙ c .before .before .head-of .ensures) 0
+returns-2 c =
+    λ k h g. walk-headless (c .before .before .before .before .before .before .before .before .args .s .now)
+    (c .before .before .before .before .before .before .before .before .args .j) k g h (c .before .before .before .before .at .given .0 .0)
+    (sym (c .before .before .before .before .at .given .1) ∙ c .before .before .before .before .before .before .function-place .ensures)
+    (sym (c .enum-told2 .given .1) ∙ c .before .before .head-of .ensures) 0
 
 returns-3 : tie.Need-returns-3
-returns-3 c = λ k l g. walk-there (c .before .before .before .before .before .before .before .before .before .args .s .now) (c .before .before .before .before .before .before .before .before .before .args .j) k g l (c .before .before .before .before .before .at .given .0 .0) (sym (c .before .before .before .before .before .at .given .1) ∙ c .before .before .before .before .before .before .before .function-place .ensures) (c .before .h .given .0 .0) (sym (c .before .h .given .1) ∙ c .before .before .before .head-of .ensures)
+returns-3 c =
+    λ k l g. walk-there (c .before .before .before .before .before .before .before .before .before .args .s .now)
+    (c .before .before .before .before .before .before .before .before .before .args .j) k g l (c .before .before .before .before .before .at .given .0 .0)
+    (sym (c .before .before .before .before .before .at .given .1) ∙ c .before .before .before .before .before .before .before .function-place .ensures)
+    (c .before .h .given .0 .0) (sym (c .before .h .given .1) ∙ c .before .before .before .head-of .ensures)
 
 pub upvalues-by-walk-spec : {M : Type 1} → statement M
 upvalues-by-walk-spec =

@@ -5,10 +5,11 @@ use mathlib.Core.Path.{_≡_, refl, sym, _∙_, ap}
 use lib.ListN.{length, getD}
 use lib.Dec.{leb, eqb}
 use borrow.Author.Tests.{not-true, not-false, leb-true, leb-false, le-leb, lt-leb, eq-eqb, ne-eqb}
-use Rattle.image_records.specs.Told.{place-told}
+use Rattle.image_records.specs.Told.{place-told, code-told}
+use Rattle.image_records.specs.declared.Place.the-variants.{At}
 use Rattle.rules.specs.Reader.{many}
 use Rattle.rules.specs.ImageFile.{read-constant, read-run, read-function}
-use Rattle.image_records.proofs.Many.{fails-bad, place-bad, place-at}
+use Rattle.image_records.proofs.Many.{Gives, fails-bad, place-bad, place-at}
 use Rattle.image_records.proofs.Records.{head-fails, headed, at-constants, at-runs, at-code, coded, whole-function}
 use borrow.Author.Needs.{needs}
 use Rattle.image_records.proofs.skip_function.Statement.{statement}
@@ -241,6 +242,28 @@ wide32-of-known-told4 c = wide32-of-wide322 (wide322-of-known-told4 c)
 abbrev skip-runs-of-known-told4 : tie.After-known-told4 → tie.After-skip-runs
 skip-runs-of-known-told4 c = skip-runs-of-wide322 (wide322-of-known-told4 c)
 
+-- ## What was read, at the place where it is known
+
+constants-skipped : (c : tie.After-skip-constants) → c .skip-constants .result
+    ≡ place-told (many (h-of-skip-constants c .h .given .0 .0 .constants) (read-constant (start-of-skip-constants c .args .s .now)) (start-of-skip-constants c .args .at + 17))
+constants-skipped c = rw (c .before .wide16 .ensures .0) at (c .skip-constants .ensures)
+
+constants-read : (c : tie.After-runs-at) →
+    Gives (many (h-of-runs-at c .h .given .0 .0 .constants) (read-constant (start-of-runs-at c .args .s .now)) (start-of-runs-at c .args .at + 17)) (c .runs-at .given .0 .0)
+constants-read c = place-at _ _ (sym (c .runs-at .given .1) ∙ constants-skipped (skip-constants-of-runs-at c))
+
+runs-skipped : (c : tie.After-skip-runs) → c .skip-runs .result
+    ≡ place-told (many (h-of-skip-runs c .h .given .0 .0 .runs) (read-run (start-of-skip-runs c .args .s .now)) (runs-at-of-skip-runs c .runs-at .given .0 .0))
+runs-skipped c = rw (c .before .wide32 .ensures .0) at (c .skip-runs .ensures)
+
+runs-read : (c : tie.After-mark-at) →
+    Gives (many (h-of-mark-at c .h .given .0 .0 .runs) (read-run (start-of-mark-at c .args .s .now)) (runs-at-of-mark-at c .runs-at .given .0 .0)) (c .mark-at .given .0 .0)
+runs-read c = place-at _ _ (sym (c .mark-at .given .1) ∙ runs-skipped (skip-runs-of-mark-at c))
+
+code-placed : (c : tie.After-code-at) → c .code-at .result
+    ≡ code-told (start-of-wide322 (c .before) .args .s .now) (h-of-wide322 (c .before) .h .given .0 .0 .code) (mark-at-of-wide322 (c .before) .mark-at .given .0 .0)
+code-placed c = rw (c .before .wide322 .ensures .0) at (c .code-at .ensures)
+
 -- ## Needs
 
 returns : tie.Need-returns
@@ -268,7 +291,7 @@ returns-2 c =
     fails-bad (at-constants (start-of-enum-told2 c .args .s .now) (start-of-enum-told2 c .args .at) (h-of-enum-told2 c .h .given .0 .0)
     (headed (start-of-enum-told2 c .args .s .now) (start-of-enum-told2 c .args .at) (h-of-enum-told2 c .h .given .0 .0)
     (sym (h-of-enum-told2 c .h .given .1) ∙ head-of-of-enum-told2 c .head-of .ensures))
-    (place-bad _ (sym (c .enum-told2 .given .1) ∙ rw (c .before .before .before .wide16 .ensures .0) at (c .before .before .skip-constants .ensures))))
+    (place-bad _ (sym (c .enum-told2 .given .1) ∙ constants-skipped (c .before .before))))
 
 wide32-requires : tie.Need-wide32-requires
 wide32-requires c κs = search needs
@@ -287,15 +310,9 @@ returns-3 c =
     fails-bad (at-runs (start-of-enum-told3 c .args .s .now) (start-of-enum-told3 c .args .at) (h-of-enum-told3 c .h .given .0 .0)
     (headed (start-of-enum-told3 c .args .s .now) (start-of-enum-told3 c .args .at) (h-of-enum-told3 c .h .given .0 .0)
     (sym (h-of-enum-told3 c .h .given .1) ∙ head-of-of-enum-told3 c .head-of .ensures))
-    ((place-at (many ((h-of-enum-told3 c .h .given .0 .0) .constants) (read-constant (start-of-enum-told3 c .args .s .now))
-    (start-of-enum-told3 c .args .at + 17)) (runs-at-of-enum-told3 c .runs-at .given .0 .0)
-    (sym (runs-at-of-enum-told3 c .runs-at .given .1) ∙ rw (wide16-of-enum-told3 c .wide16 .ensures .0) at
-    (skip-constants-of-enum-told3 c .skip-constants .ensures))) .value) (runs-at-of-enum-told3 c .runs-at .given .0 .0)
-    ((place-at (many ((h-of-enum-told3 c .h .given .0 .0) .constants) (read-constant (start-of-enum-told3 c .args .s .now))
-    (start-of-enum-told3 c .args .at + 17)) (runs-at-of-enum-told3 c .runs-at .given .0 .0)
-    (sym (runs-at-of-enum-told3 c .runs-at .given .1) ∙ rw (wide16-of-enum-told3 c .wide16 .ensures .0) at
-    (skip-constants-of-enum-told3 c .skip-constants .ensures))) .is)
-    (place-bad _ (sym (c .enum-told3 .given .1) ∙ rw (c .before .before .before .wide32 .ensures .0) at (c .before .before .skip-runs .ensures))))
+    (constants-read (runs-at-of-enum-told3 c) .value) (runs-at-of-enum-told3 c .runs-at .given .0 .0)
+    (constants-read (runs-at-of-enum-told3 c) .is)
+    (place-bad _ (sym (c .enum-told3 .given .1) ∙ runs-skipped (c .before .before))))
 
 wide32-requires-2 : tie.Need-wide32-requires-2
 wide32-requires-2 c κs = search needs
@@ -314,28 +331,15 @@ returns-4 c =
     fails-bad (at-code (start-of-enum-told4 c .args .s .now) (start-of-enum-told4 c .args .at) (h-of-enum-told4 c .h .given .0 .0)
     (headed (start-of-enum-told4 c .args .s .now) (start-of-enum-told4 c .args .at) (h-of-enum-told4 c .h .given .0 .0)
     (sym (h-of-enum-told4 c .h .given .1) ∙ head-of-of-enum-told4 c .head-of .ensures))
-    ((place-at (many ((h-of-enum-told4 c .h .given .0 .0) .constants) (read-constant (start-of-enum-told4 c .args .s .now))
-    (start-of-enum-told4 c .args .at + 17)) (runs-at-of-enum-told4 c .runs-at .given .0 .0)
-    (sym (runs-at-of-enum-told4 c .runs-at .given .1) ∙ rw (wide16-of-enum-told4 c .wide16 .ensures .0) at
-    (skip-constants-of-enum-told4 c .skip-constants .ensures))) .value) (runs-at-of-enum-told4 c .runs-at .given .0 .0)
-    ((place-at (many ((h-of-enum-told4 c .h .given .0 .0) .constants) (read-constant (start-of-enum-told4 c .args .s .now))
-    (start-of-enum-told4 c .args .at + 17)) (runs-at-of-enum-told4 c .runs-at .given .0 .0)
-    (sym (runs-at-of-enum-told4 c .runs-at .given .1) ∙ rw (wide16-of-enum-told4 c .wide16 .ensures .0) at
-    (skip-constants-of-enum-told4 c .skip-constants .ensures))) .is)
-    ((place-at (many ((h-of-enum-told4 c .h .given .0 .0) .runs) (read-run (start-of-enum-told4 c .args .s .now))
-    (runs-at-of-enum-told4 c .runs-at .given .0 .0)) (mark-at-of-enum-told4 c .mark-at .given .0 .0)
-    (sym (mark-at-of-enum-told4 c .mark-at .given .1) ∙ rw (wide32-of-enum-told4 c .wide32 .ensures .0) at
-    (skip-runs-of-enum-told4 c .skip-runs .ensures))) .value) (mark-at-of-enum-told4 c .mark-at .given .0 .0)
-    ((place-at (many ((h-of-enum-told4 c .h .given .0 .0) .runs) (read-run (start-of-enum-told4 c .args .s .now))
-    (runs-at-of-enum-told4 c .runs-at .given .0 .0)) (mark-at-of-enum-told4 c .mark-at .given .0 .0)
-    (sym (mark-at-of-enum-told4 c .mark-at .given .1) ∙ rw (wide32-of-enum-told4 c .wide32 .ensures .0) at
-    (skip-runs-of-enum-told4 c .skip-runs .ensures))) .is) (sym (c .enum-told4 .given .1) ∙ rw (c .before .before .before .wide322 .ensures .0) at (c .before .before .code-at .ensures)))
+    (constants-read (runs-at-of-enum-told4 c) .value) (runs-at-of-enum-told4 c .runs-at .given .0 .0)
+    (constants-read (runs-at-of-enum-told4 c) .is)
+    (runs-read (mark-at-of-enum-told4 c) .value) (mark-at-of-enum-told4 c .mark-at .given .0 .0)
+    (runs-read (mark-at-of-enum-told4 c) .is) (sym (c .enum-told4 .given .1) ∙ code-placed (c .before .before)))
 
 add-t11 : tie.Need-add-t11
 add-t11 c =
     let d = (coded (start-of-known-told4 c .args .s .now) ((h-of-known-told4 c .h .given .0 .0) .code) (mark-at-of-known-told4 c .mark-at .given .0 .0)
-    (c .before .first .given .0 .0) (sym (c .before .first .given .1) ∙ rw (wide322-of-known-told4 c .wide322 .ensures .0) at
-    (c .before .before .before .code-at .ensures))) in omega (arith, d .within, wide322-of-known-told4 c .wide322 .ensures .0, start-of-known-told4 c .good)
+    (c .before .first .given .0 .0) (sym (c .before .first .given .1) ∙ code-placed (c .before .before .before))) in omega (arith, d .within, wide322-of-known-told4 c .wide322 .ensures .0, start-of-known-told4 c .good)
 
 returns-5 : tie.Need-returns-5
 unfolding place-told
@@ -343,25 +347,12 @@ returns-5 c =
     sym (ap place-told (whole-function (start-of-known-told4 c .args .s .now) (start-of-known-told4 c .args .at) (h-of-known-told4 c .h .given .0 .0)
     (headed (start-of-known-told4 c .args .s .now) (start-of-known-told4 c .args .at) (h-of-known-told4 c .h .given .0 .0)
     (sym (h-of-known-told4 c .h .given .1) ∙ head-of-of-known-told4 c .head-of .ensures))
-    ((place-at (many ((h-of-known-told4 c .h .given .0 .0) .constants) (read-constant (start-of-known-told4 c .args .s .now))
-    (start-of-known-told4 c .args .at + 17)) (runs-at-of-known-told4 c .runs-at .given .0 .0)
-    (sym (runs-at-of-known-told4 c .runs-at .given .1) ∙ rw (wide16-of-known-told4 c .wide16 .ensures .0) at
-    (skip-constants-of-known-told4 c .skip-constants .ensures))) .value) (runs-at-of-known-told4 c .runs-at .given .0 .0)
-    ((place-at (many ((h-of-known-told4 c .h .given .0 .0) .constants) (read-constant (start-of-known-told4 c .args .s .now))
-    (start-of-known-told4 c .args .at + 17)) (runs-at-of-known-told4 c .runs-at .given .0 .0)
-    (sym (runs-at-of-known-told4 c .runs-at .given .1) ∙ rw (wide16-of-known-told4 c .wide16 .ensures .0) at
-    (skip-constants-of-known-told4 c .skip-constants .ensures))) .is)
-    ((place-at (many ((h-of-known-told4 c .h .given .0 .0) .runs) (read-run (start-of-known-told4 c .args .s .now))
-    (runs-at-of-known-told4 c .runs-at .given .0 .0)) (mark-at-of-known-told4 c .mark-at .given .0 .0)
-    (sym (mark-at-of-known-told4 c .mark-at .given .1) ∙ rw (wide32-of-known-told4 c .wide32 .ensures .0) at
-    (skip-runs-of-known-told4 c .skip-runs .ensures))) .value) (mark-at-of-known-told4 c .mark-at .given .0 .0)
-    ((place-at (many ((h-of-known-told4 c .h .given .0 .0) .runs) (read-run (start-of-known-told4 c .args .s .now))
-    (runs-at-of-known-told4 c .runs-at .given .0 .0)) (mark-at-of-known-told4 c .mark-at .given .0 .0)
-    (sym (mark-at-of-known-told4 c .mark-at .given .1) ∙ rw (wide32-of-known-told4 c .wide32 .ensures .0) at
-    (skip-runs-of-known-told4 c .skip-runs .ensures))) .is) (c .before .first .given .0 .0)
+    (constants-read (runs-at-of-known-told4 c) .value) (runs-at-of-known-told4 c .runs-at .given .0 .0)
+    (constants-read (runs-at-of-known-told4 c) .is)
+    (runs-read (mark-at-of-known-told4 c) .value) (mark-at-of-known-told4 c .mark-at .given .0 .0)
+    (runs-read (mark-at-of-known-told4 c) .is) (c .before .first .given .0 .0)
     (coded (start-of-known-told4 c .args .s .now) ((h-of-known-told4 c .h .given .0 .0) .code) (mark-at-of-known-told4 c .mark-at .given .0 .0)
-    (c .before .first .given .0 .0) (sym (c .before .first .given .1) ∙ rw (wide322-of-known-told4 c .wide322 .ensures .0) at
-    (c .before .before .before .code-at .ensures)))) ∙ rw (wide322-of-known-told4 c .wide322 .ensures .0) refl)
+    (c .before .first .given .0 .0) (sym (c .before .first .given .1) ∙ code-placed (c .before .before .before)))) ∙ ap (λ (n : ℕ). At (c .before .first .given .0 .0 + n)) (sym (wide322-of-known-told4 c .wide322 .ensures .0)))
 
 pub skip-function-spec : {M : Type 1} → statement M
 skip-function-spec =
