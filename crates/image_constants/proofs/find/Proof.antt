@@ -26,8 +26,18 @@ shared-slice-read-if1 c = omega (arith, c .before .before .before .pre, c .befor
 returns : tie.Need-returns Inv-loop μ-loop
 returns c = record { within = omega (arith, c .before .before .loop-test .taken); before = c .before .before .before .loop .inv .1; there = λ h. c .if1 .taken }
 
+-- ## Places
+
+abbrev start-of-at-loop : tie.At-loop Inv-loop μ-loop → tie.Start Inv-loop μ-loop
+start-of-at-loop c = c .before
+
+abbrev start-of-else1 : tie.Else1 Inv-loop μ-loop → tie.Start Inv-loop μ-loop
+start-of-else1 c = start-of-at-loop (c .before .before .before)
+
+-- ## Needs
+
 add-i : tie.Need-add-i Inv-loop μ-loop
-add-i c = omega (arith, c .before .before .before .before .pre, c .before .before .loop-test .taken, c .before .before .before .before .good)
+add-i c = omega (arith, start-of-else1 c .pre, c .before .before .loop-test .taken, start-of-else1 c .good)
 
 loop-less : tie.Need-loop-less Inv-loop μ-loop
 loop-less c = omega (arith, c .before .before .loop-test .taken)

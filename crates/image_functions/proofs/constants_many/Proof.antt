@@ -8,8 +8,18 @@ use borrow.Author.Needs.{needs}
 use Rattle.image_functions.proofs.constants_many.Statement.{statement}
 use Rattle.image_functions.proofs.constants_many.Tie as tie
 
+-- ## Places
+
+abbrev start-of-shared-slice-known2 : tie.After-shared-slice-known2 → tie.Start
+start-of-shared-slice-known2 c = c .before .before
+
+abbrev start-of-constants-lent-arg : tie.After-constants-lent-arg → tie.Start
+start-of-constants-lent-arg c = start-of-shared-slice-known2 (c .before .before .before)
+
+-- ## Needs
+
 constants-lent-requires : tie.Need-constants-lent-requires
-constants-lent-requires c κs = (c .before .before .before .before .before .pre .0, ((blank-size 65536, blank-size 65536), c .before .before .before .before .before .pre .1))
+constants-lent-requires c κs = (start-of-constants-lent-arg c .pre .0, ((blank-size 65536, blank-size 65536), start-of-constants-lent-arg c .pre .1))
 
 returns : tie.Need-returns
 returns c = c .constants-lent .ensures

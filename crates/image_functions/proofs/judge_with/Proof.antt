@@ -8,8 +8,18 @@ use borrow.Author.Needs.{needs}
 use Rattle.image_functions.proofs.judge_with.Statement.{statement}
 use Rattle.image_functions.proofs.judge_with.Tie as tie
 
+-- ## Places
+
+abbrev start-of-judge-all-arg : tie.After-judge-all-arg → tie.Start
+start-of-judge-all-arg c = c .before .before .before
+
+abbrev start-of-ring : tie.After-ring → tie.Start
+start-of-ring c = start-of-judge-all-arg (c .before .before .before)
+
+-- ## Needs
+
 judge-all-requires : tie.Need-judge-all-requires
-judge-all-requires c κs = (c .before .before .before .before .before .before .pre, (blank-size 256, (blank-size 4096, blank-size 131072)))
+judge-all-requires c κs = (start-of-ring c .pre, (blank-size 256, (blank-size 4096, blank-size 131072)))
 
 same-length : tie.Need-same-length
 same-length c = c .before .before .judge-all .kept .1 .1 .0

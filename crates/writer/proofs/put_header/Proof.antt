@@ -21,8 +21,29 @@ put-le-requires c κs = search needs
 same-length : tie.Need-same-length
 same-length c = search needs
 
+-- ## Places
+
+abbrev put-mark-of-slice-known2 : tie.After-slice-known2 → tie.After-put-mark
+put-mark-of-slice-known2 c = c .before .before
+
+abbrev put-mark-of-slice-known3 : tie.After-slice-known3 → tie.After-put-mark
+put-mark-of-slice-known3 c = put-mark-of-slice-known2 (c .before .before .before)
+
+abbrev start-of-slice-known : tie.After-slice-known → tie.Start
+start-of-slice-known c = c .before
+
+abbrev start-of-put-mark : tie.After-put-mark → tie.Start
+start-of-put-mark c = start-of-slice-known (c .before .before .before)
+
+abbrev start-of-slice-known3 : tie.After-slice-known3 → tie.Start
+start-of-slice-known3 c = start-of-put-mark (put-mark-of-slice-known3 c)
+
+-- ## Needs
+
 returns : tie.Need-returns
-returns c = headed (c .before .before .before .before .before .before .before .before .before .args .count) (c .before .before .before .before .before .before .before .before .before .args .out .now) (c .before .before .before .before .before .before .before .before .before .pre) (c .before .before .before .before .before .put-mark .ensures) (c .before .before .put-le .ensures) (search needs)
+returns c =
+    headed (start-of-slice-known3 c .args .count) (start-of-slice-known3 c .args .out .now) (start-of-slice-known3 c .pre)
+    (put-mark-of-slice-known3 c .put-mark .ensures) (c .before .before .put-le .ensures) (search needs)
 
 pub put-header-spec : {M : Type 1} → statement M
 put-header-spec =
