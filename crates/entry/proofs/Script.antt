@@ -77,7 +77,8 @@ module _ {t code spans out : List ℕ} {limit : ℕ} (clean : Clean t code spans
     unfolding compile-functions from-outcome
     refused-script h = ap from-outcome (seq-err (compile-script limit stmts) new _ (from-new (compile-script limit stmts) (h .refuses none-yet first-agrees)))
 
-    gave-script : {e : Turn} (made : List ObjectFunction) {t₁ code₁ spans₁ : List ℕ} → e .rest none-yet ≡ more made none-yet → Gave 0 limit 0 e (compile-script limit stmts) tt (mem t code spans) (mem t₁ code₁ spans₁)
+    gave-script : {e : Turn} (made : List ObjectFunction) {t₁ code₁ spans₁ : List ℕ} → e .rest none-yet ≡ more made none-yet → Gave 0 limit 0 e
+        (compile-script limit stmts) tt (mem t code spans) (mem t₁ code₁ spans₁)
         → from-outcome (compile-functions limit stmts) ≡ functions-are (made ++ (function-at t₁ code₁ spans₁ 0 ∷ []))
     unfolding compile-functions from-outcome the function-at view
     gave-script {e} made {t₁} {code₁} {spans₁} q g =

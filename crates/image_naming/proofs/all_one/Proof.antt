@@ -24,20 +24,41 @@ loop-holds c = (omega arith, all-begin (λ (j : ℕ). eqb (getD (c .args .seen .
 shared-slice-read-if1 : tie.Need-shared-slice-read-if1 Inv-loop μ-loop
 shared-slice-read-if1 c = omega (arith, c .before .before .before .pre, c .before .loop-test .taken)
 
+-- ## Places
+
+abbrev start-of-at-loop : tie.At-loop Inv-loop μ-loop → tie.Start Inv-loop μ-loop
+start-of-at-loop c = c .before
+
+abbrev start-of-then1 : tie.Then1 Inv-loop μ-loop → tie.Start Inv-loop μ-loop
+start-of-then1 c = start-of-at-loop (c .before .before .before)
+
+abbrev start-of-else1 : tie.Else1 Inv-loop μ-loop → tie.Start Inv-loop μ-loop
+start-of-else1 c = start-of-at-loop (c .before .before .before)
+
+-- ## Needs
+
 returns : tie.Need-returns Inv-loop μ-loop
-returns c = sym (below-false (c .before .before .before .before .args .most) (c .before .before .before .loop .i) (λ (j : ℕ). eqb (getD (c .before .before .before .before .args .seen .now) j 0) 1) (c .before .before .loop-test .taken) (ne-eqb _ _ (c .if1 .taken)))
+returns c =
+    sym (below-false (start-of-then1 c .args .most) (c .before .before .before .loop .i) (λ (j : ℕ). eqb (getD (start-of-then1 c .args .seen .now) j 0) 1)
+    (c .before .before .loop-test .taken) (ne-eqb _ _ (c .if1 .taken)))
 
 add-i : tie.Need-add-i Inv-loop μ-loop
-add-i c = omega (arith, c .before .before .before .before .pre, c .before .before .loop-test .taken)
+add-i c = omega (arith, start-of-else1 c .pre, c .before .before .loop-test .taken)
 
 loop-less : tie.Need-loop-less Inv-loop μ-loop
-loop-less c = omega (arith, c .before .before .before .before .pre, c .before .before .loop-test .taken)
+loop-less c = omega (arith, start-of-else1 c .pre, c .before .before .loop-test .taken)
 
 loop-again : tie.Need-loop-again Inv-loop μ-loop
-loop-again c = (omega (arith, c .before .before .loop-test .taken), below-more-true (c .before .before .before .loop .i) (λ (j : ℕ). eqb (getD (c .before .before .before .before .args .seen .now) j 0) 1) (c .before .before .before .loop .inv .1) (eq-eqb _ _ (c .if1 .left)))
+loop-again c = (
+  omega (arith, c .before .before .loop-test .taken),
+  below-more-true (c .before .before .before .loop .i)
+      (λ (j : ℕ). eqb (getD (start-of-else1 c .args .seen .now) j 0) 1) (c .before .before .before .loop .inv .1) (eq-eqb _ _ (c .if1 .left)),
+)
 
 returns-2 : tie.Need-returns-2 Inv-loop μ-loop
-returns-2 c = let e : c .before .loop .i ≡ c .before .before .args .most = omega (arith, c .before .loop .inv .0, c .loop-test .left) in sym (ap (λ (m : ℕ). all-below m (λ (j : ℕ). eqb (getD (c .before .before .args .seen .now) j 0) 1)) (sym e) ∙ c .before .loop .inv .1)
+returns-2 c =
+    let e : c .before .loop .i ≡ c .before .before .args .most = omega (arith, c .before .loop .inv .0, c .loop-test .left) in sym
+    (ap (λ (m : ℕ). all-below m (λ (j : ℕ). eqb (getD (c .before .before .args .seen .now) j 0) 1)) (sym e) ∙ c .before .loop .inv .1)
 
 pub all-one-spec : {M : Type 1} → statement M
 all-one-spec =
