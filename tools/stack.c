@@ -61,7 +61,8 @@ static void statement(int kind, int around, int funs, int last, int left) {
     if (kind == 5 && funs > 0) {
         /* a function, and six statements around the next one */
         int next = left % 7 == 0 ? 5 : around;
-        record("SF"), put("\4\0\0\0\1\0", 6), statement(next, around, funs - 1, last, inner);
+        /* not under the name of the function around it, which is the slot 0 of its scope */
+        record("SF"), put(funs % 2 ? "\4\0\0\0\1\0" : "\5\0\0\0\1\0", 6), statement(next, around, funs - 1, last, inner);
         return;
     }
     int same = kind == 5 ? around : kind;
@@ -120,7 +121,7 @@ int main(void) {
         for (int funs = 0; funs <= NESTED; funs += NESTED) {
             for (int last = -1; last < EXPRESSIONS; last++) {
                 length = 0;
-                put("TR\1\0\1\0NM\1\0a", 11);
+                put("TR\2\0\1\0NM\1\0aNM\1\0b", 16);
                 statement(kind, kind, funs, last, DEPTH);
                 size_t r = reading(), c = compiling();
                 if (reads < r) reads = r;
@@ -134,7 +135,7 @@ int main(void) {
     }
     for (int kind = 0; kind < EXPRESSIONS; kind++) {
         length = 0;
-        put("TR\1\0\1\0NM\1\0a", 11);
+        put("TR\2\0\1\0NM\1\0aNM\1\0b", 16);
         record("SE");
         expression(kind, DEPTH - 1);
         size_t r = reading(), c = compiling();

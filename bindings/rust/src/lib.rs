@@ -2,7 +2,7 @@
 //! What they answer is proved; this crate lends them memory and gives the answers types. Nothing here panics, whatever the bytes.
 //!
 //! The stack: `check`, `code_answer`, `code_of` and what an `Image` is asked for take up to 1.2 MB of it, so a thread that calls them needs 2 MB,
-//! Rust's default; the others take up to 192 KB.
+//! Rust's default; the others take up to 256 KB.
 //!
 //! The archive is x86-64's: elsewhere this crate is empty.
 #![cfg(target_arch = "x86_64")]

@@ -30,6 +30,9 @@ use step_scopes::end_scope;
 use steps::Class;
 use steps::Step;
 
+// A class that inherits: the innermost one where its superclass is looked up.
+const HEIR: u8 = Class::WITH_SUPER;
+
 // What a method of this name is: `init` is an initializer.
 pub fn method_kind(name: u16) -> u8
     ensures { λ r. ⌜ (type-of r ≡ method-type name) × (0 < r) ⌝ }
@@ -79,31 +82,11 @@ fn inherit(
         return d;
     };
     define_local(t, level);
-    let a = get_variable(
-        t,
-        code,
-        spans,
-        level,
-        limit,
-        Class::WITH_SUPER,
-        parent,
-        place,
-        0,
-    );
+    let a = get_variable(t, code, spans, level, limit, HEIR, parent, place, 0);
     let Step::Next(_) = a else {
         return a;
     };
-    let b = get_variable(
-        t,
-        code,
-        spans,
-        level,
-        limit,
-        Class::WITH_SUPER,
-        name,
-        span,
-        0,
-    );
+    let b = get_variable(t, code, spans, level, limit, HEIR, name, span, 0);
     let Step::Next(_) = b else {
         return b;
     };
