@@ -41,6 +41,35 @@ typedef struct {
     uint64_t length;
 } pb_answer;
 
+/* The numbers of answers. docs/FORMATS.md says when each is given; those of 10 to 23 are what the compiler of loxcraft refuses. */
+enum pb_number {
+    PB_ACCEPTED = 0,
+    PB_WORK_SHORT = 1,                /* the table has fewer than PB_TABLE_WORDS words */
+    PB_TREE_TOO_LONG = 2,             /* over 1,048,576 bytes */
+    PB_TREE_FORM = 3,                 /* no tree file: at */
+    PB_TREE_TOO_DEEP = 4,             /* a record at depth 129: at */
+    PB_TOO_MANY_OPEN = 5,             /* a function inside 16 others: at */
+    PB_ALREADY_DEFINED = 10,          /* at, end, name */
+    PB_ACCESS_INSIDE_INITIALIZER = 11, /* at, end, name */
+    PB_CLASS_INHERIT_FROM_SELF = 12,  /* at, end, name */
+    PB_JUMP_TOO_LARGE = 13,           /* 13 to 23: at, end */
+    PB_TOO_MANY_ARGS = 14,
+    PB_TOO_MANY_CONSTANTS = 15,
+    PB_TOO_MANY_LOCALS = 16,
+    PB_TOO_MANY_PARAMS = 17,
+    PB_TOO_MANY_UPVALUES = 18,
+    PB_RETURN_IN_INITIALIZER = 19,
+    PB_RETURN_OUTSIDE_FUNCTION = 20,
+    PB_SUPER_OUTSIDE_CLASS = 21,
+    PB_SUPER_WITHOUT_SUPERCLASS = 22,
+    PB_THIS_OUTSIDE_CLASS = 23,
+    PB_CODE_FULL = 30,                /* code or spans too short, or more than 262,144 bytes of code are open */
+    PB_OUT_FULL = 31,                 /* the output is too short for the image: length */
+    PB_IMAGE_REFUSED = 40,            /* no sound image */
+    PB_NO_SUCH_FUNCTION = 41,         /* a sound image, and no function of that number */
+    PB_NO_SUCH_BYTE = 42              /* no code byte at that offset */
+};
+
 /* Compiles a tree file to an image.
  *
  *   tree, tree_len      the file, in bytes; it is not changed
