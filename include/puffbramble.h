@@ -7,8 +7,8 @@
  * the number is 0 the pointer may be null. Nothing is kept after the call, and nothing is written outside what was lent to be written.
  *
  * The stack. puffbramble_read takes up to 64 KB, by the depth of the file's records (41 KB was seen at depth 128), puffbramble_compile up to
- * 192 KB (115 KB was seen at depth 128). puffbramble_check and puffbramble_code_answer take up to 1.2 MB, whatever the image (1,044 KB was seen):
- * their tables are local.
+ * 256 KB (183 KB was seen at depth 128; `tools/stack` measures it). puffbramble_check, puffbramble_code_answer and puffbramble_code_of take up to 1.2 MB, whatever the image
+ * (1,044 KB was seen): their tables are local.
  * Every function may be called from several threads at once.
  *
  * From Rust, declare the same in an `extern "C"` block: pb_answer is a `#[repr(C)] struct` of five u64, size_t is usize.
@@ -26,10 +26,12 @@ extern "C" {
 /* An answer: 40 bytes, aligned to 8, returned by value. A field that a number does not name is 0.
  *
  *   number  what the answer is: 0 accepted, else a refusal (01's table; docs/PROMISES.md says when each is given)
- *   at      3, 4, 5: the place in the tree file, in bytes; 10 to 23, and 0 from puffbramble_span_of: the span's start
- *   end     10 to 23, and 0 from puffbramble_span_of: the span's end
+ *   at      3, 4, 5: the place in the tree file, in bytes; 10 to 23, and 0 from puffbramble_span_of: the span's start; 0 from
+ *           puffbramble_code_of: the code's place in the image
+ *   end     10 to 23, and 0 from puffbramble_span_of: the span's end; 0 from puffbramble_code_of: the place behind the code
  *   name    10, 11, 12: the number of the name
- *   length  0 from the compiler: the length of the image; 31: the length that is needed; 0 from puffbramble_check: the number of instructions
+ *   length  0 from the compiler: the length of the image; 31: the length that is needed; 0 from puffbramble_check: the number of instructions;
+ *           0 from puffbramble_code_of: the length of the code
  */
 typedef struct {
     uint64_t number;
@@ -38,6 +40,35 @@ typedef struct {
     uint64_t name;
     uint64_t length;
 } pb_answer;
+
+/* The numbers of answers. docs/FORMATS.md says when each is given; those of 10 to 23 are what the compiler of loxcraft refuses. */
+enum pb_number {
+    PB_ACCEPTED = 0,
+    PB_WORK_SHORT = 1,                /* the table has fewer than PB_TABLE_WORDS words */
+    PB_TREE_TOO_LONG = 2,             /* over 1,048,576 bytes */
+    PB_TREE_FORM = 3,                 /* no tree file: at */
+    PB_TREE_TOO_DEEP = 4,             /* a record at depth 129: at */
+    PB_TOO_MANY_OPEN = 5,             /* a function inside 16 others: at */
+    PB_ALREADY_DEFINED = 10,          /* at, end, name */
+    PB_ACCESS_INSIDE_INITIALIZER = 11, /* at, end, name */
+    PB_CLASS_INHERIT_FROM_SELF = 12,  /* at, end, name */
+    PB_JUMP_TOO_LARGE = 13,           /* 13 to 23: at, end */
+    PB_TOO_MANY_ARGS = 14,
+    PB_TOO_MANY_CONSTANTS = 15,
+    PB_TOO_MANY_LOCALS = 16,
+    PB_TOO_MANY_PARAMS = 17,
+    PB_TOO_MANY_UPVALUES = 18,
+    PB_RETURN_IN_INITIALIZER = 19,
+    PB_RETURN_OUTSIDE_FUNCTION = 20,
+    PB_SUPER_OUTSIDE_CLASS = 21,
+    PB_SUPER_WITHOUT_SUPERCLASS = 22,
+    PB_THIS_OUTSIDE_CLASS = 23,
+    PB_CODE_FULL = 30,                /* code or spans too short, or more than 262,144 bytes of code are open */
+    PB_OUT_FULL = 31,                 /* the output is too short for the image: length */
+    PB_IMAGE_REFUSED = 40,            /* no sound image */
+    PB_NO_SUCH_FUNCTION = 41,         /* a sound image, and no function of that number */
+    PB_NO_SUCH_BYTE = 42              /* no code byte at that offset */
+};
 
 /* Compiles a tree file to an image.
  *
@@ -92,6 +123,16 @@ pb_answer puffbramble_check(const uint8_t *image, size_t image_len);
  *
  * Answers 0, 40 where the bytes are no image, or 41 where it has no function k; all else 0. */
 pb_answer puffbramble_code_answer(const uint8_t *image, size_t image_len, size_t k);
+
+/* The code of a function: where it stands in the image that was lent.
+ *
+ *   image, image_len   the image, in bytes
+ *   k                  the function's number, from 0
+ *
+ * Answers 0 with the place of its first byte in `at`, the place behind its last in `end` and how many there are in `length`: the code is
+ * image[at] to image[end - 1]. Or 40 where the bytes are no image, or 41 where it has no function k: there `at`, `end` and `length` are 0. Each call
+ * checks the whole image. */
+pb_answer puffbramble_code_of(const uint8_t *image, size_t image_len, size_t k);
 
 /* The span of one code byte.
  *

@@ -66,31 +66,29 @@ static void print_answer(bytes tree, pb_answer a) {
 
 /* ## On the station's side */
 
-/* One function of a checked image: its fields are where the file's form says, since the checker has said so. */
+/* One function of a checked image. */
 typedef struct {
-    uint32_t name, arity, upvalues, runs, code_length;
-    const uint8_t *run, *code, *end;
+    uint32_t name, arity, upvalues, runs;
+    const uint8_t *run, *code;
+    size_t code_length;
 } function;
 
-static function function_at(const uint8_t *at) {
-    function f = {number(at + 2, 2), at[4], number(at + 5, 2), number(at + 9, 4), number(at + 13, 4), NULL, NULL, NULL};
-    const uint8_t *constant = at + 17;
-    for (uint32_t k = number(at + 7, 2); k > 0; k--) constant += constant[1] == 'N' ? 10 : constant[1] == 'S' ? 4 : 6;
-    f.run = constant;
-    f.code = f.run + 11 * (size_t)f.runs + 2;
-    f.end = f.code + f.code_length;
-    return f;
-}
-
-/* Function k, where the lookup's number says that there is one. */
-static function function_of(const uint8_t *image, size_t length, size_t k) {
-    pb_answer a = puffbramble_code_answer(image, length, k);
+/* Where the code of function k stands, where there is one. */
+static pb_answer code_of(const uint8_t *image, size_t length, size_t k) {
+    pb_answer a = puffbramble_code_of(image, length, k);
     if (a.number != 0) {
         printf("code      %llu: %s\n", (unsigned long long)a.number, REFUSALS[a.number]);
         exit(1);
     }
-    function f = function_at(image + 6);
-    for (; k > 0; k--) f = function_at(f.end);
+    return a;
+}
+
+/* Function k. Its record ends with its code, so it begins where the code before it ends, and its runs stand before the code's mark. */
+static function function_of(const uint8_t *image, size_t length, size_t k) {
+    pb_answer code = code_of(image, length, k);
+    const uint8_t *at = image + (k == 0 ? 6 : code_of(image, length, k - 1).end);
+    function f = {number(at + 2, 2), at[4], number(at + 5, 2), number(at + 9, 4), NULL, image + code.at, code.length};
+    f.run = f.code - 2 - 11 * (size_t)f.runs;
     return f;
 }
 
@@ -119,7 +117,7 @@ static void print_image(bytes tree, const uint8_t *image, size_t length) {
     for (uint32_t k = 0; k < number(image + 2, 4); k++) {
         function f = function_of(image, length, k);
         printf("function  %u ", k), print_name(tree, f.name);
-        printf(", %u parameters, %u captured, code of %u bytes", f.arity, f.upvalues, f.code_length);
+        printf(", %u parameters, %u captured, code of %zu bytes", f.arity, f.upvalues, f.code_length);
         print_hex(f.code, f.code_length);
     }
 }

@@ -1,6 +1,9 @@
 //! An image that was checked once, and what is looked up in it.
 
-use crate::{check, span_of, Refusal, Run, Span};
+use crate::{check, code_of, place_of, span_of, Refusal, Run, Span};
+
+/// The bytes of a run's record.
+const RUN: usize = 11;
 
 /// An image. That there is one means that the checker accepted its bytes.
 #[derive(Clone, Debug, Eq, PartialEq)]
@@ -37,101 +40,46 @@ impl Image {
 
     /// How many functions there are; the last is the script.
     pub fn functions(&self) -> usize {
-        let mut rest = Rest(&self.bytes);
-        rest.take(2).and_then(|_| rest.number(4)).map_or(0, |count| count as usize)
+        self.number(2, 4) as usize
     }
 
-    /// Function `k`, or `NoSuchFunction`.
+    /// Function `k`, or `NoSuchFunction`. Each lookup checks the bytes anew.
     pub fn function(&self, k: usize) -> Result<Function<'_>, Refusal> {
-        if k >= self.functions() {
-            return Err(Refusal::NoSuchFunction);
-        }
-        let mut rest = Rest(self.bytes.get(6..).unwrap_or(&[]));
-        for _ in 0..k {
-            rest.skip_function().ok_or(Refusal::ImageRefused)?;
-        }
-        // the image was checked, so that the record is there
-        rest.function().ok_or(Refusal::ImageRefused)
+        let code = place_of(&self.bytes, k)?;
+        // a record ends with its code, so function `k` begins where the code before it ends
+        let begin = match k.checked_sub(1) {
+            Some(before) => place_of(&self.bytes, before)?.end,
+            None => 6,
+        };
+        // the runs stand before the code and its mark of two bytes
+        let count = self.number(begin + 9, 4) as usize;
+        let first = code.start.saturating_sub(2 + RUN * count);
+        Ok(Function {
+            name: self.number(begin + 2, 2) as u16,
+            arity: self.number(begin + 4, 1) as u8,
+            upvalues: self.number(begin + 5, 2) as u16,
+            runs: (0..count).map(|run| self.run(first + RUN * run)).collect(),
+            code: self.bytes.get(code).unwrap_or(&[]),
+        })
     }
 
     /// The code of function `k`: that stretch of the image's own bytes.
     pub fn code(&self, k: usize) -> Result<&[u8], Refusal> {
-        self.function(k).map(|function| function.code)
+        code_of(&self.bytes, k)
     }
 
     /// Where in the text a code byte of function `k` comes from: `NoSuchFunction`, `NoSuchByte`, or the span.
     pub fn span(&self, k: usize, offset: usize) -> Result<Span, Refusal> {
         span_of(&self.function(k)?.runs, offset)
     }
-}
 
-/// What is left of the bytes.
-struct Rest<'a>(&'a [u8]);
-
-/// The counts of a function's record.
-struct Head {
-    name: u16,
-    arity: u8,
-    upvalues: u16,
-    constants: u32,
-    runs: u32,
-    code: u32,
-}
-
-impl<'a> Rest<'a> {
-    fn take(&mut self, count: usize) -> Option<&'a [u8]> {
-        let taken = self.0.get(..count)?;
-        self.0 = self.0.get(count..)?;
-        Some(taken)
+    fn run(&self, at: usize) -> Run {
+        Run { start: self.number(at + 2, 4), end: self.number(at + 6, 4), count: self.number(at + 10, 1) }
     }
 
     /// A number of at most four bytes, the lowest first.
-    fn number(&mut self, width: usize) -> Option<u32> {
-        Some(self.take(width)?.iter().rev().fold(0, |number, &byte| number << 8 | u32::from(byte)))
-    }
-
-    fn head(&mut self) -> Option<Head> {
-        self.take(2)?;
-        Some(Head {
-            name: self.number(2)? as u16,
-            arity: self.number(1)? as u8,
-            upvalues: self.number(2)? as u16,
-            constants: self.number(2)?,
-            runs: self.number(4)?,
-            code: self.number(4)?,
-        })
-    }
-
-    fn skip_constants(&mut self, count: u32) -> Option<()> {
-        for _ in 0..count {
-            let width = match self.take(2)? {
-                b"CN" => 8,
-                b"CS" => 2,
-                _ => 4,
-            };
-            self.take(width)?;
-        }
-        Some(())
-    }
-
-    fn run(&mut self) -> Option<Run> {
-        self.take(2)?;
-        Some(Run { start: self.number(4)?, end: self.number(4)?, count: self.number(1)? })
-    }
-
-    fn function(&mut self) -> Option<Function<'a>> {
-        let head = self.head()?;
-        self.skip_constants(head.constants)?;
-        let runs = (0..head.runs).map(|_| self.run()).collect::<Option<Vec<Run>>>()?;
-        self.take(2)?;
-        let code = self.take(head.code as usize)?;
-        Some(Function { name: head.name, arity: head.arity, upvalues: head.upvalues, runs, code })
-    }
-
-    fn skip_function(&mut self) -> Option<()> {
-        let head = self.head()?;
-        self.skip_constants(head.constants)?;
-        self.take((head.runs as usize).checked_mul(11)?.checked_add(2)?.checked_add(head.code as usize)?)?;
-        Some(())
+    fn number(&self, at: usize, width: usize) -> u32 {
+        let bytes = self.bytes.get(at..).unwrap_or(&[]);
+        bytes.iter().take(width).rev().fold(0, |number, &byte| number << 8 | u32::from(byte))
     }
 }

@@ -1,8 +1,8 @@
 //! Puffbramble for Rust programs: tree files to images, images checked, and the lookups, over the functions of include/puffbramble.h.
 //! What they answer is proved; this crate lends them memory and gives the answers types. Nothing here panics, whatever the bytes.
 //!
-//! The stack: `check`, `code_answer` and `Image::new` take up to 1.2 MB of it, so a thread that calls them needs 2 MB, Rust's default; the others
-//! take up to 192 KB.
+//! The stack: `check`, `code_answer`, `code_of` and what an `Image` is asked for take up to 1.2 MB of it, so a thread that calls them needs 2 MB,
+//! Rust's default; the others take up to 256 KB.
 //!
 //! The archive is x86-64's: elsewhere this crate is empty.
 #![cfg(target_arch = "x86_64")]
@@ -10,6 +10,8 @@
 mod image;
 mod raw;
 mod refusal;
+
+use std::ops::Range;
 
 pub use image::{Function, Image};
 pub use refusal::{Refusal, Span};
@@ -105,10 +107,21 @@ pub fn check(image: &[u8]) -> Result<u64, Refusal> {
     Refusal::of(answer).map(|()| answer.length)
 }
 
-/// Whether these bytes are an image with a function `k`: `ImageRefused` comes before `NoSuchFunction`. It checks the whole image; `Image` does
-/// so once for many lookups.
+/// Whether these bytes are an image with a function `k`: `ImageRefused` comes before `NoSuchFunction`. It checks the whole image.
 pub fn code_answer(image: &[u8], k: usize) -> Result<(), Refusal> {
     Refusal::of(raw::code_answer(image, k))
+}
+
+/// The code of function `k`: that stretch of these bytes. `ImageRefused` comes before `NoSuchFunction`. It checks the whole image.
+pub fn code_of(image: &[u8], k: usize) -> Result<&[u8], Refusal> {
+    // the place lies in the image: the contract says so
+    Ok(image.get(place_of(image, k)?).unwrap_or(&[]))
+}
+
+/// Where the code of function `k` stands.
+pub(crate) fn place_of(image: &[u8], k: usize) -> Result<Range<usize>, Refusal> {
+    let answer = raw::code_of(image, k);
+    Refusal::of(answer).map(|()| answer.at as usize..answer.end as usize)
 }
 
 /// So many code bytes in a row come from one span.

@@ -28,6 +28,7 @@ extern "C" {
     fn puffbramble_read(tree: *const u8, tree_len: usize) -> Answer;
     fn puffbramble_check(image: *const u8, image_len: usize) -> Answer;
     fn puffbramble_code_answer(image: *const u8, image_len: usize, k: usize) -> Answer;
+    fn puffbramble_code_of(image: *const u8, image_len: usize, k: usize) -> Answer;
     fn puffbramble_span_of(words: *const u32, words_len: usize, offset: usize) -> Answer;
 }
 
@@ -60,6 +61,10 @@ pub fn check(image: &[u8]) -> Answer {
 
 pub fn code_answer(image: &[u8], k: usize) -> Answer {
     unsafe { puffbramble_code_answer(image.as_ptr(), image.len(), k) }
+}
+
+pub fn code_of(image: &[u8], k: usize) -> Answer {
+    unsafe { puffbramble_code_of(image.as_ptr(), image.len(), k) }
 }
 
 pub fn span_of(runs: &[Run], offset: usize) -> Answer {

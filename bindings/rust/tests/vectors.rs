@@ -105,6 +105,7 @@ mod on_x86 {
             assert_eq!(Image::new(image.clone()).map(|image| image.instructions()).ok(), *count);
             let Ok(image) = Image::new(image.clone()) else {
                 assert_eq!(code_answer(image, 0), Err(Refusal::ImageRefused));
+                assert_eq!(code_of(image, 0), Err(Refusal::ImageRefused));
                 continue;
             };
             let functions = image.functions();

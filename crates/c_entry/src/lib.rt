@@ -4,8 +4,11 @@ ghost use mathlib.Core.Path.{_≡_};
 ghost use lib.ListN.{length};
 ghost use Rattle.rules.specs.Entry as rules;
 ghost use Rattle.rules.specs.Checker.{check, code-answer, span-of};
+ghost use Rattle.image.specs.Counted.{code-part};
 ghost use Rattle.spans.specs.Words.{runs-of};
 ghost use Rattle.c_entry.specs.Read.{read-answer};
+use answers::accepted;
+use answers::refused;
 use rules::Answer;
 use tree::Checked;
 
@@ -29,8 +32,8 @@ pub extern "C" fn puffbramble_read(tree: &[u8]) -> Answer
     ensures { λ r. ⌜ r ≡ read-answer (now (tree .entry)) ⌝ }
 {
     match tree::read(tree) {
-        Checked::Sound(_) => Answer::accepted(0),
-        Checked::Bad(r) => Answer::refused(r),
+        Checked::Sound(_) => accepted(0),
+        Checked::Bad(r) => refused(r),
     }
 }
 
@@ -48,6 +51,14 @@ pub extern "C" fn puffbramble_code_answer(image: &[u8], k: usize) -> Answer
     ensures { λ r. ⌜ r ≡ code-answer (now (image .entry)) k ⌝ }
 {
     image::code_answer(image, k)
+}
+
+// Where the code of function `k` stands in the image: 0 with its place in `at`, its end in `end` and its length in `length`; 40 or 41.
+#[no_mangle]
+pub extern "C" fn puffbramble_code_of(image: &[u8], k: usize) -> Answer
+    ensures { λ r. ⌜ r ≡ code-part (now (image .entry)) k ⌝ }
+{
+    image::code_part(image, k)
 }
 
 // 0 with the span in `at` and `end`, or 42.

@@ -19,7 +19,8 @@ use Rattle.steps.specs.declared.Step.{Step}
 use Rattle.steps.specs.declared.Step.the-variants.{Next, Stop}
 use Rattle.writer.specs.Put.{padded}
 use Rattle.writer.proofs.Padding.{whole-padded}
-use Rattle.entry.specs.Whole.{lent-of, limit-of, Recorded, Headed, answer-of, output-of, Written}
+use Rattle.entry.specs.Whole.{lent-of, limit-of, Recorded, answer-of, output-of, Written}
+use Rattle.writer.specs.Put.{Headed}
 
 -- ## The image, where there is room for it and where there is none
 
@@ -91,7 +92,8 @@ module _ (tree table code spans out : List ℕ) where
 pub written-as : {made made′ : Compiled} {out : List ℕ} {r : Step} → made ≡ made′ → Written made out r → Written made′ out r
 written-as {out = out} {r = r} e w = subst (λ (m : Compiled). Written m out r) e w
 
-pub written-limit : (tree : List ℕ) {limit limit′ : ℕ} {out : List ℕ} {r : Step} → limit ≡ limit′ → Written (compile-tree first-limits tree limit) out r → Written (compile-tree first-limits tree limit′) out r
+pub written-limit : (tree : List ℕ) {limit limit′ : ℕ} {out : List ℕ} {r : Step} → limit ≡ limit′ → Written (compile-tree first-limits tree limit) out r →
+    Written (compile-tree first-limits tree limit′) out r
 written-limit tree e w = written-as (ap (compile-tree first-limits tree) e) w
 
 -- ## In the end
@@ -101,5 +103,6 @@ module _ (tree table code spans out : List ℕ) {out′ : List ℕ} {r : Step} (
       → record { answer = answer; output = o; table = t; code = c; spans = s } ≡ compile tree (lent-of table code spans out)
   unfolding compile-within leaves
   answered a b c d e =
-      let is : record { answer = _; output = _; table = _; code = _; spans = _ } ≡ leaves (lent-of table code spans out) (answer-of r) (output-of out′ r) = λ i. record { answer = a i; output = b i; table = c i; code = d i; spans = e i } in
+      let is : record { answer = _; output = _; table = _; code = _; spans = _ } ≡ leaves (lent-of table code spans out) (answer-of r) (output-of out′ r) = λ i.
+      record { answer = a i; output = b i; table = c i; code = d i; spans = e i } in
       is ∙ sym (w .is (lent-of table code spans out) (sym size))

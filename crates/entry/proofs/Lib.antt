@@ -2,5 +2,4 @@
 pub mod Zeros
 pub mod Rows
 pub mod Script
-pub mod Header
 pub mod Answers

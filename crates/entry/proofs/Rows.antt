@@ -10,8 +10,8 @@ use Rattle.rules.specs.TreeFile.{read-stmts, read-stmt}
 use Rattle.rules.specs.Entry.{Compiled, refused, compile-tree}
 use Rattle.steps.specs.declared.Step.{Step}
 use Rattle.steps.specs.declared.Step.the-variants.{Next, Stop}
-use Rattle.compiler.specs.Exprs.{There}
-use Rattle.parts.specs.Output.{funs-left}
+use Rattle.expr_parts.specs.Exprs.{There}
+use Rattle.stmt_output_laws.specs.Output.{funs-left}
 use Rattle.tree.specs.Checked.{checked-file}
 use Rattle.tree.specs.declared.Checked.{Checked}
 use Rattle.tree.specs.declared.Script.{Script}
@@ -32,7 +32,8 @@ pub there : {tree : List ℕ} {count at : ℕ} → Rows tree count at → There 
 there {tree} rows = record { thing = rows .stmts; next = length tree; is = rows .is }
 
 -- by the answer of `compile_script`
-module _ (tree : List ℕ) {script : Script} (q : checked-file tree ≡ Checked.Sound script) {limit : ℕ} {t out : List ℕ} {r : Step} (s : Scripted limit (rows-at tree (script .count) (script .at)) (length tree) t out r) where
+module _ (tree : List ℕ) {script : Script} (q : checked-file tree ≡ Checked.Sound script) {limit : ℕ} {t out : List ℕ} {r : Step}
+    (s : Scripted limit (rows-at tree (script .count) (script .at)) (length tree) t out r) where
   sound-as : ScriptedAs (compile-tree first-limits tree limit) t out r
   sound-as = subst (λ (made : Compiled). ScriptedAs made t out r) (sym (compiled-file tree limit q)) (s .did (sound-file tree q .1 .stmts) (rows-are tree q))
 

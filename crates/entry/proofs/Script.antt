@@ -19,10 +19,10 @@ use Rattle.steps.specs.declared.Step.{Step}
 use Rattle.steps.specs.declared.Step.the-variants.{Next, Stop}
 use Rattle.steps.proofs.Steps.{went, stuck, refused-seq, gave-seq, gave-refused-seq, seq-ok, seq-err}
 use Rattle.writer.specs.Put.{Closed}
-use Rattle.parts.specs.Output.{largest, Holds, more, grow, Grew, Worked, Walked, Ready}
-use Rattle.parts.proofs.Growing as growing
-use Rattle.closures.specs.Functions.{function-at, Filed}
-use Rattle.closures.proofs.Records.{can-put}
+use Rattle.stmt_output_laws.specs.Output.{largest, Holds, more, grow, Grew, Worked, Walked, Ready}
+use Rattle.stmt_output_laws.proofs.Growing as growing
+use Rattle.stmt_functions.specs.Functions.{function-at, Filed}
+use Rattle.stmt_functions.proofs.Records.{can-put}
 use Rattle.entry.specs.Whole.{limit-of, rows-at, Rows, Clean, script-end, Recorded, ScriptedAs, Scripted}
 use Rattle.entry.proofs.Zeros.{zeros-padded, cleared-own}
 
@@ -77,7 +77,8 @@ module _ {t code spans out : List ℕ} {limit : ℕ} (clean : Clean t code spans
     unfolding compile-functions from-outcome
     refused-script h = ap from-outcome (seq-err (compile-script limit stmts) new _ (from-new (compile-script limit stmts) (h .refuses none-yet first-agrees)))
 
-    gave-script : {e : Turn} (made : List ObjectFunction) {t₁ code₁ spans₁ : List ℕ} → e .rest none-yet ≡ more made none-yet → Gave 0 limit 0 e (compile-script limit stmts) tt (mem t code spans) (mem t₁ code₁ spans₁)
+    gave-script : {e : Turn} (made : List ObjectFunction) {t₁ code₁ spans₁ : List ℕ} → e .rest none-yet ≡ more made none-yet → Gave 0 limit 0 e
+        (compile-script limit stmts) tt (mem t code spans) (mem t₁ code₁ spans₁)
         → from-outcome (compile-functions limit stmts) ≡ functions-are (made ++ (function-at t₁ code₁ spans₁ 0 ∷ []))
     unfolding compile-functions from-outcome the function-at view
     gave-script {e} made {t₁} {code₁} {spans₁} q g =

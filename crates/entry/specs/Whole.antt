@@ -18,7 +18,7 @@ use Rattle.steps.specs.View.{Started}
 use Rattle.steps.specs.declared.Step.{Step}
 use Rattle.steps.specs.declared.Step.the-variants.{Next, Stop}
 use Rattle.writer.specs.Put.{padded}
-use Rattle.parts.specs.Output.{stmts-at, Holds}
+use Rattle.stmt_output_laws.specs.Output.{stmts-at, Holds}
 
 -- ## What is lent
 
@@ -72,12 +72,6 @@ ScriptedAs made t out (Stop x) = made ≡ refused x
 
 pub record Scripted (limit : ℕ) (rows : Read Stmts) (end : ℕ) (t out : List ℕ) (r : Step) : Type 0 where
   pub did : (stmts : Stmts) → rows ≡ got stmts end → ScriptedAs (from-outcome (compile-functions limit stmts)) t out r
-
--- ## The header is written over the output's first six bytes
-
-pub record Headed (count : ℕ) (out out′ : List ℕ) : Type 0 where
-  pub size : length out′ ≡ length out
-  pub holds : (bs : List ℕ) → out ≡ padded (length out) (replicate 6 0 ++ bs) → out′ ≡ padded (length out) (0x49 ∷ 0x4D ∷ le 4 count ++ bs)
 
 -- ## What is answered, and what the output holds in the end: after a refusal it is still to be cleared
 

@@ -9,33 +9,23 @@ ghost use Rattle.tree.specs.Checked.{checked-file};
 ghost use Rattle.tree.specs.declared.Checked as checks;
 ghost use Rattle.state.specs.Layout.{table-words};
 ghost use Rattle.steps.specs.View.{mem, Fit, steady, Did};
-ghost use Rattle.entry.specs.Whole.{lent-of, limit-of, rows-at, Rows, Clean, script-end, Scripted, Headed, Written};
-use closures::finish;
+ghost use Rattle.entry.specs.Whole.{lent-of, limit-of, rows-at, Rows, Clean, script-end, Scripted, Written};
+use answers::accepted;
+use answers::refused;
 use op::Op;
 use rules::Answer;
+use rules::Limit;
 use rules::Refusal;
 use rules::Span;
-use state::LEVELS;
+use state::Table;
 use statements::compile_stmts;
+use step_bytes::emit_op;
+use steps::Class;
 use steps::Step;
-use steps::emit_op;
+use stmt_functions::finish;
 use tree::Checked;
 use tree::Script;
-use writer::put_le;
-use writer::put_mark;
-
-// The image writer's words: how many functions are finished, and how long their records are. They are the last of the table.
-const COUNT: usize = LEVELS * 1024 + 2;
-
-const BYTES: usize = LEVELS * 1024 + 3;
-
-const WORDS: usize = LEVELS * 1024 + 4;
-
-// No limit of code is larger.
-const MAX_CODE: usize = 262144;
-
-// Records inside one another.
-const DEPTH: usize = 128;
+use writer::put_header;
 
 fn least(a: usize, b: usize) -> usize
     ensures { λ r. ⌜ r ≡ min a b ⌝ }
@@ -75,7 +65,7 @@ fn compile_script(
     requires { ⌜ (Rows (now tree) count at) × (Clean (now t) (now code) (now spans) (now out) limit) ⌝ }
     ensures { λ r. ⌜ Scripted limit (rows-at (now (tree .entry)) count at) (length (now (tree .entry))) (now (t .exit)) (now (out .exit)) r ⌝ }
 {
-    let a = compile_stmts(tree, at, count, DEPTH, t, code, spans, out, 0, limit, 0);
+    let a = compile_stmts(tree, at, count, t, code, spans, out, 0, limit, Class::NONE);
     let Step::Next(_) = a else {
         return a;
     };
@@ -84,20 +74,10 @@ fn compile_script(
         return b;
     };
     finish(t, &code[..], &spans[..], out, 0);
-    Step::Next(6 + t[BYTES] as usize)
+    Step::Next(6 + t[Table::IMAGE_BYTES] as usize)
 }
 
 // ## The image
-
-// The image's mark and how many functions it has, where the records stand behind six zeros.
-fn put_header(out: &mut [u8], count: u64)
-    requires { ⌜ 6 ≤ length (now out) ⌝ }
-    ensures { λ _. ⌜ Headed count (now (out .entry)) (now (out .exit)) ⌝ }
-{
-    let head = &mut out[..6];
-    let next = put_mark(head, 0, b'I', b'M');
-    put_le(head, next, count, 4);
-}
 
 // A sound file, with as much of the table as the compiler needs. 31 comes after all else.
 fn compile_sound(
@@ -111,9 +91,9 @@ fn compile_sound(
     requires { ⌜ (checked-file (now tree) ≡ checks.Checked.Sound script) × (length (now t) ≡ table-words) ⌝ }
     ensures { λ r. ⌜ Written (rules.compile-tree first-limits (now (tree .entry)) (limit-of (now (code .entry)) (now (spans .entry)))) (now (out .exit)) r ⌝ }
 {
-    let limit = least(least(code.len(), spans.len() / 3), MAX_CODE);
+    let limit = least(least(code.len(), spans.len() / 3), Limit::CODE_BYTES);
     areas::clear8(out);
-    steps::begin_script(t);
+    step_returns::begin_script(t);
     let r = compile_script(
         tree,
         script.at,
@@ -130,7 +110,7 @@ fn compile_sound(
     if out.len() < n {
         return Step::Stop(Refusal::OutFull(n));
     }
-    put_header(out, t[COUNT]);
+    put_header(out, t[Table::FUNCTIONS]);
     Step::Next(n)
 }
 
@@ -144,13 +124,13 @@ fn compile_lent(
 ) -> Step
     ensures { λ r. ⌜ Written (rules.compile-lent first-limits (now (tree .entry)) (lent-of (now (table .entry)) (now (code .entry)) (now (spans .entry)) (now (out .entry)))) (now (out .exit)) r ⌝ }
 {
-    if table.len() < WORDS {
+    if table.len() < Table::WORDS {
         return Step::Stop(Refusal::WorkShort);
     }
     match tree::read(tree) {
         Checked::Bad(x) => Step::Stop(x),
         Checked::Sound(script) => {
-            compile_sound(tree, script, out, &mut table[..WORDS], code, spans)
+            compile_sound(tree, script, out, &mut table[..Table::WORDS], code, spans)
         }
     }
 }
@@ -170,10 +150,10 @@ pub fn compile(
     areas::clear8(code);
     areas::clear32(spans);
     match made {
-        Step::Next(n) => Answer::accepted(n),
+        Step::Next(n) => accepted(n),
         Step::Stop(x) => {
             areas::clear8(out);
-            Answer::refused(x)
+            refused(x)
         }
     }
 }

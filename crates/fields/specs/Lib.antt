@@ -1,2 +1,3 @@
 -- What stands at a place of a file, as numbers.
 pub mod Words
+pub mod Marks

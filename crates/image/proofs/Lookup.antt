@@ -11,30 +11,41 @@ use borrow.Author.Tests.{lt-ltb, le-ltb, eqb-true, eqb-false, leb-true, leb-fals
 use Rattle.rules.specs.Base.{if_then_else_}
 use Rattle.rules.specs.declared.Answer.{Answer}
 use Rattle.rules.specs.declared.Refusal.the-variants.{ImageRefused, NoSuchFunction}
-use Rattle.rules.specs.Answer.{refusal, accepted}
+use Rattle.rules.specs.Answer.{refusal, accepted, at-place}
 use Rattle.rules.specs.Reader.{Read, got, bad, go-on, _>>_, many}
 use Rattle.rules.specs.Chunk.{ObjectFunction}
 use Rattle.rules.specs.ImageFile.{read-function}
 use Rattle.rules.specs.Checker.{sound, image-of, function-numbered, code-in, code-of, code-before, code-start, code-verdict, code-answer}
-use Rattle.code.specs.declared.Verdict.{Verdict}
-use Rattle.code.specs.declared.Verdict.the-variants as verdict
+use Rattle.image_code.specs.declared.Verdict.{Verdict}
+use Rattle.image_code.specs.declared.Verdict.the-variants as verdict
 use Rattle.fields.specs.Words.{word32, letters}
-use Rattle.records.specs.declared.Place.{Place}
-use Rattle.records.specs.declared.Place.the-variants as place
-use Rattle.records.specs.declared.Head.the-variants as head
-use Rattle.records.specs.declared.Header.{Header}
-use Rattle.records.specs.Told.{place-told, head-at, code-told}
-use Rattle.records.proofs.Many.{Fails, many-length, Nth, nth-of, place-bad, place-at}
-use Rattle.records.proofs.Records.{Headed, headed, head-fails, Body, body-of, Coded, coded, at-code, whole-function, made}
-use Rattle.image.specs.declared.Part.the-variants as part
-use Rattle.image.specs.Counted.{counted-in, place-in, code-place, Stands, Refused, Part-told}
+use Rattle.image_records.specs.declared.Place.{Place}
+use Rattle.image_records.specs.declared.Place.the-variants as place
+use Rattle.image_records.specs.declared.Head.the-variants as head
+use Rattle.image_records.specs.declared.Header.{Header}
+use Rattle.image_records.specs.Told.{place-told, head-at, code-told}
+use Rattle.image_records.proofs.Many.{got-bad, same-got, many-length, Nth, nth-of, place-bad, place-at}
+use Rattle.image_records.proofs.Records.{Headed, headed, head-fails, Body, body-of, Coded, coded, at-code, whole-function, made}
+use Rattle.image.specs.Counted.{counted-in, place-in, code-place, code-part, Lies}
+use Rattle.image.proofs.Sound.{elem-none}
 use Rattle.image.proofs.Whole.{after, image-is, no-room, no-mark, no-functions}
 
-got-bad : {A : Type 0} {r : Read A} {a : A} {n : ℕ} → Fails r → r ≡ got a n → ⊥
-got-bad f e = let z = sym (f .is) ∙ e in let y : _≡_ {A = ℕ} 0 1 = cc in omega arith
+-- what is told of a lookup is so
+pub record Told (image : List ℕ) (k : ℕ) (r : Answer) : Type 0 where
+  pub is : r ≡ code-part image k
+  pub lies : Lies image k
 
-same-got : {A : Type 0} {r : Read A} {a b : A} {m n : ℕ} → r ≡ got a m → r ≡ got b n → (a ≡ b) × (m ≡ n)
-same-got e f = let z = sym e ∙ f in (cc, cc)
+-- where a lookup is refused
+pub record Refused (image : List ℕ) (k : ℕ) : Type 0 where
+  pub content : [] ≡ code-of image k
+  pub place : 0 ≡ code-place image k
+
+-- where the code begins, and how long it is
+pub record Stands (image : List ℕ) (k start size : ℕ) : Type 0 where
+  pub within : start + size ≤ length image
+  pub content : take size (drop start image) ≡ code-of image k
+  pub place : start ≡ code-place image k
+  pub number : accepted 0 ≡ code-answer image k
 
 -- ## An image that is accepted
 
@@ -75,11 +86,6 @@ none-by : (o : Option (List ObjectFunction)) → verdict.No ≡ counted-in o →
 unfolding counted-in
 none-by none e = refl
 none-by (some fs) e = absurd (let y : _≡_ {A = ℕ} 0 1 = cc in omega arith)
-
-elem-none : {A : Type 0} (l : List A) (i : ℕ) → length l ≤ i → getElem? l i ≡ none
-elem-none [] i h = refl
-elem-none (x ∷ l) zero h = absurd (omega arith)
-elem-none (x ∷ l) (suc i) h = elem-none l i (omega arith)
 
 module _ (s : List ℕ) (k : ℕ) where
   refused-by : function-numbered k (image-of s) ≡ none → Refused s k
@@ -184,23 +190,61 @@ module _ (s : List ℕ) (k : ℕ) where
                 within = omega arith;
                 content = rw (q, p) (sym (ap code-in f ∙ c .ops));
                 place = sym (ap (λ (x : Option ObjectFunction). place-in x (code-start s k)) f ∙ start-is ∙ rw (l, ← q, ← r) refl);
+                number = answer-there h;
               }
 
-pub told-nothing : (s : List ℕ) (k : ℕ) → Refused s k → Part-told s k part.Nothing
-unfolding Part-told
-told-nothing s k r = r
+-- ## The answer
 
-pub told-is : (s : List ℕ) (k start size : ℕ) → Stands s k start size → Part-told s k (part.Is start size)
-unfolding Part-told
-told-is s k start size r = r
+answer-by : (b : Bool) → (a : Answer) → a ≡ (if b then accepted 0 else refusal NoSuchFunction) → at-place (a .number) 0 ≡ a
+unfolding refusal
+answer-by true a e = rw e refl
+answer-by false a e = rw e refl
 
-pub nothing-told : (s : List ℕ) (k : ℕ) → Part-told s k part.Nothing → Refused s k
-unfolding Part-told
-nothing-told s k r = r
+-- of the lookup's answer only the number is not 0
+pub only-number : (s : List ℕ) (k : ℕ) → at-place (code-answer s k .number) 0 ≡ code-answer s k
+unfolding code-answer code-verdict refusal
+only-number s k = by (image-of s)
+  where
+    by : (o : Option (List ObjectFunction)) → at-place (code-verdict k o .number) 0 ≡ code-verdict k o
+    by none = refl
+    by (some fs) = answer-by (ltb k (length fs)) _ refl
 
-pub is-told : (s : List ℕ) (k start size : ℕ) → Part-told s k (part.Is start size) → Stands s k start size
-unfolding Part-told
-is-told s k start size r = r
+module _ (s : List ℕ) (k : ℕ) where
+  pub told-refused : (a : Answer) → a ≡ code-answer s k → Refused s k → Told s k a
+  unfolding code-part
+  told-refused a e r =
+      record {
+        is = e ∙ sym (only-number s k) ∙ rw (← (r .place), ← (r .content)) refl;
+        lies = record { within = rw (← (r .place), ← (r .content)) (omega arith); content = rw (← (r .content)) refl };
+      }
 
-pub part-content : (s : List ℕ) (start size : ℕ) → take (start + size - start) (drop start s) ≡ take size (drop start s)
-part-content s start size = let m : start + size - start ≡ size = omega arith in rw m refl
+  pub told-stands : (start size end : ℕ) → Stands s k start size → end ≡ start + size
+      → Told s k (record { number = 0; at = start; end = end; name = 0; length = size })
+  unfolding code-part
+  told-stands start size end t e =
+      let w = t .within in
+      let l : length (code-of s k) ≡ size = ap length (sym (t .content)) ∙ simp (length-take, length-drop) (omega arith) in
+      record {
+        is = rw (← (t .number), l, ← (t .place), e) refl;
+        lies = record { within = rw (l, ← (t .place)) w; content = rw (l, ← (t .place)) (t .content) };
+      }
+
+-- what is told, as the ends of a part of the image
+module _ (s : List ℕ) (k : ℕ) (a : Answer) (e : a ≡ code-part s k) (l : Lies s k) where
+  pub place-of : a .at ≡ code-place s k
+  unfolding code-part
+  place-of = ap (λ (r : Answer). r .at) e
+
+  pub end-of : a .end ≡ a .at + length (code-of s k)
+  unfolding code-part
+  end-of = rw e refl
+
+  pub ends-within : a .end ≤ length s
+  ends-within = let p = place-of in let q = end-of in omega (arith, l .within)
+
+  pub part-is : (first end : ℕ) → first ≡ a .at → end ≡ a .end → take (end - first) (drop first s) ≡ code-of s k
+  part-is first end p q =
+      let n = end-of in
+      let m : end - first ≡ length (code-of s k) = omega arith in
+      let f : first ≡ code-place s k = p ∙ place-of in
+      rw (m, f) (l .content)

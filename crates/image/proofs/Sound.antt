@@ -15,11 +15,11 @@ use Rattle.rules.specs.Base.{if_then_else_, all, all-below}
 use Rattle.rules.specs.Chunk.{Constant, CN, CS, CF, Run, total, ObjectFunction}
 use Rattle.rules.specs.Division.{Kind, missing, number, text, function, function-kind, kind-of, kind-at, Instruction, divide, division, is-function, operands-fit, lands, run-fits, runs-fit, code-fits, function-fits, fits}
 use Rattle.rules.specs.Checker.{runs-apart, distinct, names-earlier, all-earlier, named-once, closures, closed-at, closed-in, closed-once, facts, sound, instructions, instruction-count}
-use Rattle.code.specs.Table.{closed-by, code-right}
-use Rattle.code.proofs.Below.{low, low-in, same-divide, same-fits, same-closed, high-closures}
-use Rattle.constants.specs.Earlier.{no-function, kinds-right}
-use Rattle.functions.specs.Judged.{constants-fine, code-fine, right, right-all, count-all}
-use Rattle.functions.proofs.All.{elem-before}
+use Rattle.image_code.specs.Table.{closed-by, code-right}
+use Rattle.image_code.proofs.Below.{low, low-in, same-divide, same-fits, same-closed, high-closures}
+use Rattle.image_constants.specs.Earlier.{no-function, kinds-right}
+use Rattle.image_functions.specs.Judged.{constants-fine, code-fine, right, right-all, count-all}
+use Rattle.image_functions.proofs.All.{elem-before}
 
 -- ## Tests
 
@@ -85,7 +85,7 @@ elem-some [] i v e = absurd (let z : _≡_ {A = ℕ} 0 1 = cc in omega arith)
 elem-some (x ∷ l) zero v e = omega arith
 elem-some (x ∷ l) (suc i) v e = let h = elem-some l i v e in omega arith
 
-elem-none : {A : Type 0} (l : List A) (i : ℕ) → length l ≤ i → getElem? l i ≡ none
+pub elem-none : {A : Type 0} (l : List A) (i : ℕ) → length l ≤ i → getElem? l i ≡ none
 elem-none [] i h = refl
 elem-none (x ∷ l) zero h = absurd (omega arith)
 elem-none (x ∷ l) (suc i) h = elem-none l i (omega arith)

@@ -17,17 +17,17 @@ use Rattle.rules.specs.Reader.{Read, got, bad, Reader, go-on, _>>=_, _>>_, retu
 use Rattle.rules.specs.Chunk.{ObjectFunction}
 use Rattle.rules.specs.ImageFile.{read-function, read-functions, read-image}
 use Rattle.rules.specs.Checker.{named-once, sound, checked, image-of, verdict, check, instruction-count}
-use Rattle.code.specs.declared.Verdict.{Verdict}
-use Rattle.code.specs.declared.Verdict.the-variants.{Yes, No}
+use Rattle.image_code.specs.declared.Verdict.{Verdict}
+use Rattle.image_code.specs.declared.Verdict.the-variants.{Yes, No}
 use Rattle.fields.specs.Words.{word32, letters}
 use Rattle.fields.proofs.Reading.{found, a-u8, a-u32, mark-is-it, mark-is-not, mark-is-cut}
-use Rattle.records.specs.declared.Head.{Head}
-use Rattle.records.specs.declared.Head.the-variants as head
-use Rattle.records.specs.Told.{head-at}
-use Rattle.records.proofs.Many.{Fails, many-first, many-none, nth-of}
-use Rattle.records.proofs.Records.{headed, head-fails, body-of}
-use Rattle.constants.specs.Earlier.{functions-in, is-got, earlier}
-use Rattle.functions.specs.Judged.{right-all, count-all, functions-done}
+use Rattle.image_records.specs.declared.Head.{Head}
+use Rattle.image_records.specs.declared.Head.the-variants as head
+use Rattle.image_records.specs.Told.{head-at}
+use Rattle.image_records.proofs.Many.{Fails, many-first, many-none, nth-of}
+use Rattle.image_records.proofs.Records.{headed, head-fails, body-of}
+use Rattle.image_constants.specs.Earlier.{functions-in, is-got, earlier}
+use Rattle.image_functions.specs.Judged.{right-all, count-all, functions-done}
 use Rattle.image.specs.Counted.{counted-in}
 use Rattle.image.proofs.Sound.{Bytes-of, sound-is, counts-agree, and-of, no-true}
 

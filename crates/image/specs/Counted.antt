@@ -5,11 +5,10 @@ use mathlib.Core.List.{List, [], _∷_}
 use Prim.Native.Nat.{ℕ, _+_, _≤_}
 use lib.ListN.{length, take, drop}
 use Rattle.rules.specs.Chunk.{ObjectFunction}
-use Rattle.rules.specs.Checker.{instruction-count, image-of, function-numbered, code-of, code-start}
-use Rattle.code.specs.declared.Verdict.{Verdict}
-use Rattle.code.specs.declared.Verdict.the-variants.{Yes, No}
-use Rattle.image.specs.declared.Part.{Part}
-use Rattle.image.specs.declared.Part.the-variants.{Is, Nothing}
+use Rattle.rules.specs.declared.Answer.{Answer}
+use Rattle.rules.specs.Checker.{instruction-count, image-of, function-numbered, code-of, code-start, code-answer}
+use Rattle.image_code.specs.declared.Verdict.{Verdict}
+use Rattle.image_code.specs.declared.Verdict.the-variants.{Yes, No}
 
 unfoldable pub counted-in : Option (List ObjectFunction) → Verdict
 counted-in none = No
@@ -23,15 +22,18 @@ place-in (some f) start = start
 unfoldable pub code-place : (image : List ℕ) → (k : ℕ) → ℕ
 code-place image k = place-in (function-numbered k (image-of image)) (code-start image k)
 
-pub record Stands (image : List ℕ) (k start size : ℕ) : Type 0 where
-  pub within : start + size ≤ length image
-  pub content : take size (drop start image) ≡ code-of image k
-  pub place : start ≡ code-place image k
+-- what is told of the lookup: its number, and the place, the end and the length of the code
+unfoldable pub code-part : (image : List ℕ) → (k : ℕ) → Answer
+code-part image k =
+    record {
+      number = code-answer image k .number;
+      at = code-place image k;
+      end = code-place image k + length (code-of image k);
+      name = 0;
+      length = length (code-of image k);
+    }
 
-pub record Refused (image : List ℕ) (k : ℕ) : Type 0 where
-  pub content : [] ≡ code-of image k
-  pub place : 0 ≡ code-place image k
-
-unfoldable pub Part-told : (image : List ℕ) → (k : ℕ) → Part → Type 0
-Part-told image k Nothing = Refused image k
-Part-told image k (Is start size) = Stands image k start size
+-- that stretch is there, and is the code
+pub record Lies (image : List ℕ) (k : ℕ) : Type 0 where
+  pub within : code-place image k + length (code-of image k) ≤ length image
+  pub content : take (length (code-of image k)) (drop (code-place image k) image) ≡ code-of image k

@@ -2,7 +2,6 @@
 
 ghost use mathlib.Core.Path.{_≡_};
 ghost use Rattle.rules.specs.Op as rules;
-ghost use Rattle.op.specs.Table.{opcodes};
 
 pub struct Op {
     pub byte: u8,
@@ -89,57 +88,9 @@ impl Op {
 
     pub const METHOD: u8 = 39;
 
-    // All forty by name, in the order of the rules' table: each constant has the number that the rules give its name.
-    pub fn all() -> [u8; 40]
-        ensures { λ r. ⌜ r ≡ opcodes ⌝ }
-    {
-        [
-            Op::CONSTANT,
-            Op::NIL,
-            Op::TRUE,
-            Op::FALSE,
-            Op::POP,
-            Op::GET_LOCAL,
-            Op::SET_LOCAL,
-            Op::GET_GLOBAL,
-            Op::DEFINE_GLOBAL,
-            Op::SET_GLOBAL,
-            Op::GET_UPVALUE,
-            Op::SET_UPVALUE,
-            Op::GET_PROPERTY,
-            Op::SET_PROPERTY,
-            Op::GET_SUPER,
-            Op::EQUAL,
-            Op::NOT_EQUAL,
-            Op::GREATER,
-            Op::GREATER_EQUAL,
-            Op::LESS,
-            Op::LESS_EQUAL,
-            Op::ADD,
-            Op::SUBTRACT,
-            Op::MULTIPLY,
-            Op::DIVIDE,
-            Op::NOT,
-            Op::NEGATE,
-            Op::PRINT,
-            Op::JUMP,
-            Op::JUMP_IF_FALSE,
-            Op::LOOP,
-            Op::CALL,
-            Op::INVOKE,
-            Op::SUPER_INVOKE,
-            Op::CLOSURE,
-            Op::CLOSE_UPVALUE,
-            Op::RETURN,
-            Op::CLASS,
-            Op::INHERIT,
-            Op::METHOD,
-        ]
-    }
-
     // How many bytes an instruction has, its opcode among them; 0 of a byte that is no opcode. `upvalues` is how many variables a
     // CLOSURE's function captures; no other instruction needs it.
-    pub fn width(op: u8, upvalues: u16) -> usize
+    pub fn width(op: u8, upvalues: u32) -> usize
         ensures { λ r. ⌜ r ≡ rules.width op upvalues ⌝ }
     {
         match op {

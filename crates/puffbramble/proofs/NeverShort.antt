@@ -12,8 +12,8 @@ use Rattle.rules.specs.declared.Answer.{Answer}
 use Rattle.rules.specs.declared.Refusal.the-variants.{TreeTooLong}
 use Rattle.rules.specs.Answer.{refusal}
 use Rattle.rules.specs.Entry.{Lent, compile}
-use Rattle.rules.proofs.Facts.{Bytes}
-use Rattle.rules.proofs.Bounds.{room-that-suffices}
+use Rattle.rules_laws.proofs.Facts.{Bytes}
+use Rattle.rules_laws.proofs.Bounds.{room-that-suffices}
 use Rattle.puffbramble.specs.Program.{most, program-answer}
 
 -- the sizes in src/main.rt

@@ -4,6 +4,7 @@
 ghost use lib.ListN.{length};
 ghost use Rattle.io.specs.Counts.{Counts};
 ghost use Rattle.puffbramble.specs.Program.{Answered};
+use answers::refused;
 use rules::Answer;
 use rules::Refusal;
 
@@ -20,7 +21,7 @@ fn answer(
     ensures { λ r. ⌜ Answered (now (tree .entry)) (record { table-words = length (now (table .entry)); code-bytes = length (now (code .entry)); span-words = length (now (spans .entry)); output-bytes = length (now (out .entry)) }) r (now (out .exit)) ⌝ }
 {
     if MOST < tree.len() {
-        return Answer::refused(Refusal::TreeTooLong);
+        return refused(Refusal::TreeTooLong);
     }
     entry::compile(tree, out, table, code, spans)
 }

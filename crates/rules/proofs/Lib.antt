@@ -1,32 +1,3 @@
--- Laws of the definitions in specs/. They add nothing to what those say. Read in this order.
+-- What the definitions give: P1 to P12, and the slips of this trade, each shut out. Laws of the definitions for all trees are the crate rules_laws.
 pub mod Examples
 pub mod Slips
-pub mod Tests
-pub mod Keeps
-pub mod Facts
-pub mod Layer
-pub mod Runs
-pub mod Pieces
-pub mod Coded
-pub mod Constants
-pub mod CodeBytes
-pub mod Demand3
-pub mod Checks
-pub mod ReadBack
-pub mod Refusals
-pub mod Trees
-pub mod Steps
-pub mod Spends
-pub mod TreeBytes
-pub mod Widths
-pub mod Accepted
-pub mod Agrees
-pub mod Room
-pub mod Held
-pub mod Sizes
-pub mod ImageSizes
-pub mod CodeNeed
-pub mod Exactly
-pub mod Bounds
-pub mod Lookups
-pub mod OneResult

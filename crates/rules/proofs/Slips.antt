@@ -11,7 +11,7 @@ use borrow.Author.Tests.{le-leb, lt-leb, le-ltb}
 use Rattle.rules.specs.Base.{if_then_else_, position}
 use Rattle.rules.specs.declared.Span.{Span}
 use Rattle.rules.specs.declared.Refusal.{Refusal}
-use Rattle.rules.specs.declared.Refusal.the-variants.{TooManyArgs, TooManyParams, TooManyLocals, TooManyUpvalues, TreeTooDeep, TooManyOpen, TreeTooLong, OutFull}
+use Rattle.rules.specs.declared.Refusal.the-variants.{TooManyArgs, TooManyParams, TooManyLocals, TooManyUpvalues, TreeTooDeep, TooManyOpen, TreeTooLong, CodeFull, OutFull}
 use Rattle.rules.specs.declared.Answer.{Answer}
 use Rattle.rules.specs.Answer.{NO-SPAN, refusal, accepted}
 use Rattle.rules.specs.Tree.{Expr, Exprs, ExprCall, count-exprs}
@@ -24,10 +24,13 @@ use Rattle.rules.specs.Limits.{Limits, first-limits, max-tree, max-code}
 use Rattle.rules.specs.Entry as entry
 use Rattle.rules.specs.Entry.{Lent, Left, Compiled, functions-are, refused, compile-tree, compile-lent, compile-within}
 use Rattle.rules.specs.Division as d
-use Rattle.rules.specs.Division.{division, function-fits}
+use Rattle.rules.specs.ImageFile as image-file
+use Rattle.rules.specs.ImageFile.{read-run}
+use Rattle.rules.specs.Reader.{got}
+use Rattle.rules.specs.Division.{division, function-fits, run-fits}
 use Rattle.rules.specs.Checker as checker
 use Rattle.rules.specs.Checker.{span-of}
-use Rattle.rules.proofs.Examples.{hex, P2-tree, P12-tree, from-to}
+use Rattle.rules.proofs.Examples.{hex, P2-tree, P12-tree, from-to, lent, given, codes}
 
 -- ## "256 arguments", and `super` before the count
 
@@ -211,3 +214,73 @@ pub record Spans : Type 0 where
 pub spans : Spans
 unfolding checker.computes
 spans = record { last-of-first = refl; first-of-next = refl; past-the-end = refl }
+
+-- ## A run may stand for 255 bytes, and its span is read back as it was written
+
+pub record Read-runs : Type 0 where
+  pub longest : run-fits (record { span = NO-SPAN; count = 255 }) ≡ true
+  pub too-long-a-run : run-fits (record { span = NO-SPAN; count = 256 }) ≡ false
+  pub as-written : read-run (hex 11 0x52_55_04000000_06000000_01) 0 ≡ got (record { span = from-to 4 6; count = 1 }) 11
+
+pub read-runs : Read-runs
+unfolding hex d.computes image-file.computes
+read-runs = record { longest = refl; too-long-a-run = refl; as-written = refl }
+
+-- ## INVOKE has its count, METHOD takes a string
+
+-- nil.m();
+abbrev invoke-tree : List ℕ
+invoke-tree =
+    hex 6 0x5452_0100_0100  -- TR
+    ++ hex 5 0x4E4D_0100_6D  -- NM
+    ++ hex 10 0x5345_00000000_08000000  -- SE
+    ++ hex 12 0x4543_00000000_07000000_0000  -- EC
+    ++ hex 12 0x4547_00000000_05000000_0400  -- EG
+    ++ hex 11 0x454C_00000000_03000000_02  -- EL
+
+-- class A { m() {} }
+abbrev method-tree : List ℕ
+method-tree =
+    hex 6 0x5452_0200_0100  -- TR
+    ++ hex 5 0x4E4D_0100_41  -- NM
+    ++ hex 5 0x4E4D_0100_6D  -- NM
+    ++ hex 15 0x5343_00000000_12000000_0400_00_0100  -- SC
+    ++ hex 16 0x5346_0A000000_10000000_0500_0000_0000  -- SF
+
+pub record Named : Type 0 where
+  pub invoke : given (compile-tree first-limits invoke-tree max-code) ≡ codes (hex 7 0x01_20_00_00_04_01_24 ∷ []) (accepted 5)
+  pub method : given (compile-tree first-limits method-tree max-code)
+      ≡ codes (hex 2 0x01_24 ∷ hex 13 0x25_00_08_00_07_00_22_01_27_02_04_01_24 ∷ []) (accepted 10)
+
+pub named : Named
+unfolding hex entry.computes checker.computes
+named = record { invoke = refl; method = refl }
+
+-- ## The code limit: at most 262,144, and on the open functions' code, summed
+
+abbrev print-nil : List ℕ
+print-nil =
+    hex 10 0x5350_00000000_0A000000  -- SP
+    ++ hex 11 0x454C_06000000_09000000_02  -- EL
+
+-- print nil; fun f() { print nil; print nil; print nil; }
+abbrev open-tree : List ℕ
+open-tree =
+    hex 6 0x5452_0100_0200  -- TR
+    ++ hex 5 0x4E4D_0100_66  -- NM
+    ++ print-nil
+    ++ hex 16 0x5346_0B000000_37000000_0400_0000_0300  -- SF
+    ++ print-nil
+    ++ print-nil
+    ++ print-nil
+
+-- two bytes of the script stand before the eight of f; the script itself has eight in the end
+pub record Limited : Type 0 where
+  pub capped : entry.code-limit (lent 0 262_145 786_435 0) ≡ max-code
+  pub summed : compile-tree first-limits open-tree 9 ≡ refused CodeFull
+  pub enough : given (compile-tree first-limits open-tree 10)
+      ≡ codes (hex 8 0x01_1B_01_1B_01_1B_01_24 ∷ hex 8 0x01_1B_22_00_08_01_01_24 ∷ []) (accepted 14)
+
+pub limited : Limited
+unfolding hex entry.computes checker.computes
+limited = record { capped = refl; summed = refl; enough = refl }

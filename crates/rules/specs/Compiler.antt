@@ -253,7 +253,7 @@ unfoldable pub finish : CompilerCtx → ObjectFunction
 finish c = record { name = c .name; arity = c .arity; upvalue-count = length (c .upvalues); chunk = c .chunk }
 
 unfoldable pub back-to : List CompilerCtx → Compile (ℕ × List Upvalue)
-back-to [] s = ok (0, []) s  -- never: there is always a context around a function
+back-to [] s = ok (0, []) s  -- never: Impossible `end-ctx-has-parent`
 back-to (parent ∷ above) s =
     ok (length (s .functions), s .ctx .upvalues)
     (record { ctx = parent; parents = above; class-ctx = s .class-ctx; functions = s .functions ++ (finish (s .ctx) ∷ []) })
@@ -281,7 +281,7 @@ declare-local name span = do
       (record { name = name; depth = c .scope-depth; is-initialized = false; is-captured = false } ∷ c .locals)
 
 unfoldable pub initialize : List Local → List Local
-initialize [] = []
+initialize [] = []  -- never: Impossible `define-local-has-local`
 initialize (local ∷ below) =
     record { name = local .name; depth = local .depth; is-initialized = true; is-captured = local .is-captured } ∷ below
 
@@ -318,6 +318,7 @@ is-global = the λ s. eqb (s .ctx .scope-depth) 0
 unfoldable pub push-class-ctx : (with-super : Bool) → Compile Unit
 push-class-ctx with-super s = ok tt (with-classes s (with-super ∷ s .class-ctx))
 
+-- the list is never empty: Impossible `pop-class-ctx-has-class`
 unfoldable pub pop-class-ctx : Compile Unit
 pop-class-ctx s = ok tt (with-classes s (drop 1 (s .class-ctx)))
 

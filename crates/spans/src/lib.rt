@@ -5,19 +5,9 @@ ghost use Rattle.rules.specs.Checker.{span-of};
 ghost use Rattle.rules.specs.Checker as Checker;
 ghost use Rattle.spans.specs.Words.{runs-of};
 ghost use Rattle.spans.specs.Runs.{runs-in};
+use answers::refused;
 use rules::Answer;
-
-fn wide(n: u32) -> usize
-    ensures { λ r. ⌜ r ≡ n ⌝ }
-{
-    n as usize
-}
-
-fn long(n: u32) -> u64
-    ensures { λ r. ⌜ r ≡ n ⌝ }
-{
-    n as u64
-}
+use rules::Refusal;
 
 // The runs as words: start, end and count of each in turn. It stops at the run that holds the byte.
 pub fn span_of_words(words: &[u32], offset: usize) -> Answer
@@ -26,12 +16,12 @@ pub fn span_of_words(words: &[u32], offset: usize) -> Answer
     let mut at: usize = 0;
     let mut left = offset;
     while at + 2 < words.len() {
-        let count = wide(words[at + 2]);
+        let count = fields::wide32(words[at + 2]);
         if left < count {
             return Answer {
                 number: 0,
-                at: long(words[at]),
-                end: long(words[at + 1]),
+                at: fields::long32(words[at]),
+                end: fields::long32(words[at + 1]),
                 name: 0,
                 length: 0,
             };
@@ -39,13 +29,7 @@ pub fn span_of_words(words: &[u32], offset: usize) -> Answer
         left -= count;
         at += 3;
     }
-    Answer {
-        number: 42,
-        at: 0,
-        end: 0,
-        name: 0,
-        length: 0,
-    }
+    refused(Refusal::NoSuchByte)
 }
 
 // Neighbouring code bytes of one span.
@@ -55,6 +39,9 @@ pub struct Run {
     pub end: u32,
     pub count: u8,
 }
+
+// The number of `refusal NoSuchByte`, where a call of `answers::refused` would be one more step of a proof that walks the code by hand.
+const NO_SUCH_BYTE: u64 = 42;
 
 // The same over a lent slice of runs.
 pub fn span_of(runs: &[Run], offset: usize) -> Answer
@@ -80,7 +67,7 @@ pub fn span_of(runs: &[Run], offset: usize) -> Answer
         i = i + 1;
     }
     Answer {
-        number: 42,
+        number: NO_SUCH_BYTE,
         at: 0,
         end: 0,
         name: 0,

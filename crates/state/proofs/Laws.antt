@@ -15,7 +15,7 @@ use mathlib.Core.Option.{none as nothing}
 use Rattle.rules.specs.Base.{if_then_else_, position, one-on}
 use Rattle.rules.specs.Chunk.{Chunk, Run, Constant}
 use Rattle.rules.specs.Compiler.{Local, Upvalue, at-slot, uninitialized, find-local, capture}
-use Rattle.state.specs.Layout.{levels, deepest, row, stack, vec, pile, localOf, upvalueOf, constantOf, type-of, runAt, localsOf, upvaluesOf, constantsOf, codeFrom, runsFrom, chunkAt, ctxAt, parentsOf, Wf}
+use Rattle.state.specs.Layout.{levels, deepest, row, stack, vec, pile, localOf, upvalueOf, constantOf, type-of, runAt, localsOf, upvaluesOf, constantsOf, codeFrom, runsFrom, chunkAt, ctxAt, parentsOf, Wf, upvalues-place, upvalue-count-place, constants-place, constant-count-place, depth-place, code-from-place, runs-from-place, name-place, arity-place, type-place, level-words, local-count-place}
 use Rattle.state.specs.Contracts.{Kept}
 
 pub lt-or-le : (a b : ℕ) → (a < b) ⊎ (b ≤ a)
@@ -90,7 +90,8 @@ find-at f nm j e = rw (eq-eqb (f j .name) nm e, length-stack f j)
 abbrev pub caught : Local → Local
 caught x = record { name = x .name; depth = x .depth; is-initialized = x .is-initialized; is-captured = true }
 
-pub capture-up : (f g : ℕ → Local) (nm r n : ℕ) → r ≤ n → ((j : ℕ) → r ≤ j → j < n → f j .name ≡ nm → ⊥) → ((j : ℕ) → r ≤ j → j < n → g j ≡ f j) → capture nm (stack f r) ≡ stack g r → capture nm (stack f n) ≡ stack g n
+pub capture-up : (f g : ℕ → Local) (nm r n : ℕ) → r ≤ n → ((j : ℕ) → r ≤ j → j < n → f j .name ≡ nm → ⊥) → ((j : ℕ) → r ≤ j → j < n → g j ≡ f j) → capture nm
+    (stack f r) ≡ stack g r → capture nm (stack f n) ≡ stack g n
 unfolding stack capture
 capture-up f g nm r zero l none same e = let z : r ≡ 0 = omega arith in subst (λ (k : ℕ). capture nm (stack f k) ≡ stack g k) z e
 capture-up f g nm r (suc n) l none same e =
@@ -167,11 +168,12 @@ few-set top t c v i hv hi =
     (lt-or-le c (length t))
 
 -- a store elsewhere keeps how many upvalues there are
-upvalue-count : (t : List ℕ) (l o v k : ℕ) → o < 1024 → (o ≡ 513 → ⊥) → getD (set t (l * 1024 + o) v) (k * 1024 + 513) 0 ≡ getD t (k * 1024 + 513) 0
-upvalue-count t l o v k h ne = getD-set-other t (l * 1024 + o) (k * 1024 + 513) v 0 (λ e. ne (omega arith))
+upvalue-count : (t : List ℕ) (l o v k : ℕ) → o < level-words → (o ≡ upvalue-count-place → ⊥) → getD (set t (l * level-words + o) v)
+    (k * level-words + upvalue-count-place) 0 ≡ getD t (k * level-words + upvalue-count-place) 0
+upvalue-count t l o v k h ne = getD-set-other t (l * level-words + o) (k * level-words + upvalue-count-place) v 0 (λ e. ne (omega arith))
 
 -- the store of a count, but for that of the upvalues
-pub wf-count : (t : List ℕ) (l o v : ℕ) → o < 1024 → (o ≡ 513 → ⊥) → v ≤ 256 → Wf t → Wf (set t (l * 1024 + o) v)
+pub wf-count : (t : List ℕ) (l o v : ℕ) → o < level-words → (o ≡ upvalue-count-place → ⊥) → v ≤ 256 → Wf t → Wf (set t (l * level-words + o) v)
 wf-count t l o v near ne h wf = record {
   size = length-set t _ v ∙ wf .size;
   fewLocals = λ k m. few-set 256 t _ v _ h (wf .fewLocals k m);
@@ -179,26 +181,29 @@ wf-count t l o v near ne h wf = record {
   fewConstants = λ k m. few-set 256 t _ v _ h (wf .fewConstants k m);
   shallow = λ k m. few-set deepest t _ v _ (omega arith) (wf .shallow k m);
   pairs = λ k i m a b.
-      let below : i < 257 + getD t (k * 1024 + 513) 0 = omega (arith, b, upvalue-count t l o v k near ne) in
-      omega (arith, few-set 511 t (l * 1024 + o) v (k * 1024 + i) (omega arith) (omega (arith, wf .pairs k i m a below)));
+      let below : i < upvalues-place + getD t (k * level-words + upvalue-count-place) 0 = omega (arith, b, upvalue-count t l o v k near ne) in
+      omega (arith, few-set 511 t (l * level-words + o) v (k * level-words + i) (omega arith) (omega (arith, wf .pairs k i m a below)));
 }
 
 -- the store of a level's count of upvalues: what it counts are upvalues
-module _ (t : List ℕ) (l v : ℕ) (low : l < levels) (h : v ≤ 256) (all : (o : ℕ) → 257 ≤ o → o < 257 + v → getD t (l * 1024 + o) 0 < 512) (wf : Wf t) where
-  beside : (k o : ℕ) → o < 513 → getD (set t (l * 1024 + 513) v) (k * 1024 + o) 0 ≡ getD t (k * 1024 + o) 0
-  beside k o near = getD-set-other t (l * 1024 + 513) (k * 1024 + o) v 0 (λ e. omega arith)
+module _ (t : List ℕ) (l v : ℕ) (low : l < levels) (h : v ≤ 256) (all : (o : ℕ) → upvalues-place ≤ o → o < upvalues-place + v → getD t (l * level-words + o) 0 < 512) (wf : Wf t) where
+  beside : (k o : ℕ) → o < upvalue-count-place → getD (set t (l * level-words + upvalue-count-place) v) (k * level-words + o) 0 ≡ getD t (k * level-words + o) 0
+  beside k o near = getD-set-other t (l * level-words + upvalue-count-place) (k * level-words + o) v 0 (λ e. omega arith)
 
-  counted-here : (o : ℕ) → 257 ≤ o → o < 257 + getD (set t (l * 1024 + 513) v) (l * 1024 + 513) 0 → getD (set t (l * 1024 + 513) v) (l * 1024 + o) 0 < 512
+  counted-here : (o : ℕ) → upvalues-place ≤ o → o < upvalues-place + getD (set t (l * level-words + upvalue-count-place) v)
+      (l * level-words + upvalue-count-place) 0 → getD (set t (l * level-words + upvalue-count-place) v) (l * level-words + o) 0 < 512
   counted-here o a b =
-      let below : o < 257 + v = omega (arith, b, getD-set-same t (l * 1024 + 513) v 0 (omega (arith, wf .size))) in
+      let below : o < upvalues-place + v = omega (arith, b, getD-set-same t (l * level-words + upvalue-count-place) v 0 (omega (arith, wf .size))) in
       omega (arith, beside l o (omega arith), all o a below)
 
-  counted-off : (k o : ℕ) → k < levels → (k ≡ l → ⊥) → 257 ≤ o → o < 257 + getD (set t (l * 1024 + 513) v) (k * 1024 + 513) 0 → getD (set t (l * 1024 + 513) v) (k * 1024 + o) 0 < 512
+  counted-off : (k o : ℕ) → k < levels → (k ≡ l → ⊥) → upvalues-place ≤ o → o < upvalues-place + getD (set t (l * level-words + upvalue-count-place) v)
+      (k * level-words + upvalue-count-place) 0 → getD (set t (l * level-words + upvalue-count-place) v) (k * level-words + o) 0 < 512
   counted-off k o m ne a b =
-      let below : o < 257 + getD t (k * 1024 + 513) 0 = omega (arith, b, getD-set-other t (l * 1024 + 513) (k * 1024 + 513) v 0 (λ e. ne (omega arith))) in
+      let below : o < upvalues-place + getD t (k * level-words + upvalue-count-place) 0 = omega
+      (arith, b, getD-set-other t (l * level-words + upvalue-count-place) (k * level-words + upvalue-count-place) v 0 (λ e. ne (omega arith))) in
       omega (arith, beside k o (omega (arith, wf .fewUpvalues k m)), wf .pairs k o m a below)
 
-  pub wf-upvalues : Wf (set t (l * 1024 + 513) v)
+  pub wf-upvalues : Wf (set t (l * level-words + upvalue-count-place) v)
   wf-upvalues = record {
     size = length-set t _ v ∙ wf .size;
     fewLocals = λ k m. few-set 256 t _ v _ h (wf .fewLocals k m);
@@ -207,21 +212,23 @@ module _ (t : List ℕ) (l v : ℕ) (low : l < levels) (h : v ≤ 256) (all : (o
     shallow = λ k m. few-set deepest t _ v _ (omega arith) (wf .shallow k m);
     pairs = λ k o m a.
         ⊎-elim (λ (x : k < l). counted-off k o m (λ e. omega arith) a)
-        (λ (x : l ≤ k). ⊎-elim (λ (e : l ≡ k). subst (λ (k : ℕ). o < 257 + getD (set t (l * 1024 + 513) v) (k * 1024 + 513) 0 → getD (set t (l * 1024 + 513) v) (k * 1024 + o) 0 < 512) e (counted-here o a))
+        (λ (x : l ≤ k). ⊎-elim (λ (e : l ≡ k). subst (λ (k : ℕ). o < upvalues-place + getD (set t (l * level-words + upvalue-count-place) v)
+        (k * level-words + upvalue-count-place) 0 → getD (set t (l * level-words + upvalue-count-place) v) (k * level-words + o) 0 < 512) e (counted-here o a))
         (λ (y : l < k). counted-off k o m (λ e. omega arith) a) (eq-or-lt-of-le x))
         (lt-or-le k l);
   }
 
 -- the store of any word where no count stands
-module _ (t : List ℕ) (l o v : ℕ) (h : o < 1024) (fits : 257 ≤ o → o < 513 → v < 512) where
-  pair-kept : (k i : ℕ) → 257 ≤ i → i < 513 → getD t (k * 1024 + i) 0 < 512 → getD (set t (l * 1024 + o) v) (k * 1024 + i) 0 < 512
+module _ (t : List ℕ) (l o v : ℕ) (h : o < level-words) (fits : upvalues-place ≤ o → o < upvalue-count-place → v < 512) where
+  pair-kept : (k i : ℕ) → upvalues-place ≤ i → i < upvalue-count-place → getD t (k * level-words + i) 0 < 512 → getD (set t (l * level-words + o) v) (k * level-words + i) 0 < 512
   pair-kept k i a b g =
-      ⊎-elim (λ (m : o < 257). omega (arith, getD-set-other t (l * 1024 + o) (k * 1024 + i) v 0 (λ z. omega arith)))
-      (λ (m : 257 ≤ o). ⊎-elim (λ (n : o < 513). let p : v < 512 = fits m n in omega (arith, few-set 511 t (l * 1024 + o) v (k * 1024 + i) (omega arith) (omega arith)))
-      (λ (n : 513 ≤ o). omega (arith, getD-set-other t (l * 1024 + o) (k * 1024 + i) v 0 (λ z. omega arith))) (lt-or-le o 513))
-      (lt-or-le o 257)
+      ⊎-elim (λ (m : o < upvalues-place). omega (arith, getD-set-other t (l * level-words + o) (k * level-words + i) v 0 (λ z. omega arith)))
+      (λ (m : upvalues-place ≤ o). ⊎-elim (λ (n : o < upvalue-count-place). let p : v < 512 = fits m n in omega
+      (arith, few-set 511 t (l * level-words + o) v (k * level-words + i) (omega arith) (omega arith)))
+      (λ (n : upvalue-count-place ≤ o). omega (arith, getD-set-other t (l * level-words + o) (k * level-words + i) v 0 (λ z. omega arith))) (lt-or-le o upvalue-count-place))
+      (lt-or-le o upvalues-place)
 
-  pub wf-entry : (o ≡ 256 → ⊥) → (o ≡ 513 → ⊥) → (o ≡ 770 → ⊥) → (o ≡ 771 → ⊥) → Wf t → Wf (set t (l * 1024 + o) v)
+  pub wf-entry : (o ≡ local-count-place → ⊥) → (o ≡ upvalue-count-place → ⊥) → (o ≡ constant-count-place → ⊥) → (o ≡ depth-place → ⊥) → Wf t → Wf (set t (l * level-words + o) v)
   wf-entry a b c d wf = record {
     size = length-set t _ v ∙ wf .size;
     fewLocals = λ k m. subst (λ (n : ℕ). n ≤ 256) (sym (getD-set-other t _ _ v 0 (λ e. a (omega arith)))) (wf .fewLocals k m);
@@ -229,16 +236,17 @@ module _ (t : List ℕ) (l o v : ℕ) (h : o < 1024) (fits : 257 ≤ o → o < 5
     fewConstants = λ k m. subst (λ (n : ℕ). n ≤ 256) (sym (getD-set-other t _ _ v 0 (λ e. c (omega arith)))) (wf .fewConstants k m);
     shallow = λ k m. subst (λ (n : ℕ). n ≤ deepest) (sym (getD-set-other t _ _ v 0 (λ e. d (omega arith)))) (wf .shallow k m);
     pairs = λ k i m p q.
-        let below : i < 257 + getD t (k * 1024 + 513) 0 = omega (arith, q, upvalue-count t l o v k h b) in
+        let below : i < upvalues-place + getD t (k * level-words + upvalue-count-place) 0 = omega (arith, q, upvalue-count t l o v k h b) in
         pair-kept k i p (omega (arith, wf .fewUpvalues k m)) (wf .pairs k i m p below);
   }
 
 -- the store of a word that is neither a count, a depth nor an upvalue, by where it is in its level
-pub wf-plain : (t : List ℕ) (l o v : ℕ) → o < 1024 → (256 ≤ o → o < 514 → ⊥) → (o ≡ 770 → ⊥) → (o ≡ 771 → ⊥) → Wf t → Wf (set t (l * 1024 + o) v)
+pub wf-plain : (t : List ℕ) (l o v : ℕ) → o < level-words → (local-count-place ≤ o → o < constants-place → ⊥) → (o ≡ constant-count-place → ⊥) →
+    (o ≡ depth-place → ⊥) → Wf t → Wf (set t (l * level-words + o) v)
 wf-plain t l o v h a c d wf = wf-entry t l o v h (λ p q. absurd (a (omega arith) (omega arith))) (λ e. a (omega arith) (omega arith)) (λ e. a (omega arith) (omega arith)) c d wf
 
 -- the store of a level's depth
-pub wf-depth : (t : List ℕ) (l v : ℕ) → v ≤ deepest → Wf t → Wf (set t (l * 1024 + 771) v)
+pub wf-depth : (t : List ℕ) (l v : ℕ) → v ≤ deepest → Wf t → Wf (set t (l * level-words + depth-place) v)
 wf-depth t l v h wf = record {
   size = length-set t _ v ∙ wf .size;
   fewLocals = λ k m. subst (λ (n : ℕ). n ≤ 256) (sym (getD-set-other t _ _ v 0 (λ e. omega arith))) (wf .fewLocals k m);
@@ -246,29 +254,35 @@ wf-depth t l v h wf = record {
   fewConstants = λ k m. subst (λ (n : ℕ). n ≤ 256) (sym (getD-set-other t _ _ v 0 (λ e. omega arith))) (wf .fewConstants k m);
   shallow = λ k m. few-set deepest t _ v _ h (wf .shallow k m);
   pairs = λ k i m p q.
-      let below : i < 257 + getD t (k * 1024 + 513) 0 = omega (arith, q, upvalue-count t l 771 v k (omega arith) (λ e. omega arith)) in
-      pair-kept t l 771 v (omega arith) (λ a b. omega arith) k i p (omega (arith, wf .fewUpvalues k m)) (wf .pairs k i m p below);
+      let below : i < upvalues-place + getD t (k * level-words + upvalue-count-place) 0 = omega (arith, q, upvalue-count t l depth-place v k (omega arith) (λ e. omega arith)) in
+      pair-kept t l depth-place v (omega arith) (λ a b. omega arith) k i p (omega (arith, wf .fewUpvalues k m)) (wf .pairs k i m p below);
 }
 
 -- ## A context, by its parts
 
-pub locals-same : (t t′ : List ℕ) (l : ℕ) → getD t (l * 1024 + 256) 0 ≤ 256 → ((o : ℕ) → o ≤ 256 → getD t′ (l * 1024 + o) 0 ≡ getD t (l * 1024 + o) 0) → localsOf t′ l ≡ localsOf t l
-locals-same t t′ l few same = ap (stack (λ i. localOf (getD t′ (l * 1024 + i) 0))) (same 256 (omega arith)) ∙ stack-cong _ _ _ (λ i g. ap localOf (same i (omega arith)))
+pub locals-same : (t t′ : List ℕ) (l : ℕ) → getD t (l * level-words + local-count-place) 0 ≤ 256 →
+    ((o : ℕ) → o ≤ 256 → getD t′ (l * level-words + o) 0 ≡ getD t (l * level-words + o) 0) → localsOf t′ l ≡ localsOf t l
+locals-same t t′ l few same = ap (stack (λ i. localOf (getD t′ (l * level-words + i) 0))) (same local-count-place (omega arith)) ∙ stack-cong _ _ _ (λ i g. ap localOf (same i (omega arith)))
 
-vec-same : {A : Type 0} (g : ℕ → A) (t t′ : List ℕ) (l b c : ℕ) → b + getD t (l * 1024 + c) 0 ≤ c → ((o : ℕ) → b ≤ o → o ≤ c → getD t′ (l * 1024 + o) 0 ≡ getD t (l * 1024 + o) 0) → vec g t′ (l * 1024 + b) (l * 1024 + c) ≡ vec g t (l * 1024 + b) (l * 1024 + c)
+vec-same : {A : Type 0} (g : ℕ → A) (t t′ : List ℕ) (l b c : ℕ) → b + getD t (l * level-words + c) 0 ≤ c →
+    ((o : ℕ) → b ≤ o → o ≤ c → getD t′ (l * level-words + o) 0 ≡ getD t (l * level-words + o) 0) → vec g t′ (l * level-words + b) (l * level-words + c) ≡ vec g
+    t (l * level-words + b) (l * level-words + c)
 vec-same g t t′ l b c few same =
-    let one : (i : ℕ) → i < getD t (l * 1024 + c) 0 → getD t′ (l * 1024 + b + i) 0 ≡ getD t (l * 1024 + b + i) 0 = λ i h.
-    let q : l * 1024 + (b + i) ≡ l * 1024 + b + i = omega arith in subst (λ (k : ℕ). getD t′ k 0 ≡ getD t k 0) q (same (b + i) (omega arith) (omega arith)) in
-    ap (row (λ i. g (getD t′ (l * 1024 + b + i) 0))) (same c (omega arith) (omega arith)) ∙ row-cong _ _ _ (λ i h. ap g (one i h))
+    let one : (i : ℕ) → i < getD t (l * level-words + c) 0 → getD t′ (l * level-words + b + i) 0 ≡ getD t (l * level-words + b + i) 0 = λ i h.
+    let q : l * level-words + (b + i) ≡ l * level-words + b + i = omega arith in subst (λ (k : ℕ). getD t′ k 0 ≡ getD t k 0) q (same (b + i) (omega arith) (omega arith)) in
+    ap (row (λ i. g (getD t′ (l * level-words + b + i) 0))) (same c (omega arith) (omega arith)) ∙ row-cong _ _ _ (λ i h. ap g (one i h))
 
-pub upvalues-same : (t t′ : List ℕ) (l : ℕ) → getD t (l * 1024 + 513) 0 ≤ 256 → ((o : ℕ) → 257 ≤ o → o ≤ 513 → getD t′ (l * 1024 + o) 0 ≡ getD t (l * 1024 + o) 0) → upvaluesOf t′ l ≡ upvaluesOf t l
-upvalues-same t t′ l few same = vec-same upvalueOf t t′ l 257 513 (omega arith) same
+pub upvalues-same : (t t′ : List ℕ) (l : ℕ) → getD t (l * level-words + upvalue-count-place) 0 ≤ 256 →
+    ((o : ℕ) → upvalues-place ≤ o → o ≤ upvalue-count-place → getD t′ (l * level-words + o) 0 ≡ getD t (l * level-words + o) 0) → upvaluesOf t′ l ≡ upvaluesOf t l
+upvalues-same t t′ l few same = vec-same upvalueOf t t′ l upvalues-place upvalue-count-place (omega arith) same
 
-pub constants-same : (t t′ : List ℕ) (l : ℕ) → getD t (l * 1024 + 770) 0 ≤ 256 → ((o : ℕ) → 514 ≤ o → o ≤ 770 → getD t′ (l * 1024 + o) 0 ≡ getD t (l * 1024 + o) 0) → constantsOf t′ l ≡ constantsOf t l
-constants-same t t′ l few same = vec-same constantOf t t′ l 514 770 (omega arith) same
+pub constants-same : (t t′ : List ℕ) (l : ℕ) → getD t (l * level-words + constant-count-place) 0 ≤ 256 →
+    ((o : ℕ) → constants-place ≤ o → o ≤ constant-count-place → getD t′ (l * level-words + o) 0 ≡ getD t (l * level-words + o) 0) → constantsOf t′ l ≡ constantsOf t l
+constants-same t t′ l few same = vec-same constantOf t t′ l constants-place constant-count-place (omega arith) same
 
 -- a run is the same where its words are
-pub run-same : (spans spans′ : List ℕ) (i : ℕ) → getD spans′ (i * 3) 0 ≡ getD spans (i * 3) 0 → getD spans′ (i * 3 + 1) 0 ≡ getD spans (i * 3 + 1) 0 → getD spans′ (i * 3 + 2) 0 ≡ getD spans (i * 3 + 2) 0 → runAt spans′ i ≡ runAt spans i
+pub run-same : (spans spans′ : List ℕ) (i : ℕ) → getD spans′ (i * 3) 0 ≡ getD spans (i * 3) 0 → getD spans′ (i * 3 + 1) 0 ≡ getD spans (i * 3 + 1) 0 → getD
+    spans′ (i * 3 + 2) 0 ≡ getD spans (i * 3 + 2) 0 → runAt spans′ i ≡ runAt spans i
 run-same spans spans′ i a b c = λ j. record { span = record { start = a j; end = b j }; count = c j }
 
 module _ (t code spans t′ code′ spans′ : List ℕ) (l : ℕ) where
@@ -282,26 +296,38 @@ module _ (t code spans t′ code′ spans′ : List ℕ) (l : ℕ) where
       let b′ = ap (λ (k : ℕ). row (λ i. runAt spans′ (k + i)) (re′ - k)) g ∙ b in
       λ i. record { ops = a′ i; constants = k i; spans = b′ i }
 
-  pub chunk-same : (ce re : ℕ) → getD t (l * 1024 + 770) 0 ≤ 256 → ((o : ℕ) → 514 ≤ o → o ≤ 773 → (o ≡ 771 → ⊥) → getD t′ (l * 1024 + o) 0 ≡ getD t (l * 1024 + o) 0)
+  pub chunk-same : (ce re : ℕ) → getD t (l * level-words + constant-count-place) 0 ≤ 256 →
+      ((o : ℕ) → constants-place ≤ o → o ≤ runs-from-place → (o ≡ depth-place → ⊥) → getD t′ (l * level-words + o) 0 ≡ getD t (l * level-words + o) 0)
       → ((i : ℕ) → i < ce → getD code′ i 0 ≡ getD code i 0) → ((i : ℕ) → i < re * 3 → getD spans′ i 0 ≡ getD spans i 0) → chunkAt t′ code′ spans′ l ce re ≡ chunkAt t code spans l ce re
   unfolding chunkAt
   chunk-same ce re few same sc ss =
-      chunk-paths ce re ce re _ (constants-same t t′ l few (λ o a b. same o a (omega arith) (λ z. omega arith))) (same 772 (omega arith) (omega arith) (λ z. omega arith)) (same 773 (omega arith) (omega arith) (λ z. omega arith))
+      chunk-paths ce re ce re _ (constants-same t t′ l few (λ o a b. same o a (omega arith) (λ z. omega arith)))
+      (same code-from-place (omega arith) (omega arith) (λ z. omega arith)) (same runs-from-place (omega arith) (omega arith) (λ z. omega arith))
       _ (row-cong _ _ _ (λ i h. sc (codeFrom t l + i) (omega arith)))
       _ (row-cong _ _ _ (λ i h. run-same spans spans′ (runsFrom t l + i) (ss _ (omega arith)) (ss _ (omega arith)) (ss _ (omega arith))))
 
-  pub ctx-paths : (ce re ce′ re′ : ℕ) → ((o : ℕ) → 774 ≤ o → o ≤ 776 → getD t′ (l * 1024 + o) 0 ≡ getD t (l * 1024 + o) 0)
-      → {c : Chunk} → chunkAt t′ code′ spans′ l ce′ re′ ≡ c → {ls : List Local} → localsOf t′ l ≡ ls → {us : List Upvalue} → upvaluesOf t′ l ≡ us → {d : ℕ} → getD t′ (l * 1024 + 771) 0 ≡ d
-      → ctxAt t′ code′ spans′ l ce′ re′ ≡ record { name = getD t (l * 1024 + 774) 0; arity = getD t (l * 1024 + 775) 0; type = type-of (getD t (l * 1024 + 776) 0); chunk = c; locals = ls; upvalues = us; scope-depth = d }
+  pub ctx-paths : (ce re ce′ re′ : ℕ) → ((o : ℕ) → name-place ≤ o → o ≤ type-place → getD t′ (l * level-words + o) 0 ≡ getD t (l * level-words + o) 0)
+      → {c : Chunk} → chunkAt t′ code′ spans′ l ce′ re′ ≡ c → {ls : List Local} → localsOf t′ l ≡ ls → {us : List Upvalue} → upvaluesOf t′ l ≡ us → {d : ℕ} →
+      getD t′ (l * level-words + depth-place) 0 ≡ d
+      → ctxAt t′ code′ spans′ l ce′ re′ ≡ record {
+        name = getD t (l * level-words + name-place) 0;
+        arity = getD t (l * level-words + arity-place) 0;
+        type =
+            type-of (getD t (l * level-words + type-place) 0);
+        chunk = c;
+        locals = ls;
+        upvalues = us;
+        scope-depth = d;
+      }
   unfolding ctxAt
   ctx-paths ce re ce′ re′ head c ls us d =
-      let n = head 774 (omega arith) (omega arith) in
-      let a = head 775 (omega arith) (omega arith) in
-      let y = head 776 (omega arith) (omega arith) in
+      let n = head name-place (omega arith) (omega arith) in
+      let a = head arity-place (omega arith) (omega arith) in
+      let y = head type-place (omega arith) (omega arith) in
       λ i. record { name = n i; arity = a i; type = type-of (y i); chunk = c i; locals = ls i; upvalues = us i; scope-depth = d i }
 
   -- a context is the same where its words, its code and its runs are
-  pub ctx-same : (ce re : ℕ) → Wf t → l < levels → ((o : ℕ) → o < 777 → getD t′ (l * 1024 + o) 0 ≡ getD t (l * 1024 + o) 0)
+  pub ctx-same : (ce re : ℕ) → Wf t → l < levels → ((o : ℕ) → o < 777 → getD t′ (l * level-words + o) 0 ≡ getD t (l * level-words + o) 0)
       → ((i : ℕ) → i < ce → getD code′ i 0 ≡ getD code i 0) → ((i : ℕ) → i < re * 3 → getD spans′ i 0 ≡ getD spans i 0) → ctxAt t′ code′ spans′ l ce re ≡ ctxAt t code spans l ce re
   unfolding ctxAt
   ctx-same ce re wf low same sc ss =
@@ -309,11 +335,11 @@ module _ (t code spans t′ code′ spans′ : List ℕ) (l : ℕ) where
       (chunk-same ce re (wf .fewConstants l low) (λ o a b n. same o (omega arith)) sc ss)
       (locals-same t t′ l (wf .fewLocals l low) (λ o a. same o (omega arith)))
       (upvalues-same t t′ l (wf .fewUpvalues l low) (λ o a b. same o (omega arith)))
-      (same 771 (omega arith))
+      (same depth-place (omega arith))
 
 -- the contexts around level l, after a change above them
 pub parents-same : (t code spans t′ code′ spans′ : List ℕ) (l : ℕ) → Wf t → l < levels
-    → ((k o : ℕ) → k < l → o < 777 → getD t′ (k * 1024 + o) 0 ≡ getD t (k * 1024 + o) 0) → codeFrom t′ l ≡ codeFrom t l → runsFrom t′ l ≡ runsFrom t l
+    → ((k o : ℕ) → k < l → o < 777 → getD t′ (k * level-words + o) 0 ≡ getD t (k * level-words + o) 0) → codeFrom t′ l ≡ codeFrom t l → runsFrom t′ l ≡ runsFrom t l
     → ((k : ℕ) → k < l → codeFrom t k ≤ codeFrom t (suc k)) → ((k : ℕ) → k < l → runsFrom t k ≤ runsFrom t (suc k))
     → ((i : ℕ) → i < codeFrom t l → getD code′ i 0 ≡ getD code i 0) → ((i : ℕ) → i < runsFrom t l * 3 → getD spans′ i 0 ≡ getD spans i 0)
     → parentsOf t′ code′ spans′ l ≡ parentsOf t code spans l
@@ -322,16 +348,17 @@ parents-same t code spans t′ code′ spans′ zero wf low same f g oc or sc ss
 parents-same t code spans t′ code′ spans′ (suc l) wf low same f g oc or sc ss =
     ap₂ _∷_
     (ap₂ (ctxAt t′ code′ spans′ l) f g ∙ ctx-same t code spans t′ code′ spans′ l (codeFrom t (suc l)) (runsFrom t (suc l)) wf (omega arith) (λ o h. same l o (omega arith) h) sc ss)
-    (parents-same t code spans t′ code′ spans′ l wf (omega arith) (λ k o a b. same k o (omega arith) b) (same l 772 (omega arith) (omega arith)) (same l 773 (omega arith) (omega arith)) (λ k h. oc k (omega arith)) (λ k h. or k (omega arith))
+    (parents-same t code spans t′ code′ spans′ l wf (omega arith) (λ k o a b. same k o (omega arith) b) (same l code-from-place (omega arith) (omega arith))
+    (same l runs-from-place (omega arith) (omega arith)) (λ k h. oc k (omega arith)) (λ k h. or k (omega arith))
     (λ i h. sc i (omega (arith, oc l (omega arith)))) (λ i h. ss i (omega (arith, or l (omega arith)))))
 
 -- the same where code and runs stay: no order is needed
 pub parents-named : (t t′ : List ℕ) (l : ℕ) → Wf t → l < levels
-    → ((k o : ℕ) → k < l → o < 777 → getD t′ (k * 1024 + o) 0 ≡ getD t (k * 1024 + o) 0) → codeFrom t′ l ≡ codeFrom t l → runsFrom t′ l ≡ runsFrom t l
+    → ((k o : ℕ) → k < l → o < 777 → getD t′ (k * level-words + o) 0 ≡ getD t (k * level-words + o) 0) → codeFrom t′ l ≡ codeFrom t l → runsFrom t′ l ≡ runsFrom t l
     → (code spans : List ℕ) → parentsOf t′ code spans l ≡ parentsOf t code spans l
 unfolding parentsOf
 parents-named t t′ zero wf low same f g code spans = refl
 parents-named t t′ (suc l) wf low same f g code spans =
     ap₂ _∷_
     (ap₂ (ctxAt t′ code spans l) f g ∙ ctx-same t code spans t′ code spans l (codeFrom t (suc l)) (runsFrom t (suc l)) wf (omega arith) (λ o h. same l o (omega arith) h) (λ i h. refl) (λ i h. refl))
-    (parents-named t t′ l wf (omega arith) (λ k o a b. same k o (omega arith) b) (same l 772 (omega arith) (omega arith)) (same l 773 (omega arith) (omega arith)) code spans)
+    (parents-named t t′ l wf (omega arith) (λ k o a b. same k o (omega arith) b) (same l code-from-place (omega arith) (omega arith)) (same l runs-from-place (omega arith) (omega arith)) code spans)

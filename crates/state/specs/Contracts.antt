@@ -10,7 +10,7 @@ use Rattle.rules.specs.declared.Span.{Span}
 use Rattle.rules.specs.declared.Refusal.the-variants.{AccessInsideInitializer, TooManyUpvalues}
 use Rattle.rules.specs.Chunk.{Chunk, Run, same-span, write-u8, write-constant, Written, at-place, no-room}
 use Rattle.rules.specs.Compiler.{Local, Upvalue, CompilerCtx, new-ctx, Found, at-slot, uninitialized, missing, find-local, capture, Resolved, captured, nowhere, failed, add-upvalue, resolve-upvalue, declared, initialize}
-use Rattle.state.specs.Layout.{levels, code-end-at, image-at, codeFrom, localsOf, constantOf, runsFrom, codeEnd, runsEnd, runAt, chunkAt, ctxAt, parentsOf, type-of, Wf, Coded}
+use Rattle.state.specs.Layout.{levels, code-end-at, image-at, codeFrom, localsOf, constantOf, runsFrom, codeEnd, runsEnd, runAt, chunkAt, ctxAt, parentsOf, type-of, Wf, Coded, upvalues-place, upvalue-count-place, constants-place, constant-count-place, depth-place, code-from-place, level-words, local-count-place}
 use Rattle.state.specs.declared.Slot.{Slot}
 use Rattle.state.specs.declared.Slot.the-variants as slot
 use Rattle.state.specs.declared.Up.{Up}
@@ -66,7 +66,7 @@ pub record Looked (t t′ : List ℕ) (l nm : ℕ) (mark : Bool) (r : Slot) : Ty
   pub locals : localsOf t′ l ≡ marked mark r nm (localsOf t l)
   pub quiet : r ≡ slot.Nothing → t′ ≡ t
   pub unmarked : mark ≡ false → t′ ≡ t
-  pub kept : Kept (l * 1024) (l * 1024 + 256) t t′
+  pub kept : Kept (l * level-words) (l * level-words + local-count-place) t t′
   pub wf : Wf t′
 
 -- an answer on upvalues, as the rules have it
@@ -80,15 +80,15 @@ up-of span nm up.Full ctx parents = failed (TooManyUpvalues span)
 pub record Added (t t′ : List ℕ) (l : ℕ) (u : Upvalue) (r : Up) : Type 0 where
   pub does : (span : Span) (nm : ℕ) (code spans : List ℕ) (ce re : ℕ) (above : List CompilerCtx) → up-of span nm r (ctxAt t′ code spans l ce re) above ≡ add-upvalue u span (ctxAt t code spans l ce re) above
   pub some : r ≡ up.Nothing → ⊥
-  pub kept : Kept (l * 1024 + 257) (l * 1024 + 514) t t′
+  pub kept : Kept (l * level-words + upvalues-place) (l * level-words + constants-place) t t′
   pub wf : Wf t′
 
 -- of the level and those around it only locals' marks and upvalues change
 pub record Captured (t t′ : List ℕ) (l nm : ℕ) (r : Up) : Type 0 where
   pub does : (span : Span) (code spans : List ℕ) (ce re : ℕ) → up-of span nm r (ctxAt t′ code spans l ce re) (parentsOf t′ code spans l) ≡ resolve-upvalue nm span (ctxAt t code spans l ce re) (parentsOf t code spans l)
   pub quiet : r ≡ up.Nothing → t′ ≡ t
-  pub kept : Kept 0 (l * 1024 + 514) t t′
-  pub rest : (k i : ℕ) → k ≤ l → 514 ≤ i → i < 1024 → getD t′ (k * 1024 + i) 0 ≡ getD t (k * 1024 + i) 0
+  pub kept : Kept 0 (l * level-words + constants-place) t t′
+  pub rest : (k i : ℕ) → k ≤ l → constants-place ≤ i → i < level-words → getD t′ (k * level-words + i) 0 ≡ getD t (k * level-words + i) 0
   pub wf : Wf t′
 
 -- ## Code
@@ -122,42 +122,42 @@ written-as constanted.Full c = no-room
 
 pub record Constants (t t′ : List ℕ) (l w : ℕ) (r : Constanted) : Type 0 where
   pub does : (code spans : List ℕ) (ce re : ℕ) → written-as r (chunkAt t′ code spans l ce re) ≡ write-constant (chunkAt t code spans l ce re) (constantOf w)
-  pub kept : Kept (l * 1024 + 514) (l * 1024 + 771) t t′
+  pub kept : Kept (l * level-words + constants-place) (l * level-words + depth-place) t t′
   pub wf : Wf t′
 
 -- ## Locals
 
 abbrev pub DeclaredAs : (t t′ : List ℕ) → (l nm : ℕ) → Declared → Type 0
-DeclaredAs t t′ l nm decl.Already = declared (getD t (l * 1024 + 771) 0) nm (localsOf t l) ≡ true
-DeclaredAs t t′ l nm decl.Full = (declared (getD t (l * 1024 + 771) 0) nm (localsOf t l) ≡ false) × (256 ≤ length (localsOf t l))
+DeclaredAs t t′ l nm decl.Already = declared (getD t (l * level-words + depth-place) 0) nm (localsOf t l) ≡ true
+DeclaredAs t t′ l nm decl.Full = (declared (getD t (l * level-words + depth-place) 0) nm (localsOf t l) ≡ false) × (256 ≤ length (localsOf t l))
 DeclaredAs t t′ l nm decl.Done =
-    (declared (getD t (l * 1024 + 771) 0) nm (localsOf t l) ≡ false)
+    (declared (getD t (l * level-words + depth-place) 0) nm (localsOf t l) ≡ false)
     × (length (localsOf t l) < 256)
-    × (localsOf t′ l ≡ record { name = nm; depth = getD t (l * 1024 + 771) 0; is-initialized = false; is-captured = false } ∷ localsOf t l)
+    × (localsOf t′ l ≡ record { name = nm; depth = getD t (l * level-words + depth-place) 0; is-initialized = false; is-captured = false } ∷ localsOf t l)
 
 pub record DeclaredAt (t t′ : List ℕ) (l nm : ℕ) (r : Declared) : Type 0 where
   pub does : DeclaredAs t t′ l nm r
-  pub kept : Kept (l * 1024) (l * 1024 + 257) t t′
+  pub kept : Kept (l * level-words) (l * level-words + upvalues-place) t t′
   pub wf : Wf t′
 
 pub record DefinedAt (t t′ : List ℕ) (l : ℕ) : Type 0 where
   pub does : localsOf t′ l ≡ initialize (localsOf t l)
-  pub kept : Kept (l * 1024) (l * 1024 + 256) t t′
+  pub kept : Kept (l * level-words) (l * level-words + local-count-place) t t′
   pub wf : Wf t′
 
 -- the newest local is gone
 pub record Dropped (t t′ : List ℕ) (l : ℕ) (newest : Local) : Type 0 where
   pub does : localsOf t l ≡ newest ∷ localsOf t′ l
-  pub kept : Kept (l * 1024 + 256) (l * 1024 + 257) t t′
-  pub fewer : getD t′ (l * 1024 + 256) 0 < getD t (l * 1024 + 256) 0
+  pub kept : Kept (l * level-words + local-count-place) (l * level-words + upvalues-place) t t′
+  pub fewer : getD t′ (l * level-words + local-count-place) 0 < getD t (l * level-words + local-count-place) 0
   pub wf : Wf t′
 
 -- ## Scopes and contexts
 
 -- the scope depth is another
 pub record Moved (t t′ : List ℕ) (l depth : ℕ) : Type 0 where
-  pub does : getD t′ (l * 1024 + 771) 0 ≡ depth
-  pub kept : Kept (l * 1024 + 771) (l * 1024 + 772) t t′
+  pub does : getD t′ (l * level-words + depth-place) 0 ≡ depth
+  pub kept : Kept (l * level-words + depth-place) (l * level-words + code-from-place) t t′
   pub wf : Wf t′
 
 -- code and runs end where the level's begin
@@ -169,24 +169,24 @@ pub record Closed (t t′ : List ℕ) (l : ℕ) : Type 0 where
 
 -- the context above level l, whatever the code and the runs are
 pub record Began (t t′ : List ℕ) (l name arity type : ℕ) : Type 0 where
-  pub fresh : (code spans : List ℕ) → ctxAt t′ code spans (suc l) (codeEnd t′) (runsEnd t′) ≡ new-ctx name arity (type-of type) (getD t (l * 1024 + 771) 0 + 1)
+  pub fresh : (code spans : List ℕ) → ctxAt t′ code spans (suc l) (codeEnd t′) (runsEnd t′) ≡ new-ctx name arity (type-of type) (getD t (l * level-words + depth-place) 0 + 1)
   pub around : (code spans : List ℕ) → parentsOf t′ code spans (suc l) ≡ ctxAt t code spans l (codeEnd t) (runsEnd t) ∷ parentsOf t code spans l
   pub coded : (code spans : List ℕ) (limit : ℕ) → Coded t code spans l limit → Coded t′ code spans (suc l) limit
-  pub kept : Kept (suc l * 1024) (suc l * 1024 + 1024) t t′
+  pub kept : Kept (suc l * level-words) (suc l * level-words + level-words) t t′
   pub wf : Wf t′
 
 -- ## The start, whatever the table holds
 
 -- a level with no locals, no upvalues and no constants, in no scope
 pub record Empty (t : List ℕ) (l : ℕ) : Type 0 where
-  pub locals : getD t (l * 1024 + 256) 0 ≡ 0
-  pub upvalues : getD t (l * 1024 + 513) 0 ≡ 0
-  pub constants : getD t (l * 1024 + 770) 0 ≡ 0
-  pub depth : getD t (l * 1024 + 771) 0 ≡ 0
+  pub locals : getD t (l * level-words + local-count-place) 0 ≡ 0
+  pub upvalues : getD t (l * level-words + upvalue-count-place) 0 ≡ 0
+  pub constants : getD t (l * level-words + constant-count-place) 0 ≡ 0
+  pub depth : getD t (l * level-words + depth-place) 0 ≡ 0
 
 pub record Emptied (t t′ : List ℕ) (l : ℕ) : Type 0 where
   pub empty : Empty t′ l
-  pub kept : Kept (l * 1024) (l * 1024 + 1024) t t′
+  pub kept : Kept (l * level-words) (l * level-words + level-words) t t′
 
 -- no level has anything in it
 pub record Blank (t : List ℕ) : Type 0 where

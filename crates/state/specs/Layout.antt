@@ -1,8 +1,6 @@
 -- How the compiler's state lies in the lent areas: a table of words, code bytes, and three words for each run of a span.
--- The table has 1,024 words to a level, one level for each open function, the script's being level 0. Of a level words 0 to 255 are its locals and
--- word 256 their count, 257 to 512 its upvalues and 513 their count, 514 to 769 its constants and 770 their count. Word 771 is the scope depth, 772
--- and 773 say where its code and its runs start, 774 to 776 are the function's name, arity and type. After the levels come the ends of code and runs,
--- and two words of the image writer, which nothing here reads or changes.
+-- The table has a level for each open function, the script's being level 0: its locals, upvalues and constants, a word each and their count behind
+-- them, and a few words more. After the levels come the ends of code and runs, and two words of the image writer, which nothing here reads or changes.
 use mathlib.Core.Path.{_≡_}
 use mathlib.Core.List.{List, [], _∷_}
 use Prim.Native.Nat.{ℕ, zero, suc, _+_, _*_, _-_, _/_, _%_, _^_, _≤_, _<_}
@@ -14,7 +12,7 @@ use Rattle.rules.specs.Compiler.{Local, Upvalue, CompilerCtx, FunctionType, Fun
 
 -- ## How large
 
--- the script, and the functions that may be open in one another: src/lib.rt has the same number as LEVELS
+-- the script, and the functions that may be open in one another: src/lib.rt has the same number in `Table`
 abbrev pub levels : ℕ
 levels = 17
 
@@ -22,18 +20,58 @@ levels = 17
 abbrev pub deepest : ℕ
 deepest = 4096
 
+-- the words of a level; src/lib.rt has this and the next as constants of `Table`. The locals start at 0
+abbrev pub level-words : ℕ
+level-words = 1024
+
+abbrev pub local-count-place : ℕ
+local-count-place = 256
+
+abbrev pub upvalues-place : ℕ
+upvalues-place = 257
+
+abbrev pub upvalue-count-place : ℕ
+upvalue-count-place = 513
+
+abbrev pub constants-place : ℕ
+constants-place = 514
+
+abbrev pub constant-count-place : ℕ
+constant-count-place = 770
+
+-- the scope depth
+abbrev pub depth-place : ℕ
+depth-place = 771
+
+-- where its code and its runs start
+abbrev pub code-from-place : ℕ
+code-from-place = 772
+
+abbrev pub runs-from-place : ℕ
+runs-from-place = 773
+
+-- the function's own
+abbrev pub name-place : ℕ
+name-place = 774
+
+abbrev pub arity-place : ℕ
+arity-place = 775
+
+abbrev pub type-place : ℕ
+type-place = 776
+
 -- the words after the levels: the end of the code, the end of the runs, and from there on the image writer's
 abbrev pub code-end-at : ℕ
-code-end-at = levels * 1024
+code-end-at = levels * level-words
 
 abbrev pub runs-end-at : ℕ
-runs-end-at = levels * 1024 + 1
+runs-end-at = levels * level-words + 1
 
 abbrev pub image-at : ℕ
-image-at = levels * 1024 + 2
+image-at = levels * level-words + 2
 
 abbrev pub table-words : ℕ
-table-words = levels * 1024 + 4
+table-words = levels * level-words + 4
 
 -- ## Lists of entries
 
@@ -94,22 +132,22 @@ runAt spans i =
 -- ## A level
 
 abbrev pub word : List ℕ → (level o : ℕ) → ℕ
-word t l o = getD t (l * 1024 + o) 0
+word t l o = getD t (l * level-words + o) 0
 
 abbrev pub localsOf : List ℕ → ℕ → List Local
-localsOf t l = pile localOf t (l * 1024) (l * 1024 + 256)
+localsOf t l = pile localOf t (l * level-words) (l * level-words + local-count-place)
 
 abbrev pub upvaluesOf : List ℕ → ℕ → List Upvalue
-upvaluesOf t l = vec upvalueOf t (l * 1024 + 257) (l * 1024 + 513)
+upvaluesOf t l = vec upvalueOf t (l * level-words + upvalues-place) (l * level-words + upvalue-count-place)
 
 abbrev pub constantsOf : List ℕ → ℕ → List Constant
-constantsOf t l = vec constantOf t (l * 1024 + 514) (l * 1024 + 770)
+constantsOf t l = vec constantOf t (l * level-words + constants-place) (l * level-words + constant-count-place)
 
 abbrev pub codeFrom : List ℕ → ℕ → ℕ
-codeFrom t l = getD t (l * 1024 + 772) 0
+codeFrom t l = getD t (l * level-words + code-from-place) 0
 
 abbrev pub runsFrom : List ℕ → ℕ → ℕ
-runsFrom t l = getD t (l * 1024 + 773) 0
+runsFrom t l = getD t (l * level-words + runs-from-place) 0
 
 abbrev pub codeEnd : List ℕ → ℕ
 codeEnd t = getD t code-end-at 0
@@ -129,13 +167,13 @@ chunkAt t code spans l ce re =
 unfoldable pub ctxAt : (t code spans : List ℕ) → (level ce re : ℕ) → CompilerCtx
 ctxAt t code spans l ce re =
     record {
-      name = getD t (l * 1024 + 774) 0;
-      arity = getD t (l * 1024 + 775) 0;
-      type = type-of (getD t (l * 1024 + 776) 0);
+      name = getD t (l * level-words + name-place) 0;
+      arity = getD t (l * level-words + arity-place) 0;
+      type = type-of (getD t (l * level-words + type-place) 0);
       chunk = chunkAt t code spans l ce re;
       locals = localsOf t l;
       upvalues = upvaluesOf t l;
-      scope-depth = getD t (l * 1024 + 771) 0;
+      scope-depth = getD t (l * level-words + depth-place) 0;
     }
 
 -- the contexts around a level: each one's code and runs end where those of the next begin
@@ -147,12 +185,12 @@ parentsOf t code spans (suc l) = ctxAt t code spans l (codeFrom t (suc l)) (runs
 
 pub record Wf (t : List ℕ) : Type 0 where
   pub size : length t ≡ table-words
-  pub fewLocals : (k : ℕ) → k < levels → getD t (k * 1024 + 256) 0 ≤ 256
-  pub fewUpvalues : (k : ℕ) → k < levels → getD t (k * 1024 + 513) 0 ≤ 256
-  pub fewConstants : (k : ℕ) → k < levels → getD t (k * 1024 + 770) 0 ≤ 256
-  pub shallow : (k : ℕ) → k < levels → getD t (k * 1024 + 771) 0 ≤ deepest
+  pub fewLocals : (k : ℕ) → k < levels → getD t (k * level-words + local-count-place) 0 ≤ 256
+  pub fewUpvalues : (k : ℕ) → k < levels → getD t (k * level-words + upvalue-count-place) 0 ≤ 256
+  pub fewConstants : (k : ℕ) → k < levels → getD t (k * level-words + constant-count-place) 0 ≤ 256
+  pub shallow : (k : ℕ) → k < levels → getD t (k * level-words + depth-place) 0 ≤ deepest
   -- an upvalue's word is an index, and 256 more of it where it is a local of the function around
-  pub pairs : (k o : ℕ) → k < levels → 257 ≤ o → o < 257 + getD t (k * 1024 + 513) 0 → getD t (k * 1024 + o) 0 < 512
+  pub pairs : (k o : ℕ) → k < levels → upvalues-place ≤ o → o < upvalues-place + getD t (k * level-words + upvalue-count-place) 0 → getD t (k * level-words + o) 0 < 512
 
 -- the code and the runs of the open functions lie one after the other, within the limit
 pub record Coded (t code spans : List ℕ) (l limit : ℕ) : Type 0 where

@@ -50,12 +50,15 @@ row-set : (f g : ℕ → ℕ) (p v n : ℕ) → p < n → g p ≡ v → ((i : �
 unfolding row
 row-set f g p v zero h e other = absurd (not-suc-le-zero h)
 row-set f g zero v (suc n) h e other = ap₂ _∷_ e (row-cong (λ i. g (suc i)) (λ i. f (suc i)) n (λ i (l : i < n). other (suc i) (omega arith) (λ z. omega arith)))
-row-set f g (suc p) v (suc n) h e other = ap₂ _∷_ (other 0 (omega arith) (λ z. omega arith)) (row-set (λ i. f (suc i)) (λ i. g (suc i)) p v n (omega arith) e (λ i (l : i < n) ne. other (suc i) (omega arith) (λ (z : suc i ≡ suc p). ne (omega arith))))
+row-set f g (suc p) v (suc n) h e other =
+    ap₂ _∷_ (other 0 (omega arith) (λ z. omega arith)) (row-set (λ i. f (suc i)) (λ i. g (suc i)) p v n (omega arith) e
+    (λ i (l : i < n) ne. other (suc i) (omega arith) (λ (z : suc i ≡ suc p). ne (omega arith))))
 
 row-at : (code : List ℕ) (from n p v : ℕ) → p < n → from + p < length code → row (λ i. getD (set code (from + p) v) (from + i) 0) n ≡ set (row (λ i. getD code (from + i) 0) n) p v
 row-at code from n p v h g = row-set _ _ p v n h (getD-set-same code (from + p) v 0 g) (λ i l ne. getD-set-other code (from + p) (from + i) v 0 (λ z. ne (omega arith)))
 
-rows-set : (code : List ℕ) (from n p d : ℕ) → p + 2 ≤ n → from + n ≤ length code → row (λ i. getD (set (set code (from + p) (d % 256)) (from + p + 1) (d / 256)) (from + i) 0) n ≡ set-u16 (row (λ i. getD code (from + i) 0) n) p d
+rows-set : (code : List ℕ) (from n p d : ℕ) → p + 2 ≤ n → from + n ≤ length code → row
+    (λ i. getD (set (set code (from + p) (d % 256)) (from + p + 1) (d / 256)) (from + i) 0) n ≡ set-u16 (row (λ i. getD code (from + i) 0) n) p d
 unfolding set-u16
 rows-set code from n p d h g =
     let q : from + p + 1 ≡ from + (p + 1) = omega arith in
@@ -75,7 +78,8 @@ patch-far : (place d : ℕ) (span : Span) (x : Compiler) → length (x .ctx .chu
 unfolding patch-jump _>>=_ _>>_ code-length the go-on need
 patch-far place d span x e h = rw (e, lt-leb d 65535 h)
 
-module _ {limit : ℕ} (l place d : ℕ) (span : Span) (t code spans : List ℕ) (fit : Fit (mem t code spans) l limit) (inside : place + 2 ≤ code-len (mem t code spans) l) (is : codeEnd t - codeFrom t l - 2 - place ≡ d) where
+module _ {limit : ℕ} (l place d : ℕ) (span : Span) (t code spans : List ℕ) (fit : Fit (mem t code spans) l limit)
+    (inside : place + 2 ≤ code-len (mem t code spans) l) (is : codeEnd t - codeFrom t l - 2 - place ≡ d) where
   abbrev code′ : List ℕ
   code′ = set (set code (codeFrom t l + place) (d % 256)) (codeFrom t l + place + 1) (d / 256)
 
@@ -88,11 +92,13 @@ module _ {limit : ℕ} (l place d : ℕ) (span : Span) (t code spans : List ℕ)
   view-after rest =
       let ok′ = fit .coded in
       let rs = rows-set code (codeFrom t l) (codeEnd t - codeFrom t l) place d inside (omega (arith, ok′ .roomCode, ok′ .within, ok′ .top)) in
-      let c : chunkAt t code′ spans l (codeEnd t) (runsEnd t) ≡ record { ops = set-u16 (chunkAt t code spans l (codeEnd t) (runsEnd t) .ops) place d; constants = constantsOf t l; spans = chunkAt t code spans l (codeEnd t) (runsEnd t) .spans } =
+      let c : chunkAt t code′ spans l (codeEnd t) (runsEnd t) ≡ record
+      { ops = set-u16 (chunkAt t code spans l (codeEnd t) (runsEnd t) .ops) place d; constants = constantsOf t l; spans = chunkAt t code spans l (codeEnd t) (runsEnd t) .spans } =
       chunk-paths t code spans t code′ spans l (codeEnd t) (runsEnd t) (codeEnd t) (runsEnd t) _ refl refl refl _ rs _ refl in
       let x = ctx-paths t code spans t code′ spans l (codeEnd t) (runsEnd t) (codeEnd t) (runsEnd t) (λ o a b. refl) c refl refl refl in
       let ps : parentsOf t code′ spans l ≡ parentsOf t code spans l = parents-same t code spans t code′ spans l (fit .wf) (fit .low) (λ k o a b. refl) refl refl (ok′ .order) (ok′ .orderRuns)
-      (λ i h. getD-set-other (set code (codeFrom t l + place) (d % 256)) (codeFrom t l + place + 1) i (d / 256) 0 (λ z. omega arith) ∙ getD-set-other code (codeFrom t l + place) i (d % 256) 0 (λ z. omega arith)) (λ i h. refl) in
+      (λ i h. getD-set-other (set code (codeFrom t l + place) (d % 256)) (codeFrom t l + place + 1) i (d / 256) 0 (λ z. omega arith) ∙ getD-set-other code
+      (codeFrom t l + place) i (d % 256) 0 (λ z. omega arith)) (λ i h. refl) in
       sym (λ i. record { ctx = x i; parents = ps i; class-ctx = rest .classes; functions = rest .functions })
 
   pub patched : {class : ℕ} → d ≤ 65535 → Gave class limit l steady (patch-jump place span) tt (mem t code spans) (mem t code′ spans)

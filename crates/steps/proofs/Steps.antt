@@ -33,7 +33,8 @@ pub stuck-to : {class limit l : ℕ} {e : Turn} {m : Compile ℕ} {before now : 
 stuck-to {class} {limit} {l} {e} {m} {before} {now} d q = subst (λ (s : Step). OpenedAs class limit l e m before now s) q (d .does)
 
 -- a place stays a place while the code grows
-pub still : {class limit l : ℕ} (place : ℕ) {A : Type 0} {e : Turn} {m : Compile A} {v : A} {before now : Mem} → place + 2 ≤ code-len before l → Gave class limit l e m v before now → place + 2 ≤ code-len now l
+pub still : {class limit l : ℕ} (place : ℕ) {A : Type 0} {e : Turn} {m : Compile A} {v : A} {before now : Mem} → place + 2 ≤ code-len before l → Gave class
+    limit l e m v before now → place + 2 ≤ code-len now l
 still place h g = le-trans h (g .ahead .up)
 
 -- ## An answer
@@ -146,31 +147,45 @@ module _ {class limit l : ℕ} {e : Turn} {A : Type 0} {m : Compile A} {v : A} {
 -- ## The lines of a `do` block. What stands after `>>` or `>>=` is the first argument, written `_` where it is known
 
 -- a step that stopped is what a longer one comes to
-pub halt : {class limit l n k : ℕ} {e f : Turn} {m : Compile Unit} (next : Compile Unit) {before now : Mem} {r : Step} {x : Refusal} → Did class limit l n e m before now r → r ≡ Stop x → Did class limit l k f (m >> next) before now r
+pub halt : {class limit l n k : ℕ} {e f : Turn} {m : Compile Unit} (next : Compile Unit) {before now : Mem} {r : Step} {x : Refusal} → Did class limit l n e m
+    before now r → r ≡ Stop x → Did class limit l k f (m >> next) before now r
 halt next d q = stopped q (refused-seq (stuck d q) next)
 
-pub then-on : {class limit l n k v : ℕ} {e f : Turn} {m : Compile Unit} (next : Compile Unit) {before mid now : Mem} {r r′ : Step} → Did class limit l n e m before mid r → r ≡ Next v → Did (e .class class) limit l k f next mid now r′ → Did class limit l k (e ⨾ f) (m >> next) before now r′
+pub then-on : {class limit l n k v : ℕ} {e f : Turn} {m : Compile Unit} (next : Compile Unit) {before mid now : Mem} {r r′ : Step} → Did class limit l n e m
+    before mid r → r ≡ Next v → Did (e .class class) limit l k f next mid now r′ → Did class limit l k (e ⨾ f) (m >> next) before now r′
 then-on next d q d′ = did-seq (went d q) next d′
 
 -- towards a place
-pub halt-to : {class limit l n : ℕ} {e f : Turn} {m : Compile Unit} (next : Compile ℕ) {before now : Mem} {r : Step} {x : Refusal} → Did class limit l n e m before now r → r ≡ Stop x → Opened class limit l f (m >> next) before now r
+pub halt-to : {class limit l n : ℕ} {e f : Turn} {m : Compile Unit} (next : Compile ℕ) {before now : Mem} {r : Step} {x : Refusal} → Did class limit l n e m
+    before now r → r ≡ Stop x → Opened class limit l f (m >> next) before now r
 halt-to next d q = stopped-to q (refused-seq (stuck d q) next)
 
-pub then-to : {class limit l n v : ℕ} {e f : Turn} {m : Compile Unit} (next : Compile ℕ) {before mid now : Mem} {r r′ : Step} → Did class limit l n e m before mid r → r ≡ Next v → Opened (e .class class) limit l f next mid now r′ → Opened class limit l (e ⨾ f) (m >> next) before now r′
+pub then-to : {class limit l n v : ℕ} {e f : Turn} {m : Compile Unit} (next : Compile ℕ) {before mid now : Mem} {r r′ : Step} → Did class limit l n e m before
+    mid r → r ≡ Next v → Opened (e .class class) limit l f next mid now r′ → Opened class limit l (e ⨾ f) (m >> next) before now r′
 then-to next d q d′ = opened-seq (went d q) next d′
 
 -- from a place on
-pub halt-at : {class limit l k : ℕ} {e f : Turn} {m : Compile ℕ} (next : ℕ → Compile Unit) {before now : Mem} {r : Step} {x : Refusal} → Opened class limit l e m before now r → r ≡ Stop x → Did class limit l k f (m >>= next) before now r
+pub halt-at : {class limit l k : ℕ} {e f : Turn} {m : Compile ℕ} (next : ℕ → Compile Unit) {before now : Mem} {r : Step} {x : Refusal} → Opened class limit l e
+    m before now r → r ≡ Stop x → Did class limit l k f (m >>= next) before now r
 halt-at next d q = stopped q (refused-bind (stuck-to d q) next)
 
-pub then-at : {class limit l k v : ℕ} {e f : Turn} {m : Compile ℕ} (next : ℕ → Compile Unit) {before mid now : Mem} {r r′ : Step} → Opened class limit l e m before mid r → r ≡ Next v → Did (e .class class) limit l k f (next v) mid now r′ → Did class limit l k (e ⨾ f) (m >>= next) before now r′
+pub then-at : {class limit l k v : ℕ} {e f : Turn} {m : Compile ℕ} (next : ℕ → Compile Unit) {before mid now : Mem} {r r′ : Step} → Opened class limit l e m
+    before mid r → r ≡ Next v → Did (e .class class) limit l k f (next v) mid now r′ → Did class limit l k (e ⨾ f) (m >>= next) before now r′
 then-at next d q d′ = did-bind (went-to d q) next d′
 
 -- a question first
 module _ {class l : ℕ} {A : Type 0} {m : Compile A} {v : A} {before : Mem} (w : Told class l m v before) where
   ask-as : {limit k : ℕ} {e : Turn} (next : A → Compile Unit) {now : Mem} (r : Step) → Did class limit l k e (next v) before now r → DidAs class limit l k e (m >>= next) before now r
   unfolding _>>=_ go-on
-  ask-as next (Next x) d = (record { comes = λ rest q. ap (λ (o : Outcome A). go-on o next) (w .says rest q) ∙ d .does .0 .comes rest q; agrees = d .does .0 .agrees; ahead = d .does .0 .ahead }, d .does .1)
+  ask-as next (Next x) d = (
+    record {
+      comes = λ rest q. ap (λ (o : Outcome A). go-on o next) (w .says rest q) ∙ d .does .0 .comes rest q;
+      agrees =
+          d .does .0 .agrees;
+      ahead = d .does .0 .ahead;
+    },
+    d .does .1,
+  )
   ask-as next (Stop x) d = record { refuses = λ rest q. ap (λ (o : Outcome A). go-on o next) (w .says rest q) ∙ d .does .refuses rest q }
 
   pub ask : {limit k : ℕ} {e : Turn} (next : A → Compile Unit) {now : Mem} {r : Step} → Did class limit l k e (next v) before now r → Did class limit l k e (m >>= next) before now r
@@ -188,7 +203,15 @@ module _ {class l : ℕ} {A : Type 0} {m : Compile A} {v : A} {before : Mem} (w 
 module _ {class l : ℕ} {A : Type 0} {m : Compile A} {v : A} {before : Mem} (w : Told class l m v before) where
   ask-seq-as : {limit k : ℕ} {e : Turn} (next : Compile Unit) {now : Mem} (r : Step) → Did class limit l k e next before now r → DidAs class limit l k e (m >> next) before now r
   unfolding _>>_ go-on
-  ask-seq-as next (Next x) d = (record { comes = λ rest q. ap (λ (o : Outcome A). go-on o (λ _. next)) (w .says rest q) ∙ d .does .0 .comes rest q; agrees = d .does .0 .agrees; ahead = d .does .0 .ahead }, d .does .1)
+  ask-seq-as next (Next x) d = (
+    record {
+      comes = λ rest q. ap (λ (o : Outcome A). go-on o (λ _. next)) (w .says rest q) ∙ d .does .0 .comes rest q;
+      agrees =
+          d .does .0 .agrees;
+      ahead = d .does .0 .ahead;
+    },
+    d .does .1,
+  )
   ask-seq-as next (Stop x) d = record { refuses = λ rest q. ap (λ (o : Outcome A). go-on o (λ _. next)) (w .says rest q) ∙ d .does .refuses rest q }
 
   pub ask-seq : {limit k : ℕ} {e : Turn} (next : Compile Unit) {now : Mem} {r : Step} → Did class limit l k e next before now r → Did class limit l k e (m >> next) before now r
@@ -224,10 +247,12 @@ module _ {A B : Type 0} (m : Compile A) (x : Compiler) where
 
 -- ## A choice, another name, another turn
 
-pub chosen : {class limit l n : ℕ} {e : Turn} (m m′ : Compile Unit) {before now : Mem} {r : Step} (b : Bool) → b ≡ true → Did class limit l n e m before now r → Did class limit l n e (if b then m else m′) before now r
+pub chosen : {class limit l n : ℕ} {e : Turn} (m m′ : Compile Unit) {before now : Mem} {r : Step} (b : Bool) → b ≡ true → Did class limit l n e m before now r →
+    Did class limit l n e (if b then m else m′) before now r
 chosen {class} {limit} {l} {n} {e} m m′ {before} {now} {r} b q d = subst (λ (b : Bool). Did class limit l n e (if b then m else m′) before now r) (sym q) d
 
-pub otherwise : {class limit l n : ℕ} {e : Turn} (m m′ : Compile Unit) {before now : Mem} {r : Step} (b : Bool) → b ≡ false → Did class limit l n e m′ before now r → Did class limit l n e (if b then m else m′) before now r
+pub otherwise : {class limit l n : ℕ} {e : Turn} (m m′ : Compile Unit) {before now : Mem} {r : Step} (b : Bool) → b ≡ false → Did class limit l n e m′ before
+    now r → Did class limit l n e (if b then m else m′) before now r
 otherwise {class} {limit} {l} {n} {e} m m′ {before} {now} {r} b q d = subst (λ (b : Bool). Did class limit l n e (if b then m else m′) before now r) (sym q) d
 
 pub by-name : {class limit l n : ℕ} {e : Turn} {m m′ : Compile Unit} {before now : Mem} {r : Step} → m ≡ m′ → Did class limit l n e m before now r → Did class limit l n e m′ before now r

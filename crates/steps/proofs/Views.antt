@@ -8,7 +8,7 @@ use mathlib.Core.Logic.{⊎-elim}
 use lib.ListN.{length, getD}
 use Rattle.rules.specs.Chunk.{Chunk}
 use Rattle.rules.specs.Compiler.{Local, CompilerCtx, Compiler, with-ctx, with-chunk, with-locals, with-scope-depth, open-code}
-use Rattle.state.specs.Layout.{levels, code-end-at, runs-end-at, image-at, localsOf, codeFrom, runsFrom, codeEnd, runsEnd, chunkAt, ctxAt, parentsOf, Wf, Coded}
+use Rattle.state.specs.Layout.{levels, code-end-at, runs-end-at, image-at, localsOf, codeFrom, runsFrom, codeEnd, runsEnd, chunkAt, ctxAt, parentsOf, Wf, Coded, upvalues-place, constants-place, depth-place, code-from-place, runs-from-place, type-place, level-words}
 use Rattle.state.specs.Contracts.{Kept}
 use Rattle.state.proofs.Laws.{length-row, kept-off, ctx-paths, chunk-same, upvalues-same, locals-same, parents-named}
 use Rattle.steps.specs.View.{Mem, mem, t-of, Rest, view, Agrees, Fit, code-len, depth-at, Turn, steady, Ahead}
@@ -31,7 +31,8 @@ abbrev at-level : (t code spans : List ℕ) → (l ce re : ℕ) → Rest → Com
 at-level t code spans l ce re rest = record { ctx = ctxAt t code spans l ce re; parents = parentsOf t code spans l; class-ctx = rest .classes; functions = rest .functions }
 
 -- the code of the open functions, summed, ends where the innermost one's does
-open-at : (t code spans : List ℕ) (rest : Rest) (l ce re : ℕ) → codeFrom t 0 ≡ 0 → ((k : ℕ) → k < l → codeFrom t k ≤ codeFrom t (suc k)) → codeFrom t l ≤ ce → open-code (at-level t code spans l ce re rest) ≡ ce
+open-at : (t code spans : List ℕ) (rest : Rest) (l ce re : ℕ) → codeFrom t 0 ≡ 0 → ((k : ℕ) → k < l → codeFrom t k ≤ codeFrom t (suc k)) → codeFrom t l ≤ ce →
+    open-code (at-level t code spans l ce re rest) ≡ ce
 unfolding parentsOf
 open-at t code spans rest zero ce re z ord top = omega (arith, last-code (at-level t code spans zero ce re rest) refl, ops-length t code spans zero ce re)
 open-at t code spans rest (suc l) ce re z ord top =
@@ -61,12 +62,13 @@ still-agrees e h = record { innermost = h .innermost; made = h .made ∙ sym e }
 
 -- a change of the table that is neither a start of code or runs nor an end of them
 module _ (e : Turn) (t code spans t′ : List ℕ) (l limit : ℕ) (fit : Fit (mem t code spans) l limit) (wf′ : Wf t′)
-    (deep : getD t′ (l * 1024 + 771) 0 ≡ e .depth (getD t (l * 1024 + 771) 0))
-    (head : (o : ℕ) → 772 ≤ o → o ≤ 776 → getD t′ (l * 1024 + o) 0 ≡ getD t (l * 1024 + o) 0)
-    (under : (k o : ℕ) → k < l → 771 ≤ o → o ≤ 776 → getD t′ (k * 1024 + o) 0 ≡ getD t (k * 1024 + o) 0)
-    (ends : (i : ℕ) → suc l * 1024 ≤ i → getD t′ i 0 ≡ getD t i 0) where
-  words : (k o : ℕ) → k ≤ l → 772 ≤ o → o ≤ 776 → getD t′ (k * 1024 + o) 0 ≡ getD t (k * 1024 + o) 0
-  words k o h a b = ⊎-elim (λ (q : k ≡ l). subst (λ (j : ℕ). getD t′ (j * 1024 + o) 0 ≡ getD t (j * 1024 + o) 0) (sym q) (head o a b)) (λ (q : k < l). under k o q (omega arith) b) (eq-or-lt-of-le h)
+    (deep : getD t′ (l * level-words + depth-place) 0 ≡ e .depth (getD t (l * level-words + depth-place) 0))
+    (head : (o : ℕ) → code-from-place ≤ o → o ≤ type-place → getD t′ (l * level-words + o) 0 ≡ getD t (l * level-words + o) 0)
+    (under : (k o : ℕ) → k < l → depth-place ≤ o → o ≤ type-place → getD t′ (k * level-words + o) 0 ≡ getD t (k * level-words + o) 0)
+    (ends : (i : ℕ) → suc l * level-words ≤ i → getD t′ i 0 ≡ getD t i 0) where
+  words : (k o : ℕ) → k ≤ l → code-from-place ≤ o → o ≤ type-place → getD t′ (k * level-words + o) 0 ≡ getD t (k * level-words + o) 0
+  words k o h a b = ⊎-elim (λ (q : k ≡ l). subst (λ (j : ℕ). getD t′ (j * level-words + o) 0 ≡ getD t (j * level-words + o) 0) (sym q) (head o a b))
+      (λ (q : k < l). under k o q (omega arith) b) (eq-or-lt-of-le h)
 
   coded-same : Coded t′ code spans l limit
   coded-same =
@@ -79,19 +81,25 @@ module _ (e : Turn) (t code spans t′ : List ℕ) (l limit : ℕ) (fit : Fit (m
         roomRuns = ok′ .roomRuns;
         within = omega (arith, ok′ .within);
         fewer = omega (arith, ok′ .fewer);
-        fewerAt = λ k z. omega (arith, words k 772 z (omega arith) (omega arith), words k 773 z (omega arith) (omega arith), ok′ .fewerAt k z);
-        fromZero = words 0 772 (omega arith) (omega arith) (omega arith) ∙ ok′ .fromZero;
-        top = omega (arith, ok′ .top, words l 772 (omega arith) (omega arith) (omega arith));
-        topRuns = omega (arith, ok′ .topRuns, words l 773 (omega arith) (omega arith) (omega arith));
-        order = λ k z. omega (arith, words k 772 (omega arith) (omega arith) (omega arith), words (suc k) 772 (omega arith) (omega arith) (omega arith), ok′ .order k z);
-        orderRuns = λ k z. omega (arith, words k 773 (omega arith) (omega arith) (omega arith), words (suc k) 773 (omega arith) (omega arith) (omega arith), ok′ .orderRuns k z);
+        fewerAt = λ k z. omega (arith, words k code-from-place z (omega arith) (omega arith), words k runs-from-place z (omega arith) (omega arith), ok′ .fewerAt k z);
+        fromZero = words 0 code-from-place (omega arith) (omega arith) (omega arith) ∙ ok′ .fromZero;
+        top = omega (arith, ok′ .top, words l code-from-place (omega arith) (omega arith) (omega arith));
+        topRuns = omega (arith, ok′ .topRuns, words l runs-from-place (omega arith) (omega arith) (omega arith));
+        order = λ k z. omega (arith, words k code-from-place (omega arith) (omega arith) (omega arith), words (suc k) code-from-place (omega arith) (omega arith) (omega arith), ok′ .order k z);
+        orderRuns = λ k z. omega (
+          arith,
+          words k runs-from-place (omega arith) (omega arith) (omega arith),
+          words (suc k) runs-from-place (omega arith)
+              (omega arith) (omega arith),
+          ok′ .orderRuns k z,
+        );
       }
 
   pub ahead-named : Ahead l limit e (mem t code spans) (mem t′ code spans)
   unfolding code-len depth-at
   ahead-named = record {
     fit = record { low = fit .low; wf = wf′; coded = coded-same };
-    up = let low = fit .low in omega (arith, ends code-end-at (omega arith), head 772 (omega arith) (omega arith));
+    up = let low = fit .low in omega (arith, ends code-end-at (omega arith), head code-from-place (omega arith) (omega arith));
     deep = deep;
     head = head;
     under = under;
@@ -100,50 +108,60 @@ module _ (e : Turn) (t code spans t′ : List ℕ) (l limit : ℕ) (fit : Fit (m
   }
 
 -- the same of a change within the level's names
-pub ahead-kept : (t code spans t′ : List ℕ) (l limit lo hi : ℕ) → Fit (mem t code spans) l limit → Wf t′ → Kept (l * 1024 + lo) (l * 1024 + hi) t t′ → hi ≤ 771 → Ahead l limit steady (mem t code spans) (mem t′ code spans)
+pub ahead-kept : (t code spans t′ : List ℕ) (l limit lo hi : ℕ) → Fit (mem t code spans) l limit → Wf t′ → Kept (l * level-words + lo) (l * level-words + hi) t
+    t′ → hi ≤ depth-place → Ahead l limit steady (mem t code spans) (mem t′ code spans)
 ahead-kept t code spans t′ l limit lo hi fit wf′ kp h =
     let low = fit .low in
-    ahead-named steady t code spans t′ l limit fit wf′ (kp .above _ (omega arith)) (λ o a b. kp .above _ (omega arith)) (λ k o a b c. kept-off _ _ t t′ _ kp (λ x y. omega arith)) (λ i a. kp .above _ (omega arith))
+    ahead-named steady t code spans t′ l limit fit wf′ (kp .above _ (omega arith)) (λ o a b. kp .above _ (omega arith))
+    (λ k o a b c. kept-off _ _ t t′ _ kp (λ x y. omega arith)) (λ i a. kp .above _ (omega arith))
 
 -- ## One context changes
 
 -- the contexts around are the same after a change within the level
-pub around-kept : (t t′ : List ℕ) (l lo hi : ℕ) → Wf t → l < levels → Kept (l * 1024 + lo) (l * 1024 + hi) t t′ → hi ≤ 772 → (code spans : List ℕ) → parentsOf t′ code spans l ≡ parentsOf t code spans l
+pub around-kept : (t t′ : List ℕ) (l lo hi : ℕ) → Wf t → l < levels → Kept (l * level-words + lo) (l * level-words + hi) t t′ → hi ≤ code-from-place →
+    (code spans : List ℕ) → parentsOf t′ code spans l ≡ parentsOf t code spans l
 around-kept t t′ l lo hi wf low kp h code spans =
     parents-named t t′ l wf low (λ k o a b. kept-off _ _ t t′ _ kp (λ x y. omega arith)) (kp .above _ (omega arith)) (kp .above _ (omega arith)) code spans
 
-pub view-with : (t code spans t′ : List ℕ) (l : ℕ) (c : CompilerCtx) → codeEnd t′ ≡ codeEnd t → runsEnd t′ ≡ runsEnd t → parentsOf t′ code spans l ≡ parentsOf t code spans l → ctxAt t′ code spans l (codeEnd t) (runsEnd t) ≡ c → (rest : Rest) → view (mem t′ code spans) l rest ≡ with-ctx (view (mem t code spans) l rest) c
+pub view-with : (t code spans t′ : List ℕ) (l : ℕ) (c : CompilerCtx) → codeEnd t′ ≡ codeEnd t → runsEnd t′ ≡ runsEnd t → parentsOf t′ code spans l ≡ parentsOf t
+    code spans l → ctxAt t′ code spans l (codeEnd t) (runsEnd t) ≡ c → (rest : Rest) → view (mem t′ code spans) l rest ≡ with-ctx (view (mem t code spans) l rest) c
 unfolding view
 view-with t code spans t′ l c ce re ps e rest =
     let q : ctxAt t′ code spans l (codeEnd t′) (runsEnd t′) ≡ c = ap₂ (ctxAt t′ code spans l) ce re ∙ e in
     λ i. record { ctx = q i; parents = ps i; class-ctx = rest .classes; functions = rest .functions }
 
 -- only its locals
-pub view-locals : (t code spans t′ : List ℕ) (l hi : ℕ) (ls : List Local) → Wf t → l < levels → Kept (l * 1024) (l * 1024 + hi) t t′ → hi ≤ 257 → localsOf t′ l ≡ ls → (rest : Rest) → view (mem t′ code spans) l rest ≡ with-ctx (view (mem t code spans) l rest) (with-locals (view (mem t code spans) l rest .ctx) ls)
+pub view-locals : (t code spans t′ : List ℕ) (l hi : ℕ) (ls : List Local) → Wf t → l < levels → Kept (l * level-words) (l * level-words + hi) t t′ → hi ≤
+    upvalues-place → localsOf t′ l ≡ ls → (rest : Rest) → view (mem t′ code spans) l rest ≡ with-ctx (view (mem t code spans) l rest) (with-locals (view (mem t code spans) l rest .ctx) ls)
 unfolding view ctxAt
 view-locals t code spans t′ l hi ls wf low kp h e rest =
-    let at : (o : ℕ) → 257 ≤ o → getD t′ (l * 1024 + o) 0 ≡ getD t (l * 1024 + o) 0 = λ o a. kp .above _ (omega arith) in
-    let kp′ : Kept (l * 1024 + 0) (l * 1024 + hi) t t′ = record { below = λ i a. kp .below i (omega arith); above = kp .above } in
+    let at : (o : ℕ) → upvalues-place ≤ o → getD t′ (l * level-words + o) 0 ≡ getD t (l * level-words + o) 0 = λ o a. kp .above _ (omega arith) in
+    let kp′ : Kept (l * level-words + 0) (l * level-words + hi) t t′ = record { below = λ i a. kp .below i (omega arith); above = kp .above } in
     view-with t code spans t′ l _ (kp .above _ (omega arith)) (kp .above _ (omega arith)) (around-kept t t′ l 0 hi wf low kp′ (omega arith) code spans)
     (ctx-paths t code spans t′ code spans l (codeEnd t) (runsEnd t) (codeEnd t) (runsEnd t) (λ o a b. at o (omega arith))
     (chunk-same t code spans t′ code spans l (codeEnd t) (runsEnd t) (wf .fewConstants l low) (λ o a b n. at o (omega arith)) (λ i z. refl) (λ i z. refl))
-    e (upvalues-same t t′ l (wf .fewUpvalues l low) (λ o a b. at o (omega arith))) (at 771 (omega arith))) rest
+    e (upvalues-same t t′ l (wf .fewUpvalues l low) (λ o a b. at o (omega arith))) (at depth-place (omega arith))) rest
 
 -- only its chunk
-pub view-chunk : (t code spans t′ : List ℕ) (l : ℕ) (c : Chunk) → Wf t → l < levels → Kept (l * 1024 + 514) (l * 1024 + 771) t t′ → chunkAt t′ code spans l (codeEnd t) (runsEnd t) ≡ c → (rest : Rest) → view (mem t′ code spans) l rest ≡ with-ctx (view (mem t code spans) l rest) (with-chunk (view (mem t code spans) l rest .ctx) c)
+pub view-chunk : (t code spans t′ : List ℕ) (l : ℕ) (c : Chunk) → Wf t → l < levels → Kept (l * level-words + constants-place) (l * level-words + depth-place) t
+    t′ → chunkAt t′ code spans l (codeEnd t) (runsEnd t) ≡ c → (rest : Rest) → view (mem t′ code spans) l rest ≡ with-ctx (view (mem t code spans) l rest)
+    (with-chunk (view (mem t code spans) l rest .ctx) c)
 unfolding view ctxAt
 view-chunk t code spans t′ l c wf low kp e rest =
-    let at : (o : ℕ) → (514 ≤ o → o < 771 → ⊥) → getD t′ (l * 1024 + o) 0 ≡ getD t (l * 1024 + o) 0 = λ o off. kept-off _ _ t t′ _ kp (λ x y. off (omega arith) (omega arith)) in
-    view-with t code spans t′ l _ (kp .above _ (omega arith)) (kp .above _ (omega arith)) (around-kept t t′ l 514 771 wf low kp (omega arith) code spans)
+    let at : (o : ℕ) → (constants-place ≤ o → o < depth-place → ⊥) → getD t′ (l * level-words + o) 0 ≡ getD t (l * level-words + o) 0 = λ o off. kept-off _ _ t
+    t′ _ kp (λ x y. off (omega arith) (omega arith)) in
+    view-with t code spans t′ l _ (kp .above _ (omega arith)) (kp .above _ (omega arith)) (around-kept t t′ l constants-place depth-place wf low kp (omega arith) code spans)
     (ctx-paths t code spans t′ code spans l (codeEnd t) (runsEnd t) (codeEnd t) (runsEnd t) (λ o a b. at o (λ x y. omega arith)) e
-    (locals-same t t′ l (wf .fewLocals l low) (λ o a. at o (λ x y. omega arith))) (upvalues-same t t′ l (wf .fewUpvalues l low) (λ o a b. at o (λ x y. omega arith))) (at 771 (λ x y. omega arith))) rest
+    (locals-same t t′ l (wf .fewLocals l low) (λ o a. at o (λ x y. omega arith)))
+    (upvalues-same t t′ l (wf .fewUpvalues l low) (λ o a b. at o (λ x y. omega arith))) (at depth-place (λ x y. omega arith))) rest
 
 -- only its depth
-pub view-scope : (t code spans t′ : List ℕ) (l d : ℕ) → Wf t → l < levels → Kept (l * 1024 + 771) (l * 1024 + 772) t t′ → getD t′ (l * 1024 + 771) 0 ≡ d → (rest : Rest) → view (mem t′ code spans) l rest ≡ with-ctx (view (mem t code spans) l rest) (with-scope-depth (view (mem t code spans) l rest .ctx) d)
+pub view-scope : (t code spans t′ : List ℕ) (l d : ℕ) → Wf t → l < levels → Kept (l * level-words + depth-place) (l * level-words + code-from-place) t t′ → getD
+    t′ (l * level-words + depth-place) 0 ≡ d → (rest : Rest) → view (mem t′ code spans) l rest ≡ with-ctx (view (mem t code spans) l rest) (with-scope-depth (view (mem t code spans) l rest .ctx) d)
 unfolding view ctxAt
 view-scope t code spans t′ l d wf low kp e rest =
-    let at : (o : ℕ) → (o ≡ 771 → ⊥) → getD t′ (l * 1024 + o) 0 ≡ getD t (l * 1024 + o) 0 = λ o off. kept-off _ _ t t′ _ kp (λ x y. off (omega arith)) in
-    view-with t code spans t′ l _ (kp .above _ (omega arith)) (kp .above _ (omega arith)) (around-kept t t′ l 771 772 wf low kp (omega arith) code spans)
+    let at : (o : ℕ) → (o ≡ depth-place → ⊥) → getD t′ (l * level-words + o) 0 ≡ getD t (l * level-words + o) 0 = λ o off. kept-off _ _ t t′ _ kp (λ x y. off (omega arith)) in
+    view-with t code spans t′ l _ (kp .above _ (omega arith)) (kp .above _ (omega arith)) (around-kept t t′ l depth-place code-from-place wf low kp (omega arith) code spans)
     (ctx-paths t code spans t′ code spans l (codeEnd t) (runsEnd t) (codeEnd t) (runsEnd t) (λ o a b. at o (λ z. omega arith))
     (chunk-same t code spans t′ code spans l (codeEnd t) (runsEnd t) (wf .fewConstants l low) (λ o a b n. at o n) (λ i z. refl) (λ i z. refl))
     (locals-same t t′ l (wf .fewLocals l low) (λ o a. at o (λ z. omega arith))) (upvalues-same t t′ l (wf .fewUpvalues l low) (λ o a b. at o (λ z. omega arith))) e) rest

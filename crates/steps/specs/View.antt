@@ -10,7 +10,7 @@ use Rattle.rules.specs.declared.Refusal.the-variants.{CodeFull}
 use Rattle.rules.specs.Chunk.{ObjectFunction}
 use Rattle.rules.specs.Compiler.{Upvalue as Captured}
 use Rattle.rules.specs.Compiler.{emit-upvalues, Compiler, new, new-ctx, finish, end-ctx, ends-in-return, ok, err, Compile, _>>=_, the, local-at, upvalue-at, global-named, resolve, code-length, begin-ctx, pop-locals}
-use Rattle.state.specs.Layout.{levels, image-at, codeFrom, codeEnd, runsEnd, ctxAt, parentsOf, type-of, Wf, Coded, code-end-at, upvalueOf, upvaluesOf}
+use Rattle.state.specs.Layout.{levels, image-at, codeFrom, codeEnd, runsEnd, ctxAt, parentsOf, type-of, Wf, Coded, code-end-at, upvalueOf, upvaluesOf, depth-place, code-from-place, type-place, level-words, local-count-place}
 use Rattle.state.specs.Contracts.{Kept}
 use Rattle.steps.specs.declared.Step.{Step}
 use Rattle.steps.specs.declared.Step.the-variants.{Next, Stop}
@@ -71,7 +71,7 @@ unfoldable pub code-len : Mem → ℕ → ℕ
 code-len (mem t code spans) l = codeEnd t - codeFrom t l
 
 unfoldable pub depth-at : Mem → ℕ → ℕ
-depth-at (mem t code spans) l = getD t (l * 1024 + 771) 0
+depth-at (mem t code spans) l = getD t (l * level-words + depth-place) 0
 
 -- ## A step
 
@@ -102,9 +102,9 @@ pub record Ahead (l limit : ℕ) (e : Turn) (before now : Mem) : Type 0 where
   pub up : code-len before l ≤ code-len now l
   pub deep : depth-at now l ≡ e .depth (depth-at before l)
   -- starts of code and runs, name, arity and type
-  pub head : (o : ℕ) → 772 ≤ o → o ≤ 776 → getD (t-of now) (l * 1024 + o) 0 ≡ getD (t-of before) (l * 1024 + o) 0
-  pub under : (k o : ℕ) → k < l → 771 ≤ o → o ≤ 776 → getD (t-of now) (k * 1024 + o) 0 ≡ getD (t-of before) (k * 1024 + o) 0
-  pub over : e .aloof ≡ true → (i : ℕ) → suc l * 1024 ≤ i → i < code-end-at → getD (t-of now) i 0 ≡ getD (t-of before) i 0
+  pub head : (o : ℕ) → code-from-place ≤ o → o ≤ type-place → getD (t-of now) (l * level-words + o) 0 ≡ getD (t-of before) (l * level-words + o) 0
+  pub under : (k o : ℕ) → k < l → depth-place ≤ o → o ≤ type-place → getD (t-of now) (k * level-words + o) 0 ≡ getD (t-of before) (k * level-words + o) 0
+  pub over : e .aloof ≡ true → (i : ℕ) → suc l * level-words ≤ i → i < code-end-at → getD (t-of now) i 0 ≡ getD (t-of before) i 0
   -- the image writer's words
   pub beyond : e .aloof ≡ true → (i : ℕ) → image-at ≤ i → getD (t-of now) i 0 ≡ getD (t-of before) i 0
 
@@ -181,7 +181,7 @@ pub record Passing (limit l : ℕ) (p : Compile Unit) (before now : Mem) : Type 
 abbrev pub PoppedAs : (limit l : ℕ) → Span → (before now : Mem) → Popped → Type 0
 PoppedAs limit l span before now popped.Stop = (class : ℕ) → Gave class limit l steady (pops limit span) tt before now
 PoppedAs limit l span before now popped.Full = (class : ℕ) → Refused class l (pops limit span) before CodeFull
-PoppedAs limit l span before now popped.More = Passing limit l (pops limit span) before now × (getD (t-of now) (l * 1024 + 256) 0 < getD (t-of before) (l * 1024 + 256) 0)
+PoppedAs limit l span before now popped.More = Passing limit l (pops limit span) before now × (getD (t-of now) (l * level-words + local-count-place) 0 < getD (t-of before) (l * level-words + local-count-place) 0)
 
 pub record PoppedAt (limit l : ℕ) (span : Span) (before now : Mem) (r : Popped) : Type 0 where
   pub does : PoppedAs limit l span before now r
@@ -193,7 +193,7 @@ pub record Entered (l name arity kind : ℕ) (t t′ : List ℕ) : Type 0 where
   pub comes : (code spans : List ℕ) (rest : Rest) → begin-ctx (new-ctx name arity (type-of kind) (depth-at (mem t code spans) l + 1)) (view (mem t code spans) l rest) ≡ ok tt (view (mem t′ code spans) (suc l) rest)
   pub deep : (code spans : List ℕ) → depth-at (mem t′ code spans) (suc l) ≡ depth-at (mem t code spans) l + 1
   -- nothing of the levels below is changed, nor what lies after the levels
-  pub kept : Kept (suc l * 1024) (suc l * 1024 + 1024) t t′
+  pub kept : Kept (suc l * level-words) (suc l * level-words + level-words) t t′
 
 -- ## What asks for no area
 

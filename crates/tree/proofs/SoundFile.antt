@@ -18,12 +18,13 @@ use Rattle.rules.specs.Entry.{refused, from-outcome, from-read, compile-tree}
 use Rattle.rules.specs.TreeFile.{read-stmts, read-stmt, read-names, read-tree}
 use Rattle.fields.specs.Words.{word16, letters}
 use Rattle.fields.proofs.Reading.{bad-got}
-use Rattle.tree.specs.Places.{place}
+use Rattle.tree_small.specs.Places.{place}
 use Rattle.tree.specs.Checked.{place-or-0, script-of, checked, checked-file}
 use Rattle.tree.specs.declared.Script.{Script}
 use Rattle.tree.specs.declared.Checked.{Checked}
 use Rattle.tree.proofs.Whole.{file-cut, mark-not, too-many, from-names, from-stmts}
 use Rattle.tree.proofs.Found.{first, got-thing, got-next}
+use Rattle.fields.specs.Marks as marks
 
 pub record SoundFile (tree : List ℕ) (depth funs : ℕ) (script : Script) : Type 0 where
   pub bound : 6 ≤ length tree
@@ -59,7 +60,7 @@ module _ (tree : List ℕ) (depth funs : ℕ) where
             ap (got (y .thing)) (z .0) ∙ ap (λ s. got s (length tree)) (got-thing (z .1));
       }
 
-  sound-if : (c m k : Bool) → leb 6 (length tree) ≡ c → eqb (letters tree 0) 0x5452 ≡ m → leb (word16 tree 2) max-names ≡ k
+  sound-if : (c m k : Bool) → leb 6 (length tree) ≡ c → eqb (letters tree 0) marks.TR ≡ m → leb (word16 tree 2) max-names ≡ k
       → {stmts : Stmts} {n : ℕ} → read-tree tree depth funs ≡ got stmts n → SoundFile tree depth funs (script-of tree)
   unfolding script-of
   sound-if false m k h e l r = absurd (bad-got (sym (file-cut tree depth funs (leb-false 6 (length tree) h)) ∙ r))

@@ -17,13 +17,14 @@ use Rattle.rules.specs.Reader.{Read, got, bad, Reader, go-on, _>>=_, _>>_, retu
 use Rattle.rules.specs.TreeFile.{read-stmts, read-stmt, read-names, read-file, read-tree}
 use Rattle.fields.specs.Words.{word16, letters}
 use Rattle.fields.proofs.Reading.{a-u16, then-on, then-bad, mark-is-it, mark-is-not, mark-is-cut}
-use Rattle.tree.specs.Places.{place, row}
-use Rattle.tree.specs.Stmts.{stmt-place}
+use Rattle.tree_small.specs.Places.{place, row}
+use Rattle.tree_stmts.specs.Stmts.{stmt-place}
 use Rattle.tree.specs.Checked.{place-or-0, script-of, ends, checked}
-use Rattle.tree.specs.declared.Step.{Step}
+use Rattle.tree_small.specs.declared.Step.{Step}
 use Rattle.tree.specs.declared.Checked.{Checked}
-use Rattle.tree.proofs.Texts.{was-bad, bad-at}
-use Rattle.tree.proofs.Statements.{stmts-place}
+use Rattle.tree_names.proofs.Texts.{was-bad, bad-at}
+use Rattle.tree_stmts.proofs.Statements.{stmts-place}
+use Rattle.fields.specs.Marks as marks
 
 module _ (tree : List ℕ) (depth funs : ℕ) where
   -- what comes after the names
@@ -32,23 +33,23 @@ module _ (tree : List ℕ) (depth funs : ℕ) where
 
   mark-cut : length tree < 2 → read-tree tree depth funs ≡ bad (TreeForm 0)
   unfolding read-tree read-file _>>_
-  mark-cut h = then-bad _ (mark-is-cut tree (TreeForm 0) 0x5452 0 h)
+  mark-cut h = then-bad _ (mark-is-cut tree (TreeForm 0) marks.TR 0 h)
 
-  pub mark-not : 2 ≤ length tree → (letters tree 0 ≡ 0x5452 → ⊥) → read-tree tree depth funs ≡ bad (TreeForm 0)
+  pub mark-not : 2 ≤ length tree → (letters tree 0 ≡ marks.TR → ⊥) → read-tree tree depth funs ≡ bad (TreeForm 0)
   unfolding read-tree read-file _>>_
-  mark-not h n = then-bad _ (mark-is-not tree (TreeForm 0) 0x5452 0 h n)
+  mark-not h n = then-bad _ (mark-is-not tree (TreeForm 0) marks.TR 0 h n)
 
-  names-cut : 2 ≤ length tree → letters tree 0 ≡ 0x5452 → length tree < 4 → read-tree tree depth funs ≡ bad (TreeForm 0)
+  names-cut : 2 ≤ length tree → letters tree 0 ≡ marks.TR → length tree < 4 → read-tree tree depth funs ≡ bad (TreeForm 0)
   unfolding read-tree read-file _>>_ _>>=_
-  names-cut h e l = then-on _ (mark-is-it tree (TreeForm 0) 0x5452 0 h e) ∙ then-bad _ (a-u16 tree .short (TreeForm 0) 2 l)
+  names-cut h e l = then-on _ (mark-is-it tree (TreeForm 0) marks.TR 0 h e) ∙ then-bad _ (a-u16 tree .short (TreeForm 0) 2 l)
 
-  count-cut : letters tree 0 ≡ 0x5452 → 4 ≤ length tree → length tree < 6 → read-tree tree depth funs ≡ bad (TreeForm 0)
+  count-cut : letters tree 0 ≡ marks.TR → 4 ≤ length tree → length tree < 6 → read-tree tree depth funs ≡ bad (TreeForm 0)
   unfolding read-tree read-file _>>_ _>>=_
   count-cut e h l =
-      then-on _ (mark-is-it tree (TreeForm 0) 0x5452 0 (omega arith) e) ∙ then-on _ (a-u16 tree .whole (TreeForm 0) 2 h) ∙
+      then-on _ (mark-is-it tree (TreeForm 0) marks.TR 0 (omega arith) e) ∙ then-on _ (a-u16 tree .whole (TreeForm 0) 2 h) ∙
       then-bad _ (a-u16 tree .short (TreeForm 0) 4 l)
 
-  cut-if : (t s u : Bool) → leb 2 (length tree) ≡ t → eqb (letters tree 0) 0x5452 ≡ s → leb 4 (length tree) ≡ u → length tree < 6 → read-tree tree depth funs ≡ bad (TreeForm 0)
+  cut-if : (t s u : Bool) → leb 2 (length tree) ≡ t → eqb (letters tree 0) marks.TR ≡ s → leb 4 (length tree) ≡ u → length tree < 6 → read-tree tree depth funs ≡ bad (TreeForm 0)
   cut-if false s u h e g l = mark-cut (leb-false 2 (length tree) h)
   cut-if true false u h e g l = mark-not (leb-true 2 (length tree) h) (eqb-false _ _ e)
   cut-if true true false h e g l = names-cut (leb-true 2 (length tree) h) (eqb-true _ _ e) (leb-false 4 (length tree) g)
@@ -57,17 +58,17 @@ module _ (tree : List ℕ) (depth funs : ℕ) where
   pub file-cut : length tree < 6 → read-tree tree depth funs ≡ bad (TreeForm 0)
   file-cut l = cut-if _ _ _ refl refl refl l
 
-  module _ (h : 6 ≤ length tree) (e : letters tree 0 ≡ 0x5452) where
+  module _ (h : 6 ≤ length tree) (e : letters tree 0 ≡ marks.TR) where
     pub too-many : max-names < word16 tree 2 → read-tree tree depth funs ≡ bad (TreeForm 0)
     unfolding read-tree read-file _>>_ _>>=_ need
     too-many l =
-        then-on _ (mark-is-it tree (TreeForm 0) 0x5452 0 (omega arith) e) ∙ then-on _ (a-u16 tree .whole (TreeForm 0) 2 (omega arith)) ∙
+        then-on _ (mark-is-it tree (TreeForm 0) marks.TR 0 (omega arith) e) ∙ then-on _ (a-u16 tree .whole (TreeForm 0) 2 (omega arith)) ∙
         then-on _ (a-u16 tree .whole (TreeForm 0) 4 h) ∙ then-bad _ (ap (λ (t : Bool). need t (TreeForm 0) 6) (lt-leb (word16 tree 2) max-names l))
 
     pub from-names : word16 tree 2 ≤ max-names → read-tree tree depth funs ≡ go-on (read-names tree (word16 tree 2) none 6) (λ _. from-stmts)
     unfolding read-tree read-file _>>_ _>>=_ need
     from-names l =
-        then-on _ (mark-is-it tree (TreeForm 0) 0x5452 0 (omega arith) e) ∙ then-on _ (a-u16 tree .whole (TreeForm 0) 2 (omega arith)) ∙
+        then-on _ (mark-is-it tree (TreeForm 0) marks.TR 0 (omega arith) e) ∙ then-on _ (a-u16 tree .whole (TreeForm 0) 2 (omega arith)) ∙
         then-on _ (a-u16 tree .whole (TreeForm 0) 4 h) ∙ then-on _ (ap (λ (t : Bool). need t (TreeForm 0) 6) (le-leb (word16 tree 2) max-names l))
 
     pub names-bad : word16 tree 2 ≤ max-names → {t : Step} {x : Refusal} → t ≡ place (read-names tree (word16 tree 2) none 6) → t ≡ Step.Bad x → read-tree tree depth funs ≡ bad x

@@ -11,8 +11,8 @@ use Rattle.rules.specs.Tree.{Stmts}
 use Rattle.rules.specs.Reader.{Read, got, bad}
 use Rattle.rules.specs.TreeFile.{read-names, read-tree}
 use Rattle.fields.specs.Words.{word16}
-use Rattle.tree.specs.Places.{place}
-use Rattle.tree.specs.declared.Step.{Step}
+use Rattle.tree_small.specs.Places.{place}
+use Rattle.tree_small.specs.declared.Step.{Step}
 use Rattle.tree.specs.declared.Script.{Script}
 use Rattle.tree.specs.declared.Checked.{Checked}
 

@@ -3,48 +3,12 @@
 ghost use mathlib.Core.Path.{_≡_};
 ghost use Rattle.rules.specs.TreeFile.{read-tree};
 ghost use Rattle.tree.specs.Checked.{ends, checked, checked-file};
-
-mod exprs;
-mod names;
-mod small;
-mod stmts;
-
+use fields::Mark;
+use rules::Limit;
 use rules::Refusal;
-
-// A field's number, or that it is cut or out of range.
-pub enum Field {
-    Is(usize),
-    No,
-}
-
-// Where the next byte to read is, or why there is none.
-pub enum Step {
-    At(usize),
-    Bad(Refusal),
-}
-
-// What an expression's fields announce: from where and how many expressions follow.
-pub enum Opened {
-    Exprs(usize, usize),
-    Bad(Refusal),
-}
-
-// What a statement's fields announce. From `at` on stand `init` statements, `cond` expressions, `body` records and `incr` expressions,
-// the statements with `funs` more `SF` to open in them; the records of the body are `methods`, or statements.
-pub struct Plan {
-    pub at: usize,
-    pub init: usize,
-    pub cond: usize,
-    pub body: usize,
-    pub incr: usize,
-    pub funs: usize,
-    pub methods: bool,
-}
-
-pub enum Head {
-    Kids(Plan),
-    Bad(Refusal),
-}
+use tree_names::check_names;
+use tree_small::Step;
+use tree_stmts::check_stmts;
 
 // Where a sound file's statements stand: how many names there are, how many statements, and the place of the first.
 pub struct Script {
@@ -65,19 +29,19 @@ pub fn read_within(tree: &[u8], depth: usize, funs: usize) -> Checked
     if !fields::has(tree, 0, 6) {
         return Checked::Bad(Refusal::TreeForm(0));
     }
-    if fields::mark_at(tree, 0) != 0x5452 {
+    if fields::mark_at(tree, 0) != Mark::TREE {
         return Checked::Bad(Refusal::TreeForm(0));
     }
     let names = fields::u16_at(tree, 2);
     let count = fields::u16_at(tree, 4);
-    if 4096 < names {
+    if Limit::NAMES < names {
         return Checked::Bad(Refusal::TreeForm(0));
     }
-    match names::check_names(tree, names, 6) {
+    match check_names(tree, names, 6) {
         Step::Bad(r) => Checked::Bad(r),
         Step::At(at) => to_the_end(
             tree,
-            stmts::check_stmts(tree, names, depth, funs, false, count as usize, at),
+            check_stmts(tree, names, depth, funs, false, count as usize, at),
             Script { names, count, at },
         ),
     }
@@ -98,19 +62,12 @@ fn to_the_end(tree: &[u8], step: Step, script: Script) -> Checked
     }
 }
 
-// The limits that the rules set.
-const DEPTH: usize = 128;
-
-const FUNS: usize = 16;
-
-const MAX_TREE: usize = 1048576;
-
 // The whole file, with 2 before all else.
 pub fn read(tree: &[u8]) -> Checked
     ensures { λ r. ⌜ r ≡ checked-file (now (tree .entry)) ⌝ }
 {
-    if MAX_TREE < tree.len() {
+    if Limit::TREE_BYTES < tree.len() {
         return Checked::Bad(Refusal::TreeTooLong);
     }
-    read_within(tree, DEPTH, FUNS)
+    read_within(tree, Limit::DEPTH, Limit::FUNS)
 }

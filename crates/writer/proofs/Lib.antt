@@ -1,3 +1,4 @@
 -- Laws of what the output holds.
 pub mod Padding
 pub mod Records
+pub mod Header

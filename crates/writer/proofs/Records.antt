@@ -8,7 +8,7 @@ use Rattle.rules.specs.Base.{le}
 use Rattle.rules.specs.Chunk.{Constant, Run, ObjectFunction}
 use Rattle.rules.specs.Image.{join, constant-bytes, run-bytes, function-bytes}
 use Rattle.rules.specs.Compiler.{finish}
-use Rattle.state.specs.Layout.{row, constantOf, runAt, upvaluesOf, upvalueOf, codeFrom, codeEnd, runsFrom, runsEnd, chunkAt, ctxAt}
+use Rattle.state.specs.Layout.{row, constantOf, runAt, upvaluesOf, upvalueOf, codeFrom, codeEnd, runsFrom, runsEnd, chunkAt, ctxAt, upvalues-place, upvalue-count-place, constants-place, constant-count-place, name-place, arity-place, level-words}
 use Rattle.state.proofs.Laws.{row-cong, length-row}
 use Rattle.writer.specs.Put.{Put, stretch, byte-at, constant-at, head-bytes}
 
@@ -36,8 +36,9 @@ module _ (t code spans : List ℕ) (l : ℕ) where
   -- what `put_function` puts, in its order
   abbrev pub put-in-order : List ℕ
   put-in-order =
-      head-bytes (getD t (l * 1024 + 774) 0) (getD t (l * 1024 + 775) 0) (getD t (l * 1024 + 513) 0) (getD t (l * 1024 + 770) 0) (runsEnd t - runsFrom t l) (codeEnd t - codeFrom t l)
-      ++ ((join constant-bytes (stretch (constant-at t) (l * 1024 + 514) (getD t (l * 1024 + 770) 0))
+      head-bytes (getD t (l * level-words + name-place) 0) (getD t (l * level-words + arity-place) 0) (getD t (l * level-words + upvalue-count-place) 0)
+      (getD t (l * level-words + constant-count-place) 0) (runsEnd t - runsFrom t l) (codeEnd t - codeFrom t l)
+      ++ ((join constant-bytes (stretch (constant-at t) (l * level-words + constants-place) (getD t (l * level-words + constant-count-place) 0))
       ++ join run-bytes (stretch (runAt spans) (runsFrom t l) (runsEnd t - runsFrom t l)))
       ++ ((0x43 ∷ 0x44 ∷ []) ++ stretch (byte-at code) (codeFrom t l) (codeEnd t - codeFrom t l)))
 
@@ -45,8 +46,8 @@ module _ (t code spans : List ℕ) (l : ℕ) where
   of-upvalues n =
       function-bytes
       (record {
-        name = getD t (l * 1024 + 774) 0;
-        arity = getD t (l * 1024 + 775) 0;
+        name = getD t (l * level-words + name-place) 0;
+        arity = getD t (l * level-words + arity-place) 0;
         upvalue-count = n;
         chunk = chunkAt t code spans l (codeEnd t) (runsEnd t);
       })
@@ -55,15 +56,15 @@ module _ (t code spans : List ℕ) (l : ℕ) where
   unfolding finish ctxAt chunkAt of-upvalues
   function-is =
       rw (
-        stretch-row (constant-at t) (l * 1024 + 514) (getD t (l * 1024 + 770) 0),
+        stretch-row (constant-at t) (l * level-words + constants-place) (getD t (l * level-words + constant-count-place) 0),
         stretch-row (runAt spans) (runsFrom t l) (runsEnd t - runsFrom t l),
         stretch-row (byte-at code) (codeFrom t l) (codeEnd t - codeFrom t l),
       )
-      (assembled (getD t (l * 1024 + 774) 0) (getD t (l * 1024 + 775) 0) (getD t (l * 1024 + 513) 0) _ _ _ _ _ _
-      (length-row (λ i. constantOf (getD t (l * 1024 + 514 + i) 0)) (getD t (l * 1024 + 770) 0))
+      (assembled (getD t (l * level-words + name-place) 0) (getD t (l * level-words + arity-place) 0) (getD t (l * level-words + upvalue-count-place) 0) _ _ _ _ _ _
+      (length-row (λ i. constantOf (getD t (l * level-words + constants-place + i) 0)) (getD t (l * level-words + constant-count-place) 0))
       (length-row (λ i. runAt spans (runsFrom t l + i)) (runsEnd t - runsFrom t l))
       (length-row (λ i. getD code (codeFrom t l + i) 0) (codeEnd t - codeFrom t l))
-      ∙ ap of-upvalues (sym (length-row (λ i. upvalueOf (getD t (l * 1024 + 257 + i) 0)) (getD t (l * 1024 + 513) 0))))
+      ∙ ap of-upvalues (sym (length-row (λ i. upvalueOf (getD t (l * level-words + upvalues-place + i) 0)) (getD t (l * level-words + upvalue-count-place) 0))))
 
   pub as-function : {out out′ : List ℕ} {at r : ℕ} → Put out out′ at put-in-order r → Put out out′ at (function-bytes (finish (ctxAt t code spans l (codeEnd t) (runsEnd t)))) r
   as-function {out} {out′} {at} {r} p = subst (λ (bs : List ℕ). Put out out′ at bs r) function-is p

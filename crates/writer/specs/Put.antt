@@ -2,7 +2,7 @@
 use mathlib.Core.Path.{_≡_}
 use mathlib.Core.List.{List, [], _∷_, _++_}
 use Prim.Native.Nat.{ℕ, zero, suc, _+_, _*_, _≤_, _<_}
-use lib.ListN.{length, getD}
+use lib.ListN.{length, getD, replicate}
 use Rattle.rules.specs.Base.{le}
 use Rattle.rules.specs.Chunk.{Run, Constant}
 use Rattle.rules.specs.Limits.{max-code}
@@ -50,3 +50,9 @@ pub record Closed (t code spans : List ℕ) (l : ℕ) : Type 0 where
   pub runs-order : runsFrom t l ≤ runsEnd t
   pub runs-room : runsEnd t * 3 ≤ length spans
   pub runs-few : runsEnd t ≤ codeEnd t
+
+-- ## The header is written over the output's first six bytes
+
+pub record Headed (count : ℕ) (out out′ : List ℕ) : Type 0 where
+  pub size : length out′ ≡ length out
+  pub holds : (bs : List ℕ) → out ≡ padded (length out) (replicate 6 0 ++ bs) → out′ ≡ padded (length out) (0x49 ∷ 0x4D ∷ le 4 count ++ bs)

@@ -9,9 +9,8 @@ ghost use Rattle.rules.specs.Chunk.{CN, CS, CF};
 ghost use Rattle.rules.specs.Image.{join, constant-bytes, run-bytes, function-bytes};
 ghost use Rattle.rules.specs.Compiler as rules;
 ghost use Rattle.state.specs.Layout.{constantOf, runAt, codeEnd, runsEnd, ctxAt};
-ghost use Rattle.writer.specs.Put.{Put, Closed, stretch, byte-at, constant-at, run-of, head-bytes};
-use state::CODE_END;
-use state::RUNS_END;
+ghost use Rattle.writer.specs.Put.{Put, Closed, stretch, byte-at, constant-at, run-of, head-bytes, Headed};
+use state::Table;
 
 // One byte.
 pub fn put_u8(out: &mut [u8], at: usize, b: u8) -> usize
@@ -184,24 +183,34 @@ pub fn put_function(
     requires { ⌜ (Closed (now t) (now code) (now spans) level) × (at ≤ 576460752303423488) ⌝ }
     ensures { λ r. ⌜ Put (now (out .entry)) (now (out .exit)) at (function-bytes (rules.finish (ctxAt (now (t .entry)) (now (code .entry)) (now (spans .entry)) level (codeEnd (now (t .entry))) (runsEnd (now (t .entry)))))) r ⌝ }
 {
-    let base = level * 1024;
-    let constants = t[base + 770] as usize;
-    let code_from = t[base + 772] as usize;
-    let runs_from = t[base + 773] as usize;
-    let code_count = t[CODE_END] as usize - code_from;
-    let run_count = t[RUNS_END] as usize - runs_from;
+    let base = level * Table::LEVEL_WORDS;
+    let constants = t[base + Table::CONSTANT_COUNT] as usize;
+    let code_from = t[base + Table::CODE_FROM] as usize;
+    let runs_from = t[base + Table::RUNS_FROM] as usize;
+    let code_count = t[Table::CODE_END] as usize - code_from;
+    let run_count = t[Table::RUNS_END] as usize - runs_from;
     let a = put_head(
         out,
         at,
-        t[base + 774],
-        t[base + 775],
-        t[base + 513],
+        t[base + Table::NAME],
+        t[base + Table::ARITY],
+        t[base + Table::UPVALUE_COUNT],
         constants as u64,
         run_count as u64,
         code_count as u64,
     );
-    let b = put_constants(out, a, t, base + 514, constants);
+    let b = put_constants(out, a, t, base + Table::CONSTANTS, constants);
     let c = put_runs(out, b, spans, runs_from, run_count);
     let d = put_mark(out, c, b'C', b'D');
     put_code(out, d, code, code_from, code_count)
+}
+
+// The image's mark and how many functions it has, where the records stand behind six zeros.
+pub fn put_header(out: &mut [u8], count: u64)
+    requires { ⌜ 6 ≤ length (now out) ⌝ }
+    ensures { λ _. ⌜ Headed count (now (out .entry)) (now (out .exit)) ⌝ }
+{
+    let head = &mut out[..6];
+    let next = put_mark(head, 0, b'I', b'M');
+    put_le(head, next, count, 4);
 }

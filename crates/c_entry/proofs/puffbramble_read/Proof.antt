@@ -64,9 +64,19 @@ refused-requires c κs = search needs
 returns : tie.Need-returns
 returns c = c .accepted .ensures ∙ ap said (sym (c .before .enum-told .given .1) ∙ c .before .before .before .read .ensures) ∙ said-file _
 
+-- ## Places
+
+abbrev read-of-at-match-keys2 : tie.At-match-keys2 → tie.After-read
+read-of-at-match-keys2 c = c .before
+
+abbrev read-of-refused : tie.After-refused → tie.After-read
+read-of-refused c = read-of-at-match-keys2 (c .before .before .before)
+
+-- ## Needs
+
 -- src/lib.rt:11:1
 returns-2 : tie.Need-returns-2
-returns-2 c = c .refused .ensures ∙ ap said (sym (c .before .before .r .given .1) ∙ c .before .before .before .before .read .ensures) ∙ said-file _
+returns-2 c = c .refused .ensures ∙ ap said (sym (c .before .before .r .given .1) ∙ read-of-refused c .read .ensures) ∙ said-file _
 
 pub puffbramble-read-spec : {M : Type 1} → statement M
 puffbramble-read-spec =

@@ -46,8 +46,129 @@ same-length-3 c = search needs
 same-length-4 : tie.Need-same-length-4
 same-length-4 c = search needs
 
+-- ## Places
+
+abbrev clear32-of-at-match-keys1 : tie.At-match-keys1 → tie.After-clear32
+clear32-of-at-match-keys1 c = c .before .before .before
+
+abbrev clear32-of-accepted : tie.After-accepted → tie.After-clear32
+clear32-of-accepted c = clear32-of-at-match-keys1 (c .before .before .before)
+
+abbrev clear8-of-code2 : tie.After-code2 → tie.After-clear8
+clear8-of-code2 c = c .before
+
+abbrev clear8-of-clear32 : tie.After-clear32 → tie.After-clear8
+clear8-of-clear32 c = clear8-of-code2 (c .before .before .before)
+
+abbrev clear64-of-table2 : tie.After-table2 → tie.After-clear64
+clear64-of-table2 c = c .before
+
+abbrev clear64-of-clear8 : tie.After-clear8 → tie.After-clear64
+clear64-of-clear8 c = clear64-of-table2 (c .before .before .before)
+
+abbrev compile-lent-of-out : tie.After-out → tie.After-compile-lent
+compile-lent-of-out c = c .before
+
+abbrev compile-lent-of-slice-known6 : tie.After-slice-known6 → tie.After-compile-lent
+compile-lent-of-slice-known6 c = compile-lent-of-out (c .before .before .before)
+
+abbrev compile-lent-of-spans : tie.After-spans → tie.After-compile-lent
+compile-lent-of-spans c = compile-lent-of-slice-known6 (c .before .before .before)
+
+abbrev compile-lent-of-clear64 : tie.After-clear64 → tie.After-compile-lent
+compile-lent-of-clear64 c = compile-lent-of-spans (c .before .before .before)
+
+abbrev start-of-shared-slice-known : tie.After-shared-slice-known → tie.Start
+start-of-shared-slice-known c = c .before
+
+abbrev start-of-slice-known3 : tie.After-slice-known3 → tie.Start
+start-of-slice-known3 c = start-of-shared-slice-known (c .before .before .before)
+
+abbrev start-of-compile-lent-arg2 : tie.After-compile-lent-arg2 → tie.Start
+start-of-compile-lent-arg2 c = start-of-slice-known3 (c .before .before .before)
+
+abbrev start-of-compile-lent : tie.After-compile-lent → tie.Start
+start-of-compile-lent c = start-of-compile-lent-arg2 (c .before .before .before)
+
+abbrev start-of-clear64 : tie.After-clear64 → tie.Start
+start-of-clear64 c = start-of-compile-lent (compile-lent-of-clear64 c)
+
+abbrev start-of-clear8 : tie.After-clear8 → tie.Start
+start-of-clear8 c = start-of-clear64 (clear64-of-clear8 c)
+
+abbrev start-of-clear32 : tie.After-clear32 → tie.Start
+start-of-clear32 c = start-of-clear8 (clear8-of-clear32 c)
+
+abbrev start-of-accepted : tie.After-accepted → tie.Start
+start-of-accepted c = start-of-clear32 (clear32-of-accepted c)
+
+abbrev compile-lent-of-clear8 : tie.After-clear8 → tie.After-compile-lent
+compile-lent-of-clear8 c = compile-lent-of-clear64 (clear64-of-clear8 c)
+
+abbrev compile-lent-of-clear32 : tie.After-clear32 → tie.After-compile-lent
+compile-lent-of-clear32 c = compile-lent-of-clear8 (clear8-of-clear32 c)
+
+abbrev compile-lent-of-accepted : tie.After-accepted → tie.After-compile-lent
+compile-lent-of-accepted c = compile-lent-of-clear32 (clear32-of-accepted c)
+
+abbrev clear64-of-clear32 : tie.After-clear32 → tie.After-clear64
+clear64-of-clear32 c = clear64-of-clear8 (clear8-of-clear32 c)
+
+abbrev clear64-of-accepted : tie.After-accepted → tie.After-clear64
+clear64-of-accepted c = clear64-of-clear32 (clear32-of-accepted c)
+
+abbrev clear8-of-accepted : tie.After-accepted → tie.After-clear8
+clear8-of-accepted c = clear8-of-clear32 (clear32-of-accepted c)
+
+abbrev made2-of-clear82 : tie.After-clear82 → tie.After-made2
+made2-of-clear82 c = c .before .before .before
+
+abbrev made2-of-refused : tie.After-refused → tie.After-made2
+made2-of-refused c = made2-of-clear82 (c .before .before .before)
+
+abbrev clear32-of-spans2 : tie.After-spans2 → tie.After-clear32
+clear32-of-spans2 c = c .before
+
+abbrev clear32-of-made2 : tie.After-made2 → tie.After-clear32
+clear32-of-made2 c = clear32-of-spans2 (c .before .before .before)
+
+abbrev start-of-made2 : tie.After-made2 → tie.Start
+start-of-made2 c = start-of-clear32 (clear32-of-made2 c)
+
+abbrev start-of-refused : tie.After-refused → tie.Start
+start-of-refused c = start-of-made2 (made2-of-refused c)
+
+abbrev compile-lent-of-made2 : tie.After-made2 → tie.After-compile-lent
+compile-lent-of-made2 c = compile-lent-of-clear32 (clear32-of-made2 c)
+
+abbrev compile-lent-of-refused : tie.After-refused → tie.After-compile-lent
+compile-lent-of-refused c = compile-lent-of-made2 (made2-of-refused c)
+
+abbrev clear64-of-made2 : tie.After-made2 → tie.After-clear64
+clear64-of-made2 c = clear64-of-clear32 (clear32-of-made2 c)
+
+abbrev clear64-of-refused : tie.After-refused → tie.After-clear64
+clear64-of-refused c = clear64-of-made2 (made2-of-refused c)
+
+abbrev clear8-of-made2 : tie.After-made2 → tie.After-clear8
+clear8-of-made2 c = clear8-of-clear32 (clear32-of-made2 c)
+
+abbrev clear8-of-refused : tie.After-refused → tie.After-clear8
+clear8-of-refused c = clear8-of-made2 (made2-of-refused c)
+
+abbrev clear32-of-refused : tie.After-refused → tie.After-clear32
+clear32-of-refused c = clear32-of-made2 (made2-of-refused c)
+
+-- ## Needs
+
 returns : tie.Need-returns
-returns c = let a = c .before .before .before .before .before .before .before .before .before .before .before .before .before .before .before .before .before .before .before .before .before .before .before .before .before .before .before .before .before .before .before .before .before .before .args in answered (a .tree .now) (a .table .now) (a .code .now) (a .spans .now) (a .out .now) (c .before .before .before .before .before .before .before .before .before .before .before .before .before .before .before .before .before .before .before .before .before .before .before .before .compile-lent .ensures) (c .before .before .before .before .before .before .before .before .before .before .before .before .before .before .before .before .before .before .before .before .before .before .before .before .compile-lent .kept .1 .0) (c .accepted .ensures ∙ ap answer-of (sym (c .before .before .made .given .1))) (ap (output-of _) (sym (c .before .before .made .given .1))) (cleared-as (c .before .before .before .before .before .before .before .before .before .before .before .before .before .before .before .before .before .before .before .before .before .before .before .before .compile-lent .kept .1 .1 .0) (c .before .before .before .before .before .before .before .before .before .before .before .before .before .before .clear64 .ensures)) (cleared-as (c .before .before .before .before .before .before .before .before .before .before .before .before .before .before .before .before .before .before .before .before .before .before .before .before .compile-lent .kept .1 .1 .1 .0) (c .before .before .before .before .before .before .before .before .before .before .clear8 .ensures)) (cleared-as (c .before .before .before .before .before .before .before .before .before .before .before .before .before .before .before .before .before .before .before .before .before .before .before .before .compile-lent .kept .1 .1 .1 .1 .0) (c .before .before .before .before .before .before .clear32 .ensures))
+returns c =
+    let a = start-of-accepted c .args in answered (a .tree .now) (a .table .now) (a .code .now) (a .spans .now) (a .out .now)
+    (compile-lent-of-accepted c .compile-lent .ensures) (compile-lent-of-accepted c .compile-lent .kept .1 .0)
+    (c .accepted .ensures ∙ ap answer-of (sym (c .before .before .made .given .1))) (ap (output-of _) (sym (c .before .before .made .given .1)))
+    (cleared-as (compile-lent-of-accepted c .compile-lent .kept .1 .1 .0) (clear64-of-accepted c .clear64 .ensures))
+    (cleared-as (compile-lent-of-accepted c .compile-lent .kept .1 .1 .1 .0) (clear8-of-accepted c .clear8 .ensures))
+    (cleared-as (compile-lent-of-accepted c .compile-lent .kept .1 .1 .1 .1 .0) (clear32-of-accepted c .clear32 .ensures))
 
 same-length-5 : tie.Need-same-length-5
 same-length-5 c = search needs
@@ -62,7 +183,14 @@ same-length-8 : tie.Need-same-length-8
 same-length-8 c = search needs
 
 returns-2 : tie.Need-returns-2
-returns-2 c = let a = c .before .before .before .before .before .before .before .before .before .before .before .before .before .before .before .before .before .before .before .before .before .before .before .before .before .before .before .before .before .before .before .before .before .before .before .before .before .before .args in answered (a .tree .now) (a .table .now) (a .code .now) (a .spans .now) (a .out .now) (c .before .before .before .before .before .before .before .before .before .before .before .before .before .before .before .before .before .before .before .before .before .before .before .before .before .before .before .before .compile-lent .ensures) (c .before .before .before .before .before .before .before .before .before .before .before .before .before .before .before .before .before .before .before .before .before .before .before .before .before .before .before .before .compile-lent .kept .1 .0) (c .refused .ensures ∙ ap answer-of (sym (c .before .before .before .before .before .before .made2 .given .1))) (c .before .before .before .clear82 .ensures ∙ ap (output-of _) (sym (c .before .before .before .before .before .before .made2 .given .1))) (cleared-as (c .before .before .before .before .before .before .before .before .before .before .before .before .before .before .before .before .before .before .before .before .before .before .before .before .before .before .before .before .compile-lent .kept .1 .1 .0) (c .before .before .before .before .before .before .before .before .before .before .before .before .before .before .before .before .before .before .clear64 .ensures)) (cleared-as (c .before .before .before .before .before .before .before .before .before .before .before .before .before .before .before .before .before .before .before .before .before .before .before .before .before .before .before .before .compile-lent .kept .1 .1 .1 .0) (c .before .before .before .before .before .before .before .before .before .before .before .before .before .before .clear8 .ensures)) (cleared-as (c .before .before .before .before .before .before .before .before .before .before .before .before .before .before .before .before .before .before .before .before .before .before .before .before .before .before .before .before .compile-lent .kept .1 .1 .1 .1 .0) (c .before .before .before .before .before .before .before .before .before .before .clear32 .ensures))
+returns-2 c =
+    let a = start-of-refused c .args in answered (a .tree .now) (a .table .now) (a .code .now) (a .spans .now) (a .out .now)
+    (compile-lent-of-refused c .compile-lent .ensures) (compile-lent-of-refused c .compile-lent .kept .1 .0)
+    (c .refused .ensures ∙ ap answer-of (sym (made2-of-refused c .made2 .given .1)))
+    (c .before .before .before .clear82 .ensures ∙ ap (output-of _) (sym (made2-of-refused c .made2 .given .1)))
+    (cleared-as (compile-lent-of-refused c .compile-lent .kept .1 .1 .0) (clear64-of-refused c .clear64 .ensures))
+    (cleared-as (compile-lent-of-refused c .compile-lent .kept .1 .1 .1 .0) (clear8-of-refused c .clear8 .ensures))
+    (cleared-as (compile-lent-of-refused c .compile-lent .kept .1 .1 .1 .1 .0) (clear32-of-refused c .clear32 .ensures))
 
 pub compile-spec : {M : Type 1} → statement M
 compile-spec =

@@ -7,8 +7,87 @@ use borrow.Author.Needs.{needs}
 use Rattle.entry.proofs.compile_lent.Statement.{statement}
 use Rattle.entry.proofs.compile_lent.Tie as tie
 
+-- ## Places
+
+abbrev start-of-slice-known2 : tie.After-slice-known2 → tie.Start
+start-of-slice-known2 c = c .before .before .before
+
+abbrev start-of-then1 : tie.Then1 → tie.Start
+start-of-then1 c = start-of-slice-known2 (c .before .before .before)
+
+abbrev start-of-else1 : tie.Else1 → tie.Start
+start-of-else1 c = start-of-slice-known2 (c .before .before .before)
+
+abbrev start-of-read : tie.After-read → tie.Start
+start-of-read c = start-of-else1 (c .before)
+
+abbrev start-of-script : tie.After-script → tie.Start
+start-of-script c = start-of-read (c .before .before)
+
+abbrev start-of-compile-sound-arg2 : tie.After-compile-sound-arg2 → tie.Start
+start-of-compile-sound-arg2 c = start-of-script (c .before .before .before)
+
+abbrev else1-of-script : tie.After-script → tie.Else1
+else1-of-script c = c .before .before .before
+
+abbrev else1-of-compile-sound-arg2 : tie.After-compile-sound-arg2 → tie.Else1
+else1-of-compile-sound-arg2 c = else1-of-script (c .before .before .before)
+
+abbrev script-of-compile-sound-arg : tie.After-compile-sound-arg → tie.After-script
+script-of-compile-sound-arg c = c .before .before
+
+abbrev script-of-compile-sound-arg4 : tie.After-compile-sound-arg4 → tie.After-script
+script-of-compile-sound-arg4 c = script-of-compile-sound-arg (c .before .before .before)
+
+abbrev read-of-compile-sound-arg4 : tie.After-compile-sound-arg4 → tie.After-read
+read-of-compile-sound-arg4 c = script-of-compile-sound-arg4 c .before .before
+
+abbrev start-of-compile-sound-arg4 : tie.After-compile-sound-arg4 → tie.Start
+start-of-compile-sound-arg4 c = start-of-script (script-of-compile-sound-arg4 c)
+
+abbrev else1-of-compile-sound-arg4 : tie.After-compile-sound-arg4 → tie.Else1
+else1-of-compile-sound-arg4 c = script-of-compile-sound-arg4 c .before .before .before
+
+abbrev start-of-known-told : tie.After-known-told → tie.Start
+start-of-known-told c = start-of-read (c .before .before .before)
+
+abbrev else1-of-read : tie.After-read → tie.Else1
+else1-of-read c = c .before
+
+abbrev else1-of-known-told : tie.After-known-told → tie.Else1
+else1-of-known-told c = else1-of-read (c .before .before .before)
+
+abbrev compile-sound-of-slice-known5 : tie.After-slice-known5 → tie.After-compile-sound
+compile-sound-of-slice-known5 c = c .before .before
+
+abbrev compile-sound-of-code : tie.After-code → tie.After-compile-sound
+compile-sound-of-code c = compile-sound-of-slice-known5 (c .before .before .before)
+
+abbrev compile-sound-of-slice-known8 : tie.After-slice-known8 → tie.After-compile-sound
+compile-sound-of-slice-known8 c = compile-sound-of-code (c .before .before .before)
+
+abbrev script-of-compile-sound-arg2 : tie.After-compile-sound-arg2 → tie.After-script
+script-of-compile-sound-arg2 c = c .before .before .before
+
+abbrev script-of-compile-sound : tie.After-compile-sound → tie.After-script
+script-of-compile-sound c = script-of-compile-sound-arg2 (c .before .before .before)
+
+abbrev start-of-compile-sound : tie.After-compile-sound → tie.Start
+start-of-compile-sound c = start-of-script (script-of-compile-sound c)
+
+abbrev start-of-slice-known8 : tie.After-slice-known8 → tie.Start
+start-of-slice-known8 c = start-of-compile-sound (compile-sound-of-slice-known8 c)
+
+abbrev else1-of-compile-sound : tie.After-compile-sound → tie.Else1
+else1-of-compile-sound c = script-of-compile-sound c .before .before .before
+
+abbrev else1-of-slice-known8 : tie.After-slice-known8 → tie.Else1
+else1-of-slice-known8 c = else1-of-compile-sound (compile-sound-of-slice-known8 c)
+
+-- ## Needs
+
 returns : tie.Need-returns
-returns c = let a = c .before .before .before .before .before .before .args in written-refused _ refl (table-short (a .tree .now) (a .table .now) (a .code .now) (a .spans .now) (a .out .now) (c .if1 .taken))
+returns c = let a = start-of-then1 c .args in written-refused _ refl (table-short (a .tree .now) (a .table .now) (a .code .now) (a .spans .now) (a .out .now) (c .if1 .taken))
 
 read-requires : tie.Need-read-requires
 read-requires c κs = search needs
@@ -23,13 +102,19 @@ slice-relend-prefix-compile-sound : tie.Need-slice-relend-prefix-compile-sound
 slice-relend-prefix-compile-sound c = search needs
 
 slice-aggregate-compile-sound : tie.Need-slice-aggregate-compile-sound
-slice-aggregate-compile-sound c = sym (length-take-le 17412 (c .before .before .before .before .before .before .before .before .before .before .before .before .args .table .now) (c .before .before .before .before .before .before .if1 .left))
+slice-aggregate-compile-sound c = sym (length-take-le 17412 (start-of-compile-sound-arg2 c .args .table .now) (else1-of-compile-sound-arg2 c .if1 .left))
 
 compile-sound-requires : tie.Need-compile-sound-requires
-compile-sound-requires c κs = (sym (c .before .before .before .before .before .before .before .read .ensures) ∙ c .before .before .before .before .before .script .given .1, length-take-le 17412 (c .before .before .before .before .before .before .before .before .before .before .before .before .before .before .args .table .now) (c .before .before .before .before .before .before .before .before .if1 .left))
+compile-sound-requires c κs = (
+  sym (read-of-compile-sound-arg4 c .read .ensures) ∙ script-of-compile-sound-arg4 c .script .given .1,
+  length-take-le 17412
+      (start-of-compile-sound-arg4 c .args .table .now) (else1-of-compile-sound-arg4 c .if1 .left),
+)
 
 returns-2 : tie.Need-returns-2
-returns-2 c = let a = c .before .before .before .before .before .before .before .before .before .before .args in written-as (table-enough (a .tree .now) (a .table .now) (a .code .now) (a .spans .now) (a .out .now) (c .before .before .before .before .if1 .left)) (written-refused _ refl (refused-file _ _ (sym (c .before .before .before .read .ensures) ∙ c .before .x .given .1)))
+returns-2 c =
+    let a = start-of-known-told c .args in written-as (table-enough (a .tree .now) (a .table .now) (a .code .now) (a .spans .now) (a .out .now)
+    (else1-of-known-told c .if1 .left)) (written-refused _ refl (refused-file _ _ (sym (c .before .before .before .read .ensures) ∙ c .before .x .given .1)))
 
 same-length : tie.Need-same-length
 same-length c = search needs
@@ -44,7 +129,9 @@ same-length-4 : tie.Need-same-length-4
 same-length-4 c = search needs
 
 returns-3 : tie.Need-returns-3
-returns-3 c = let a = c .before .before .before .before .before .before .before .before .before .before .before .before .before .before .before .before .before .before .before .before .before .before .before .args in written-as (table-enough (a .tree .now) (a .table .now) (a .code .now) (a .spans .now) (a .out .now) (c .before .before .before .before .before .before .before .before .before .before .before .before .before .before .before .before .before .if1 .left)) (c .before .before .before .before .before .before .before .before .compile-sound .ensures)
+returns-3 c =
+    let a = start-of-slice-known8 c .args in written-as (table-enough (a .tree .now) (a .table .now) (a .code .now) (a .spans .now) (a .out .now)
+    (else1-of-slice-known8 c .if1 .left)) (compile-sound-of-slice-known8 c .compile-sound .ensures)
 
 pub compile-lent-spec : {M : Type 1} → statement M
 compile-lent-spec =

@@ -1,11 +1,5 @@
 -- `check` meets its contract. Assumes nothing.
-use Prim.Native.Nat.{ℕ, _+_, _-_, _*_, _<_, _≤_}
-use native.Mathlib.Omega.{arith}
-use mathlib.Core.Path.{_≡_, refl, sym, _∙_, ap}
-use mathlib.Core.Bool.{true, false}
-use lib.ListN.{length, getD}
-use borrow.Author.Tests.{not-true, not-false, leb-true, leb-false}
-use Rattle.rules.specs.Answer.{refusal}
+use mathlib.Core.Path.{sym, _∙_}
 use Rattle.image.proofs.Whole.{check-no, check-yes}
 use borrow.Author.Needs.{needs}
 use Rattle.image.proofs.check.Statement.{statement}
@@ -20,16 +14,25 @@ enum-known-n c = search needs
 enum-told : tie.Need-enum-told
 enum-told c = search needs
 
-returns : tie.Need-returns
-unfolding refusal
-returns c = check-no (c .before .before .before .before .args .image .now) (sym (c .enum-told .given .1) ∙ c .before .before .count-of .ensures)
+refused-requires : tie.Need-refused-requires
+refused-requires c κs = search needs
 
-long-requires : tie.Need-long-requires
-long-requires c κs = search needs
+returns : tie.Need-returns
+returns c =
+    let no = c .before in
+    let counted = no .before .before in
+    c .refused .ensures ∙ check-no (counted .before .before .args .image .now) (sym (no .enum-told .given .1) ∙ counted .count-of .ensures)
+
+accepted-requires : tie.Need-accepted-requires
+accepted-requires c κs = search needs
 
 returns-2 : tie.Need-returns-2
-returns-2 c = cc (check-yes (c .before .before .before .before .before .before .args .image .now) (c .before .before .n .given .0 .0) (sym (c .before .before .n .given .1) ∙ c .before .before .before .before .count-of .ensures), c .long .ensures)
+returns-2 c =
+    let yes = c .before .before in
+    let counted = yes .before .before in
+    c .accepted .ensures ∙ check-yes (counted .before .before .args .image .now) _ (sym (yes .n .given .1) ∙ counted .count-of .ensures)
 
 pub check-spec : {M : Type 1} → statement M
 check-spec =
-    tie.close (tie.spec count-of-requires enum-known-n enum-told returns long-requires returns-2)
+    tie.close
+    (tie.spec count-of-requires enum-known-n enum-told refused-requires returns accepted-requires returns-2)

@@ -16,7 +16,7 @@ use Rattle.puffbramble.proofs.answer.Tie as tie
 use Rattle.puffbramble.proofs.answer.Reads as reads
 use Rattle.puffbramble.proofs.answer.Lts as lts
 use Rattle.entry.proofs.compile.Reads as compile-reads
-use Rattle.rules.proofs.Answer.refused.Reads as refused-reads
+use Rattle.answers.proofs.refused.Reads as refused-reads
 
 module _ (tree : List ℕ) (lent : Lent) where
   long : most < length tree → program-answer tree lent ≡ refusal TreeTooLong
@@ -54,8 +54,30 @@ same-length-3 c = search needs
 same-length-4 : tie.Need-same-length-4
 same-length-4 c = search needs
 
+-- ## Places
+
+abbrev compile-of-slice-known5 : tie.After-slice-known5 → tie.After-compile
+compile-of-slice-known5 c = c .before .before
+
+abbrev compile-of-code : tie.After-code → tie.After-compile
+compile-of-code c = compile-of-slice-known5 (c .before .before .before)
+
+abbrev compile-of-slice-known8 : tie.After-slice-known8 → tie.After-compile
+compile-of-slice-known8 c = compile-of-code (c .before .before .before)
+
+abbrev else1-of-compile-arg2 : tie.After-compile-arg2 → tie.Else1
+else1-of-compile-arg2 c = c .before .before
+
+abbrev else1-of-compile : tie.After-compile → tie.Else1
+else1-of-compile c = else1-of-compile-arg2 (c .before .before .before)
+
+abbrev else1-of-slice-known8 : tie.After-slice-known8 → tie.Else1
+else1-of-slice-known8 c = else1-of-compile (compile-of-slice-known8 c)
+
+-- ## Needs
+
 returns-2 : tie.Need-returns-2
-returns-2 c = compiled _ _ (c .before .before .before .before .before .before .before .before .before .before .before .before .before .if1 .left) (c .before .before .before .before .before .before .before .before .compile .ensures)
+returns-2 c = compiled _ _ (else1-of-slice-known8 c .if1 .left) (compile-of-slice-known8 c .compile .ensures)
 
 pub answer-spec : {M : Type 1} → statement M
 answer-spec =

@@ -12,9 +12,22 @@ enum-known-step c = search needs
 enum-known-step-2 : tie.Need-enum-known-step-2
 enum-known-step-2 c = search needs
 
+-- ## Places
+
+abbrev start-of-at-match-keys2 : tie.At-match-keys2 → tie.Start
+start-of-at-match-keys2 c = c .before
+
+abbrev start-of-then1 : tie.Then1 → tie.Start
+start-of-then1 c = start-of-at-match-keys2 (c .before .before .before)
+
+abbrev start-of-else1 : tie.Else1 → tie.Start
+start-of-else1 c = start-of-at-match-keys2 (c .before .before .before)
+
+-- ## Needs
+
 returns : tie.Need-returns
 unfolding ends
-returns c = rw (c .before .before .step2 .given .1, ne-eqb _ (length (c .before .before .before .before .args .tree .now)) (c .if1 .taken))
+returns c = rw (c .before .before .step2 .given .1, ne-eqb _ (length (start-of-then1 c .args .tree .now)) (c .if1 .taken))
 
 returns-2 : tie.Need-returns-2
 unfolding ends
@@ -22,7 +35,7 @@ returns-2 c = rw (c .before .step .given .1)
 
 returns-3 : tie.Need-returns-3
 unfolding ends
-returns-3 c = rw (c .before .before .step2 .given .1, eq-eqb _ (length (c .before .before .before .before .args .tree .now)) (c .if1 .left))
+returns-3 c = rw (c .before .before .step2 .given .1, eq-eqb _ (length (start-of-else1 c .args .tree .now)) (c .if1 .left))
 
 pub to-the-end-spec : {M : Type 1} → statement M
 to-the-end-spec =

@@ -12,7 +12,8 @@ use Rattle.writer.proofs.put_code.Lts as lts
 use Rattle.writer.proofs.put_u8.Reads as put-u8-reads
 
 abbrev Inv-loop : tie.InvT-loop
-Inv-loop out₀ at code from count next₀ i₀ left₀ out next i left = Putting out₀ out at next (stretch (byte-at code) from count) (stretch (byte-at code) i left) × (next + left ≤ 1152921504606846976) × (i + left ≤ length code)
+Inv-loop out₀ at code from count next₀ i₀ left₀ out next i left =
+    Putting out₀ out at next (stretch (byte-at code) from count) (stretch (byte-at code) i left) × (next + left ≤ 1152921504606846976) × (i + left ≤ length code)
 
 abbrev μ-loop : tie.MeasureT-loop
 μ-loop out₀ at code from count next₀ i₀ left₀ out next i left = left
@@ -26,8 +27,33 @@ shared-slice-read-put-u8 c = omega (arith, c .before .before .before .loop .inv 
 put-u8-requires : tie.Need-put-u8-requires Inv-loop μ-loop
 put-u8-requires c κs = omega (arith, c .before .before .before .loop .inv .1, c .before .before .loop-test .taken)
 
+-- ## Places
+
+abbrev in-loop-of-shared-slice-known2 : tie.After-shared-slice-known2 Inv-loop μ-loop → tie.In-loop Inv-loop μ-loop
+in-loop-of-shared-slice-known2 c = c .before .before
+
+abbrev in-loop-of-slice-known2 : tie.After-slice-known2 Inv-loop μ-loop → tie.In-loop Inv-loop μ-loop
+in-loop-of-slice-known2 c = in-loop-of-shared-slice-known2 (c .before .before .before)
+
+abbrev at-loop-of-slice-known2 : tie.After-slice-known2 Inv-loop μ-loop → tie.At-loop Inv-loop μ-loop
+at-loop-of-slice-known2 c = in-loop-of-slice-known2 c .before
+
+abbrev start-of-at-loop : tie.At-loop Inv-loop μ-loop → tie.Start Inv-loop μ-loop
+start-of-at-loop c = c .before .before .before
+
+abbrev start-of-in-loop : tie.In-loop Inv-loop μ-loop → tie.Start Inv-loop μ-loop
+start-of-in-loop c = start-of-at-loop (c .before)
+
+abbrev start-of-slice-known2 : tie.After-slice-known2 Inv-loop μ-loop → tie.Start Inv-loop μ-loop
+start-of-slice-known2 c = start-of-in-loop (in-loop-of-slice-known2 c)
+
+abbrev start-of-after-loop : tie.After-loop Inv-loop μ-loop → tie.Start Inv-loop μ-loop
+start-of-after-loop c = start-of-at-loop (c .before)
+
+-- ## Needs
+
 add-i : tie.Need-add-i Inv-loop μ-loop
-add-i c = omega (arith, c .before .before .before .before .before .before .loop .inv .2, c .before .before .before .before .before .loop-test .taken)
+add-i c = omega (arith, at-loop-of-slice-known2 c .loop .inv .2, in-loop-of-slice-known2 c .loop-test .taken)
 
 sub-left : tie.Need-sub-left Inv-loop μ-loop
 sub-left c = search needs
@@ -36,13 +62,24 @@ loop-less : tie.Need-loop-less Inv-loop μ-loop
 loop-less c = search needs
 
 loop-again : tie.Need-loop-again Inv-loop μ-loop
-loop-again c = (putting-step (c .before .before .before .before .before .before .loop .inv .0) (stretch-more (byte-at (c .before .before .before .before .before .before .before .before .before .args .code .now)) (c .before .before .before .before .before .before .loop .i) (c .before .before .before .before .before .before .loop .left) (c .before .before .before .before .before .loop-test .taken)) (c .before .before .put-u8 .ensures), omega (arith, c .before .before .put-u8 .ensures .next, c .before .before .before .before .before .before .loop .inv .1, c .before .before .before .before .before .loop-test .taken), omega (arith, c .before .before .before .before .before .before .loop .inv .2, c .before .before .before .before .before .loop-test .taken))
+loop-again c = (
+  putting-step (at-loop-of-slice-known2 c .loop .inv .0) (stretch-more (byte-at (start-of-slice-known2 c .args .code .now))
+      (at-loop-of-slice-known2 c .loop .i) (at-loop-of-slice-known2 c .loop .left) (in-loop-of-slice-known2 c .loop-test .taken))
+      (c .before .before .put-u8 .ensures),
+  omega (
+    arith,
+    c .before .before .put-u8 .ensures .next,
+    at-loop-of-slice-known2 c .loop .inv .1,
+    in-loop-of-slice-known2 c .loop-test .taken,
+  ),
+  omega (arith, at-loop-of-slice-known2 c .loop .inv .2, in-loop-of-slice-known2 c .loop-test .taken),
+)
 
 same-length : tie.Need-same-length Inv-loop μ-loop
 same-length c = c .before .loop .inv .0 .put .size
 
 returns : tie.Need-returns Inv-loop μ-loop
-returns c = putting-end (c .before .loop .inv .0) (stretch-none (byte-at (c .before .before .before .before .args .code .now)) (c .before .loop .i) (c .before .loop .left) (omega (arith, c .loop-test .left)))
+returns c = putting-end (c .before .loop .inv .0) (stretch-none (byte-at (start-of-after-loop c .args .code .now)) (c .before .loop .i) (c .before .loop .left) (omega (arith, c .loop-test .left)))
 
 pub put-code-spec : {M : Type 1} → statement M
 put-code-spec =

@@ -91,23 +91,205 @@ put-head-requires c κs = search needs
 add-put-constants : tie.Need-add-put-constants
 add-put-constants c = search needs
 
+-- ## Places
+
+abbrev start-of-shared-slice-known : tie.After-shared-slice-known → tie.Start
+start-of-shared-slice-known c = c .before .before
+
+abbrev start-of-shared-slice-known4 : tie.After-shared-slice-known4 → tie.Start
+start-of-shared-slice-known4 c = start-of-shared-slice-known (c .before .before .before)
+
+abbrev start-of-shared-slice-known7 : tie.After-shared-slice-known7 → tie.Start
+start-of-shared-slice-known7 c = start-of-shared-slice-known4 (c .before .before .before)
+
+abbrev start-of-shared-slice-known9 : tie.After-shared-slice-known9 → tie.Start
+start-of-shared-slice-known9 c = start-of-shared-slice-known7 (c .before .before .before)
+
+abbrev start-of-put-head : tie.After-put-head → tie.Start
+start-of-put-head c = start-of-shared-slice-known9 (c .before .before .before)
+
+abbrev start-of-put-constants-arg : tie.After-put-constants-arg → tie.Start
+start-of-put-constants-arg c = start-of-put-head (c .before .before .before)
+
+abbrev put-head-of-out : tie.After-out → tie.After-put-head
+put-head-of-out c = c .before
+
+abbrev put-head-of-put-constants : tie.After-put-constants → tie.After-put-head
+put-head-of-put-constants c = put-head-of-out (c .before .before .before)
+
+abbrev start-of-put-constants : tie.After-put-constants → tie.Start
+start-of-put-constants c = start-of-put-head (put-head-of-put-constants c)
+
+abbrev start-of-put-runs-arg : tie.After-put-runs-arg → tie.Start
+start-of-put-runs-arg c = start-of-put-constants (c .before .before .before)
+
+abbrev put-head-of-put-runs-arg : tie.After-put-runs-arg → tie.After-put-head
+put-head-of-put-runs-arg c = put-head-of-put-constants (c .before .before .before)
+
+abbrev put-constants-of-out2 : tie.After-out2 → tie.After-put-constants
+put-constants-of-out2 c = c .before
+
+abbrev put-constants-of-put-runs : tie.After-put-runs → tie.After-put-constants
+put-constants-of-put-runs c = put-constants-of-out2 (c .before .before .before)
+
+abbrev start-of-put-runs : tie.After-put-runs → tie.Start
+start-of-put-runs c = start-of-put-constants (put-constants-of-put-runs c)
+
+abbrev start-of-put-mark-arg : tie.After-put-mark-arg → tie.Start
+start-of-put-mark-arg c = start-of-put-runs (c .before .before .before)
+
+abbrev put-head-of-put-runs : tie.After-put-runs → tie.After-put-head
+put-head-of-put-runs c = put-head-of-put-constants (put-constants-of-put-runs c)
+
+abbrev put-head-of-put-mark-arg : tie.After-put-mark-arg → tie.After-put-head
+put-head-of-put-mark-arg c = put-head-of-put-runs (c .before .before .before)
+
+abbrev put-constants-of-put-mark-arg : tie.After-put-mark-arg → tie.After-put-constants
+put-constants-of-put-mark-arg c = put-constants-of-put-runs (c .before .before .before)
+
+abbrev put-runs-of-out3 : tie.After-out3 → tie.After-put-runs
+put-runs-of-out3 c = c .before
+
+abbrev put-runs-of-put-mark : tie.After-put-mark → tie.After-put-runs
+put-runs-of-put-mark c = put-runs-of-out3 (c .before .before .before)
+
+abbrev start-of-put-mark : tie.After-put-mark → tie.Start
+start-of-put-mark c = start-of-put-runs (put-runs-of-put-mark c)
+
+abbrev start-of-put-code-arg : tie.After-put-code-arg → tie.Start
+start-of-put-code-arg c = start-of-put-mark (c .before .before .before)
+
+abbrev put-head-of-put-mark : tie.After-put-mark → tie.After-put-head
+put-head-of-put-mark c = put-head-of-put-runs (put-runs-of-put-mark c)
+
+abbrev put-head-of-put-code-arg : tie.After-put-code-arg → tie.After-put-head
+put-head-of-put-code-arg c = put-head-of-put-mark (c .before .before .before)
+
+abbrev put-constants-of-put-mark : tie.After-put-mark → tie.After-put-constants
+put-constants-of-put-mark c = put-constants-of-put-runs (put-runs-of-put-mark c)
+
+abbrev put-constants-of-put-code-arg : tie.After-put-code-arg → tie.After-put-constants
+put-constants-of-put-code-arg c = put-constants-of-put-mark (c .before .before .before)
+
+abbrev put-runs-of-put-code-arg : tie.After-put-code-arg → tie.After-put-runs
+put-runs-of-put-code-arg c = put-runs-of-put-mark (c .before .before .before)
+
+abbrev put-mark-of-put-code-arg : tie.After-put-code-arg → tie.After-put-mark
+put-mark-of-put-code-arg c = c .before .before .before
+
+abbrev put-mark-of-slice-known6 : tie.After-slice-known6 → tie.After-put-mark
+put-mark-of-slice-known6 c = put-mark-of-put-code-arg (c .before .before .before)
+
+abbrev start-of-slice-known6 : tie.After-slice-known6 → tie.Start
+start-of-slice-known6 c = start-of-put-mark (put-mark-of-slice-known6 c)
+
+abbrev put-head-of-slice-known6 : tie.After-slice-known6 → tie.After-put-head
+put-head-of-slice-known6 c = put-head-of-put-mark (put-mark-of-slice-known6 c)
+
+abbrev put-constants-of-slice-known6 : tie.After-slice-known6 → tie.After-put-constants
+put-constants-of-slice-known6 c = put-constants-of-put-mark (put-mark-of-slice-known6 c)
+
+abbrev put-runs-of-slice-known6 : tie.After-slice-known6 → tie.After-put-runs
+put-runs-of-slice-known6 c = put-runs-of-put-mark (put-mark-of-slice-known6 c)
+
+-- ## Needs
+
 put-constants-requires : tie.Need-put-constants-requires
-put-constants-requires c κs = (omega (arith, c .before .before .before .before .before .before .before .before .before .before .before .before .before .before .before .before .before .pre .0 .wf .size, c .before .before .before .before .before .before .before .before .before .before .before .before .before .before .before .before .before .pre .0 .low, c .before .before .before .before .before .before .before .before .before .before .before .before .before .before .before .before .before .pre .0 .wf .fewConstants (c .before .before .before .before .before .before .before .before .before .before .before .before .before .before .before .before .before .args .level) (c .before .before .before .before .before .before .before .before .before .before .before .before .before .before .before .before .before .pre .0 .low)), omega (arith, c .before .before .before .before .before .before .before .before .before .before .before .before .before .before .before .before .before .pre .1, head-next _ _ _ _ _ _ (c .before .before .before .put-head .ensures), c .before .before .before .before .before .before .before .before .before .before .before .before .before .before .before .before .before .pre .0 .wf .fewConstants (c .before .before .before .before .before .before .before .before .before .before .before .before .before .before .before .before .before .args .level) (c .before .before .before .before .before .before .before .before .before .before .before .before .before .before .before .before .before .pre .0 .low)))
+put-constants-requires c κs = (
+  omega (
+    arith,
+    start-of-put-constants-arg c .pre .0 .wf .size,
+    start-of-put-constants-arg c .pre .0 .low,
+    start-of-put-constants-arg
+        c .pre .0 .wf .fewConstants (start-of-put-constants-arg c .args .level) (start-of-put-constants-arg c .pre .0 .low),
+  ),
+  omega (
+    arith,
+    start-of-put-constants-arg c .pre .1,
+    head-next _ _ _ _ _ _ (c .before .before .before .put-head .ensures),
+    start-of-put-constants-arg
+        c .pre .0 .wf .fewConstants (start-of-put-constants-arg c .args .level) (start-of-put-constants-arg c .pre .0 .low),
+  ),
+)
 
 put-runs-requires : tie.Need-put-runs-requires
-put-runs-requires c κs = (omega (arith, c .before .before .before .before .before .before .before .before .before .before .before .before .before .before .before .before .before .before .before .before .before .pre .0 .runs-order, c .before .before .before .before .before .before .before .before .before .before .before .before .before .before .before .before .before .before .before .before .before .pre .0 .runs-room), omega (arith, c .before .before .before .before .before .before .before .before .before .before .before .before .before .before .before .before .before .before .before .before .before .pre .1, head-next _ _ _ _ _ _ (c .before .before .before .before .before .before .before .put-head .ensures), c .before .before .before .before .before .before .before .before .before .before .before .before .before .before .before .before .before .before .before .before .before .pre .0 .wf .fewConstants (c .before .before .before .before .before .before .before .before .before .before .before .before .before .before .before .before .before .before .before .before .before .args .level) (c .before .before .before .before .before .before .before .before .before .before .before .before .before .before .before .before .before .before .before .before .before .pre .0 .low), constants-next (constant-at (c .before .before .before .before .before .before .before .before .before .before .before .before .before .before .before .before .before .before .before .before .before .args .t .now)) _ _ (c .before .before .before .put-constants .ensures), c .before .before .before .before .before .before .before .before .before .before .before .before .before .before .before .before .before .before .before .before .before .pre .0 .runs-order, c .before .before .before .before .before .before .before .before .before .before .before .before .before .before .before .before .before .before .before .before .before .pre .0 .runs-few, c .before .before .before .before .before .before .before .before .before .before .before .before .before .before .before .before .before .before .before .before .before .pre .0 .runs-room, c .before .before .before .before .before .before .before .before .before .before .before .before .before .before .before .before .before .before .before .before .before .pre .0 .code-small, c .before .before .before .before .before .before .before .before .before .before .before .before .before .before .before .before .before .before .before .before .before .pre .0 .code-order, c .before .before .before .before .before .before .before .before .before .before .before .before .before .before .before .before .before .before .before .before .before .pre .0 .code-room))
+put-runs-requires c κs = (
+  omega (arith, start-of-put-runs-arg c .pre .0 .runs-order, start-of-put-runs-arg c .pre .0 .runs-room),
+  omega (
+    arith,
+    start-of-put-runs-arg c .pre .1,
+    head-next _ _ _ _ _ _ (put-head-of-put-runs-arg c .put-head .ensures),
+    start-of-put-runs-arg
+        c .pre .0 .wf .fewConstants (start-of-put-runs-arg c .args .level) (start-of-put-runs-arg c .pre .0 .low),
+    constants-next
+        (constant-at (start-of-put-runs-arg c .args .t .now)) _ _ (c .before .before .before .put-constants .ensures),
+    start-of-put-runs-arg
+        c .pre .0 .runs-order,
+    start-of-put-runs-arg c .pre .0 .runs-few,
+    start-of-put-runs-arg c .pre .0 .runs-room,
+    start-of-put-runs-arg
+        c .pre .0 .code-small,
+    start-of-put-runs-arg c .pre .0 .code-order,
+    start-of-put-runs-arg c .pre .0 .code-room,
+  ),
+)
 
 put-mark-requires : tie.Need-put-mark-requires
-put-mark-requires c κs = omega (arith, c .before .before .before .before .before .before .before .before .before .before .before .before .before .before .before .before .before .before .before .before .before .before .before .before .before .pre .1, head-next _ _ _ _ _ _ (c .before .before .before .before .before .before .before .before .before .before .before .put-head .ensures), c .before .before .before .before .before .before .before .before .before .before .before .before .before .before .before .before .before .before .before .before .before .before .before .before .before .pre .0 .wf .fewConstants (c .before .before .before .before .before .before .before .before .before .before .before .before .before .before .before .before .before .before .before .before .before .before .before .before .before .args .level) (c .before .before .before .before .before .before .before .before .before .before .before .before .before .before .before .before .before .before .before .before .before .before .before .before .before .pre .0 .low), constants-next (constant-at (c .before .before .before .before .before .before .before .before .before .before .before .before .before .before .before .before .before .before .before .before .before .before .before .before .before .args .t .now)) _ _ (c .before .before .before .before .before .before .before .put-constants .ensures), c .before .before .before .before .before .before .before .before .before .before .before .before .before .before .before .before .before .before .before .before .before .before .before .before .before .pre .0 .runs-order, c .before .before .before .before .before .before .before .before .before .before .before .before .before .before .before .before .before .before .before .before .before .before .before .before .before .pre .0 .runs-few, c .before .before .before .before .before .before .before .before .before .before .before .before .before .before .before .before .before .before .before .before .before .before .before .before .before .pre .0 .runs-room, c .before .before .before .before .before .before .before .before .before .before .before .before .before .before .before .before .before .before .before .before .before .before .before .before .before .pre .0 .code-small, c .before .before .before .before .before .before .before .before .before .before .before .before .before .before .before .before .before .before .before .before .before .before .before .before .before .pre .0 .code-order, c .before .before .before .before .before .before .before .before .before .before .before .before .before .before .before .before .before .before .before .before .before .before .before .before .before .pre .0 .code-room, runs-next (runAt (c .before .before .before .before .before .before .before .before .before .before .before .before .before .before .before .before .before .before .before .before .before .before .before .before .before .args .spans .now)) _ _ (c .before .before .before .put-runs .ensures))
+put-mark-requires c κs =
+    omega (
+      arith,
+      start-of-put-mark-arg c .pre .1,
+      head-next _ _ _ _ _ _ (put-head-of-put-mark-arg c .put-head .ensures),
+      start-of-put-mark-arg
+          c .pre .0 .wf .fewConstants (start-of-put-mark-arg c .args .level) (start-of-put-mark-arg c .pre .0 .low),
+      constants-next
+          (constant-at (start-of-put-mark-arg c .args .t .now)) _ _ (put-constants-of-put-mark-arg c .put-constants .ensures),
+      start-of-put-mark-arg
+          c .pre .0 .runs-order,
+      start-of-put-mark-arg c .pre .0 .runs-few,
+      start-of-put-mark-arg c .pre .0 .runs-room,
+      start-of-put-mark-arg
+          c .pre .0 .code-small,
+      start-of-put-mark-arg c .pre .0 .code-order,
+      start-of-put-mark-arg c .pre .0 .code-room,
+      runs-next
+          (runAt (start-of-put-mark-arg c .args .spans .now)) _ _ (c .before .before .before .put-runs .ensures),
+    )
 
 put-code-requires : tie.Need-put-code-requires
-put-code-requires c κs = (omega (arith, c .before .before .before .before .before .before .before .before .before .before .before .before .before .before .before .before .before .before .before .before .before .before .before .before .before .before .before .before .before .pre .0 .code-order, c .before .before .before .before .before .before .before .before .before .before .before .before .before .before .before .before .before .before .before .before .before .before .before .before .before .before .before .before .before .pre .0 .code-room), omega (arith, c .before .before .before .before .before .before .before .before .before .before .before .before .before .before .before .before .before .before .before .before .before .before .before .before .before .before .before .before .before .pre .1, head-next _ _ _ _ _ _ (c .before .before .before .before .before .before .before .before .before .before .before .before .before .before .before .put-head .ensures), c .before .before .before .before .before .before .before .before .before .before .before .before .before .before .before .before .before .before .before .before .before .before .before .before .before .before .before .before .before .pre .0 .wf .fewConstants (c .before .before .before .before .before .before .before .before .before .before .before .before .before .before .before .before .before .before .before .before .before .before .before .before .before .before .before .before .before .args .level) (c .before .before .before .before .before .before .before .before .before .before .before .before .before .before .before .before .before .before .before .before .before .before .before .before .before .before .before .before .before .pre .0 .low), constants-next (constant-at (c .before .before .before .before .before .before .before .before .before .before .before .before .before .before .before .before .before .before .before .before .before .before .before .before .before .before .before .before .before .args .t .now)) _ _ (c .before .before .before .before .before .before .before .before .before .before .before .put-constants .ensures), c .before .before .before .before .before .before .before .before .before .before .before .before .before .before .before .before .before .before .before .before .before .before .before .before .before .before .before .before .before .pre .0 .runs-order, c .before .before .before .before .before .before .before .before .before .before .before .before .before .before .before .before .before .before .before .before .before .before .before .before .before .before .before .before .before .pre .0 .runs-few, c .before .before .before .before .before .before .before .before .before .before .before .before .before .before .before .before .before .before .before .before .before .before .before .before .before .before .before .before .before .pre .0 .runs-room, c .before .before .before .before .before .before .before .before .before .before .before .before .before .before .before .before .before .before .before .before .before .before .before .before .before .before .before .before .before .pre .0 .code-small, c .before .before .before .before .before .before .before .before .before .before .before .before .before .before .before .before .before .before .before .before .before .before .before .before .before .before .before .before .before .pre .0 .code-order, c .before .before .before .before .before .before .before .before .before .before .before .before .before .before .before .before .before .before .before .before .before .before .before .before .before .before .before .before .before .pre .0 .code-room, runs-next (runAt (c .before .before .before .before .before .before .before .before .before .before .before .before .before .before .before .before .before .before .before .before .before .before .before .before .before .before .before .before .before .args .spans .now)) _ _ (c .before .before .before .before .before .before .before .put-runs .ensures), c .before .before .before .put-mark .ensures .next))
+put-code-requires c κs = (
+  omega (arith, start-of-put-code-arg c .pre .0 .code-order, start-of-put-code-arg c .pre .0 .code-room),
+  omega (
+    arith,
+    start-of-put-code-arg c .pre .1,
+    head-next _ _ _ _ _ _ (put-head-of-put-code-arg c .put-head .ensures),
+    start-of-put-code-arg
+        c .pre .0 .wf .fewConstants (start-of-put-code-arg c .args .level) (start-of-put-code-arg c .pre .0 .low),
+    constants-next
+        (constant-at (start-of-put-code-arg c .args .t .now)) _ _ (put-constants-of-put-code-arg c .put-constants .ensures),
+    start-of-put-code-arg
+        c .pre .0 .runs-order,
+    start-of-put-code-arg c .pre .0 .runs-few,
+    start-of-put-code-arg c .pre .0 .runs-room,
+    start-of-put-code-arg
+        c .pre .0 .code-small,
+    start-of-put-code-arg c .pre .0 .code-order,
+    start-of-put-code-arg c .pre .0 .code-room,
+    runs-next
+        (runAt (start-of-put-code-arg c .args .spans .now)) _ _ (put-runs-of-put-code-arg c .put-runs .ensures),
+    c .before .before .before .put-mark .ensures .next,
+  ),
+)
 
 same-length : tie.Need-same-length
 same-length c = search needs
 
 returns : tie.Need-returns
-returns c = as-function (c .before .before .before .before .before .before .before .before .before .before .before .before .before .before .before .before .before .before .before .before .before .before .before .before .before .before .before .before .before .before .before .before .args .t .now) (c .before .before .before .before .before .before .before .before .before .before .before .before .before .before .before .before .before .before .before .before .before .before .before .before .before .before .before .before .before .before .before .before .args .code .now) (c .before .before .before .before .before .before .before .before .before .before .before .before .before .before .before .before .before .before .before .before .before .before .before .before .before .before .before .before .before .before .before .before .args .spans .now) (c .before .before .before .before .before .before .before .before .before .before .before .before .before .before .before .before .before .before .before .before .before .before .before .before .before .before .before .before .before .before .before .before .args .level) (put-then (c .before .before .before .before .before .before .before .before .before .before .before .before .before .before .before .before .before .before .put-head .ensures) (put-then (put-then (c .before .before .before .before .before .before .before .before .before .before .before .before .before .before .put-constants .ensures) (c .before .before .before .before .before .before .before .before .before .before .put-runs .ensures)) (put-then (c .before .before .before .before .before .before .put-mark .ensures) (c .before .before .put-code .ensures))))
+returns c =
+    as-function (start-of-slice-known6 c .args .t .now) (start-of-slice-known6 c .args .code .now) (start-of-slice-known6 c .args .spans .now)
+    (start-of-slice-known6 c .args .level) (put-then (put-head-of-slice-known6 c .put-head .ensures)
+    (put-then (put-then (put-constants-of-slice-known6 c .put-constants .ensures) (put-runs-of-slice-known6 c .put-runs .ensures))
+    (put-then (put-mark-of-slice-known6 c .put-mark .ensures) (c .before .before .put-code .ensures))))
 
 pub put-function-spec : {M : Type 1} → statement M
 put-function-spec =

@@ -19,9 +19,19 @@ put-le-requires c κs = omega (arith, c .before .before .before .put-mark .ensur
 same-length : tie.Need-same-length
 same-length c = search needs
 
+-- ## Places
+
+abbrev put-mark-of-put-le-arg : tie.After-put-le-arg → tie.After-put-mark
+put-mark-of-put-le-arg c = c .before .before .before
+
+abbrev put-mark-of-slice-known3 : tie.After-slice-known3 → tie.After-put-mark
+put-mark-of-slice-known3 c = put-mark-of-put-le-arg (c .before .before .before)
+
+-- ## Needs
+
 returns : tie.Need-returns
 unfolding constant-bytes
-returns c = put-then (c .before .before .before .before .before .before .put-mark .ensures) (c .before .before .put-le .ensures)
+returns c = put-then (put-mark-of-slice-known3 c .put-mark .ensures) (c .before .before .put-le .ensures)
 
 pub put-function-number-spec : {M : Type 1} → statement M
 put-function-number-spec =

@@ -31,8 +31,26 @@ sub-left c = search needs
 loop-less : tie.Need-loop-less Inv-loop μ-loop
 loop-less c = search needs
 
+-- ## Places
+
+abbrev in-loop-of-put-u8-arg : tie.After-put-u8-arg Inv-loop μ-loop → tie.In-loop Inv-loop μ-loop
+in-loop-of-put-u8-arg c = c .before
+
+abbrev in-loop-of-slice-known2 : tie.After-slice-known2 Inv-loop μ-loop → tie.In-loop Inv-loop μ-loop
+in-loop-of-slice-known2 c = in-loop-of-put-u8-arg (c .before .before .before)
+
+abbrev at-loop-of-slice-known2 : tie.After-slice-known2 Inv-loop μ-loop → tie.At-loop Inv-loop μ-loop
+at-loop-of-slice-known2 c = in-loop-of-slice-known2 c .before
+
+-- ## Needs
+
 loop-again : tie.Need-loop-again Inv-loop μ-loop
-loop-again c = (putting-step (c .before .before .before .before .before .loop .inv .0) (le-more (c .before .before .before .before .before .loop .left) (c .before .before .before .before .before .loop .m) (c .before .before .before .before .loop-test .taken)) (c .before .before .put-u8 .ensures), omega (arith, c .before .before .put-u8 .ensures .next, c .before .before .before .before .before .loop .inv .1, c .before .before .before .before .loop-test .taken))
+loop-again c = (
+  putting-step (at-loop-of-slice-known2 c .loop .inv .0) (le-more (at-loop-of-slice-known2 c .loop .left) (at-loop-of-slice-known2 c .loop .m)
+      (in-loop-of-slice-known2 c .loop-test .taken)) (c .before .before .put-u8 .ensures),
+  omega
+      (arith, c .before .before .put-u8 .ensures .next, at-loop-of-slice-known2 c .loop .inv .1, in-loop-of-slice-known2 c .loop-test .taken),
+)
 
 same-length : tie.Need-same-length Inv-loop μ-loop
 same-length c = c .before .loop .inv .0 .put .size

@@ -16,8 +16,18 @@ put-u8-requires-2 c κs = search needs
 same-length : tie.Need-same-length
 same-length c = search needs
 
+-- ## Places
+
+abbrev put-u8-of-put-u8-arg2 : tie.After-put-u8-arg2 → tie.After-put-u8
+put-u8-of-put-u8-arg2 c = c .before .before .before
+
+abbrev put-u8-of-slice-known3 : tie.After-slice-known3 → tie.After-put-u8
+put-u8-of-slice-known3 c = put-u8-of-put-u8-arg2 (c .before .before .before)
+
+-- ## Needs
+
 returns : tie.Need-returns
-returns c = put-then (c .before .before .before .before .before .before .put-u8 .ensures) (c .before .before .put-u82 .ensures)
+returns c = put-then (put-u8-of-slice-known3 c .put-u8 .ensures) (c .before .before .put-u82 .ensures)
 
 pub put-mark-spec : {M : Type 1} → statement M
 put-mark-spec = tie.close (tie.spec put-u8-requires put-u8-requires-2 same-length returns)

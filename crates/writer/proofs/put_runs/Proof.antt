@@ -14,7 +14,9 @@ use Rattle.writer.proofs.put_runs.Lts as lts
 use Rattle.writer.proofs.put_run.Reads as put-run-reads
 
 abbrev Inv-loop : tie.InvT-loop
-Inv-loop out₀ at spans from count next₀ i₀ left₀ out next i left = Putting out₀ out at next (join run-bytes (stretch (runAt spans) from count)) (join run-bytes (stretch (runAt spans) i left)) × (next + left * 11 ≤ 1152921504606846976) × ((i + left) * 3 ≤ length spans)
+Inv-loop out₀ at spans from count next₀ i₀ left₀ out next i left =
+    Putting out₀ out at next (join run-bytes (stretch (runAt spans) from count)) (join run-bytes (stretch (runAt spans) i left)) ×
+    (next + left * 11 ≤ 1152921504606846976) × ((i + left) * 3 ≤ length spans)
 
 abbrev μ-loop : tie.MeasureT-loop
 μ-loop out₀ at spans from count next₀ i₀ left₀ out next i left = left
@@ -40,26 +42,63 @@ add-put-run c = omega (arith, c .before .before .before .loop .inv .2, c .before
 mul-put-run-4 : tie.Need-mul-put-run-4 Inv-loop μ-loop
 mul-put-run-4 c = omega (arith, c .before .before .before .loop .inv .2, c .before .before .loop-test .taken)
 
+-- ## Places
+
+abbrev at-loop-of-in-loop : tie.In-loop Inv-loop μ-loop → tie.At-loop Inv-loop μ-loop
+at-loop-of-in-loop c = c .before
+
+abbrev at-loop-of-shared-slice-known3 : tie.After-shared-slice-known3 Inv-loop μ-loop → tie.At-loop Inv-loop μ-loop
+at-loop-of-shared-slice-known3 c = at-loop-of-in-loop (c .before .before .before)
+
+abbrev in-loop-of-put-run-arg : tie.After-put-run-arg Inv-loop μ-loop → tie.In-loop Inv-loop μ-loop
+in-loop-of-put-run-arg c = c .before
+
+abbrev in-loop-of-shared-slice-known4 : tie.After-shared-slice-known4 Inv-loop μ-loop → tie.In-loop Inv-loop μ-loop
+in-loop-of-shared-slice-known4 c = in-loop-of-put-run-arg (c .before .before .before)
+
+abbrev at-loop-of-shared-slice-known4 : tie.After-shared-slice-known4 Inv-loop μ-loop → tie.At-loop Inv-loop μ-loop
+at-loop-of-shared-slice-known4 c = in-loop-of-shared-slice-known4 c .before
+
+abbrev in-loop-of-slice-known2 : tie.After-slice-known2 Inv-loop μ-loop → tie.In-loop Inv-loop μ-loop
+in-loop-of-slice-known2 c = in-loop-of-shared-slice-known4 (c .before .before .before)
+
+abbrev at-loop-of-slice-known2 : tie.After-slice-known2 Inv-loop μ-loop → tie.At-loop Inv-loop μ-loop
+at-loop-of-slice-known2 c = in-loop-of-slice-known2 c .before
+
+abbrev start-of-at-loop : tie.At-loop Inv-loop μ-loop → tie.Start Inv-loop μ-loop
+start-of-at-loop c = c .before .before .before
+
+abbrev start-of-in-loop : tie.In-loop Inv-loop μ-loop → tie.Start Inv-loop μ-loop
+start-of-in-loop c = start-of-at-loop (c .before)
+
+abbrev start-of-slice-known2 : tie.After-slice-known2 Inv-loop μ-loop → tie.Start Inv-loop μ-loop
+start-of-slice-known2 c = start-of-in-loop (in-loop-of-slice-known2 c)
+
+abbrev start-of-after-loop : tie.After-loop Inv-loop μ-loop → tie.Start Inv-loop μ-loop
+start-of-after-loop c = start-of-at-loop (c .before)
+
+-- ## Needs
+
 shared-slice-read-put-run-2 : tie.Need-shared-slice-read-put-run-2 Inv-loop μ-loop
-shared-slice-read-put-run-2 c = omega (arith, c .before .before .before .before .loop .inv .2, c .before .before .before .loop-test .taken)
+shared-slice-read-put-run-2 c = omega (arith, at-loop-of-shared-slice-known3 c .loop .inv .2, c .before .before .before .loop-test .taken)
 
 mul-put-run-5 : tie.Need-mul-put-run-5 Inv-loop μ-loop
-mul-put-run-5 c = omega (arith, c .before .before .before .before .loop .inv .2, c .before .before .before .loop-test .taken)
+mul-put-run-5 c = omega (arith, at-loop-of-shared-slice-known3 c .loop .inv .2, c .before .before .before .loop-test .taken)
 
 add-put-run-2 : tie.Need-add-put-run-2 Inv-loop μ-loop
-add-put-run-2 c = omega (arith, c .before .before .before .before .loop .inv .2, c .before .before .before .loop-test .taken)
+add-put-run-2 c = omega (arith, at-loop-of-shared-slice-known3 c .loop .inv .2, c .before .before .before .loop-test .taken)
 
 mul-put-run-6 : tie.Need-mul-put-run-6 Inv-loop μ-loop
-mul-put-run-6 c = omega (arith, c .before .before .before .before .loop .inv .2, c .before .before .before .loop-test .taken)
+mul-put-run-6 c = omega (arith, at-loop-of-shared-slice-known3 c .loop .inv .2, c .before .before .before .loop-test .taken)
 
 shared-slice-read-put-run-3 : tie.Need-shared-slice-read-put-run-3 Inv-loop μ-loop
-shared-slice-read-put-run-3 c = omega (arith, c .before .before .before .before .before .loop .inv .2, c .before .before .before .before .loop-test .taken)
+shared-slice-read-put-run-3 c = omega (arith, at-loop-of-shared-slice-known4 c .loop .inv .2, in-loop-of-shared-slice-known4 c .loop-test .taken)
 
 put-run-requires : tie.Need-put-run-requires Inv-loop μ-loop
-put-run-requires c κs = omega (arith, c .before .before .before .before .before .loop .inv .1, c .before .before .before .before .loop-test .taken)
+put-run-requires c κs = omega (arith, at-loop-of-shared-slice-known4 c .loop .inv .1, in-loop-of-shared-slice-known4 c .loop-test .taken)
 
 add-i : tie.Need-add-i Inv-loop μ-loop
-add-i c = omega (arith, c .before .before .before .before .before .before .before .before .loop .inv .2, c .before .before .before .before .before .before .before .loop-test .taken)
+add-i c = omega (arith, at-loop-of-slice-known2 c .loop .inv .2, in-loop-of-slice-known2 c .loop-test .taken)
 
 sub-left : tie.Need-sub-left Inv-loop μ-loop
 sub-left c = search needs
@@ -68,13 +107,27 @@ loop-less : tie.Need-loop-less Inv-loop μ-loop
 loop-less c = search needs
 
 loop-again : tie.Need-loop-again Inv-loop μ-loop
-loop-again c = (putting-step (c .before .before .before .before .before .before .before .before .loop .inv .0) (join-more run-bytes (runAt (c .before .before .before .before .before .before .before .before .before .before .before .args .spans .now)) (c .before .before .before .before .before .before .before .before .loop .i) (c .before .before .before .before .before .before .before .before .loop .left) (c .before .before .before .before .before .before .before .loop-test .taken)) (c .before .before .put-run .ensures), omega (arith, c .before .before .put-run .ensures .next, length-run (runAt (c .before .before .before .before .before .before .before .before .before .before .before .args .spans .now) (c .before .before .before .before .before .before .before .before .loop .i)), c .before .before .before .before .before .before .before .before .loop .inv .1, c .before .before .before .before .before .before .before .loop-test .taken), omega (arith, c .before .before .before .before .before .before .before .before .loop .inv .2, c .before .before .before .before .before .before .before .loop-test .taken))
+loop-again c = (
+  putting-step (at-loop-of-slice-known2 c .loop .inv .0) (join-more run-bytes (runAt (start-of-slice-known2 c .args .spans .now))
+      (at-loop-of-slice-known2 c .loop .i) (at-loop-of-slice-known2 c .loop .left) (in-loop-of-slice-known2 c .loop-test .taken))
+      (c .before .before .put-run .ensures),
+  omega (
+    arith,
+    c .before .before .put-run .ensures .next,
+    length-run
+        (runAt (start-of-slice-known2 c .args .spans .now) (at-loop-of-slice-known2 c .loop .i)),
+    at-loop-of-slice-known2 c .loop .inv .1,
+    in-loop-of-slice-known2 c .loop-test .taken,
+  ),
+  omega (arith, at-loop-of-slice-known2 c .loop .inv .2, in-loop-of-slice-known2 c .loop-test .taken),
+)
 
 same-length : tie.Need-same-length Inv-loop μ-loop
 same-length c = c .before .loop .inv .0 .put .size
 
 returns : tie.Need-returns Inv-loop μ-loop
-returns c = putting-end (c .before .loop .inv .0) (join-none run-bytes (runAt (c .before .before .before .before .args .spans .now)) (c .before .loop .i) (c .before .loop .left) (omega (arith, c .loop-test .left)))
+returns c =
+    putting-end (c .before .loop .inv .0) (join-none run-bytes (runAt (start-of-after-loop c .args .spans .now)) (c .before .loop .i) (c .before .loop .left) (omega (arith, c .loop-test .left)))
 
 pub put-runs-spec : {M : Type 1} → statement M
 put-runs-spec =

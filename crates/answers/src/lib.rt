@@ -1,0 +1,80 @@
+// An answer's five numbers from what was found: a length where all is well, or a refusal by its name.
+ghost use mathlib.Core.Path.{_≡_};
+ghost use Rattle.rules.specs.Answer.{at-place, at-span, with-length, refusal};
+use rules::Answer;
+use rules::Refusal;
+use rules::Span;
+
+fn at_place(number: u64, at: usize) -> Answer
+    ensures { λ r. ⌜ r ≡ at-place number at ⌝ }
+{
+    Answer {
+        number,
+        at: at as u64,
+        end: 0,
+        name: 0,
+        length: 0,
+    }
+}
+
+fn at_span(number: u64, span: Span, name: u16) -> Answer
+    ensures { λ r. ⌜ r ≡ at-span number span name ⌝ }
+{
+    Answer {
+        number,
+        at: span.start as u64,
+        end: span.end as u64,
+        name: name as u64,
+        length: 0,
+    }
+}
+
+fn with_length(number: u64, length: usize) -> Answer
+    ensures { λ r. ⌜ r ≡ with-length number length ⌝ }
+{
+    Answer {
+        number,
+        at: 0,
+        end: 0,
+        name: 0,
+        length: length as u64,
+    }
+}
+
+pub fn accepted(length: usize) -> Answer
+    ensures { λ r. ⌜ r ≡ with-length 0 length ⌝ }
+{
+    with_length(0, length)
+}
+
+// A refusal's number and fields.
+pub fn refused(r: Refusal) -> Answer
+    ensures { λ a. ⌜ a ≡ refusal r ⌝ }
+{
+    match r {
+        Refusal::WorkShort => at_place(1, 0),
+        Refusal::TreeTooLong => at_place(2, 0),
+        Refusal::TreeForm(at) => at_place(3, at),
+        Refusal::TreeTooDeep(at) => at_place(4, at),
+        Refusal::TooManyOpen(at) => at_place(5, at),
+        Refusal::AlreadyDefined(span, name) => at_span(10, span, name),
+        Refusal::AccessInsideInitializer(span, name) => at_span(11, span, name),
+        Refusal::ClassInheritFromSelf(span, name) => at_span(12, span, name),
+        Refusal::JumpTooLarge(span) => at_span(13, span, 0),
+        Refusal::TooManyArgs(span) => at_span(14, span, 0),
+        Refusal::TooManyConstants(span) => at_span(15, span, 0),
+        Refusal::TooManyLocals(span) => at_span(16, span, 0),
+        Refusal::TooManyParams(span) => at_span(17, span, 0),
+        Refusal::TooManyUpvalues(span) => at_span(18, span, 0),
+        Refusal::ReturnInInitializer(span) => at_span(19, span, 0),
+        Refusal::ReturnOutsideFunction(span) => at_span(20, span, 0),
+        Refusal::SuperOutsideClass(span) => at_span(21, span, 0),
+        Refusal::SuperWithoutSuperclass(span) => at_span(22, span, 0),
+        Refusal::ThisOutsideClass(span) => at_span(23, span, 0),
+        Refusal::CodeFull => at_place(30, 0),
+        Refusal::OutFull(needed) => with_length(31, needed),
+        Refusal::ImageRefused => at_place(40, 0),
+        Refusal::NoSuchFunction => at_place(41, 0),
+        Refusal::NoSuchByte => at_place(42, 0),
+    }
+}

@@ -1,3 +1,0 @@
--- What the compiler's functions over a tree file's bytes say.
-pub mod Exprs
-pub mod Stmts

@@ -1,0 +1,3 @@
+-- The laws of the arms: one for each way out of a function of src/.
+pub mod Operators
+pub mod Calls

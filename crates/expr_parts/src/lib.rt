@@ -1,0 +1,257 @@
+// Parts of expressions that hold no expression: the code before, between and behind the expressions inside. That the bytes are a tree is known: each
+// function says what it does where the rules' reader reads something.
+ghost use Prim.Native.Nat.{ℕ, _+_, _≤_, _<_};
+ghost use Rattle.rules.specs.Compiler.{compile-super};
+ghost use Rattle.fields.specs.Words.{word16};
+ghost use Rattle.steps.specs.View.{mem, Fit, code-len, steady, Did};
+ghost use Rattle.expr_parts.specs.Exprs.{Somewhere, PrefixOp, InfixOp, Begun, Closed, CallOpened, CallParts, CallClosed};
+use fields::Mark;
+use fields::mark_at;
+use fields::u16_at;
+use op::Op;
+use rules::Limit;
+use rules::Name;
+use rules::Refusal;
+use rules::Span;
+use step_bytes::emit_invoke;
+use step_bytes::emit_op;
+use step_bytes::emit_op_name;
+use step_bytes::emit_op_u8;
+use step_jumps::emit_jump;
+use step_jumps::patch_jump;
+use step_names::get_variable;
+use step_returns::need_super;
+use steps::Step;
+
+// The opcode of a prefix operator's number.
+pub fn prefix_op(operator: u8) -> u8
+    ensures { λ r. ⌜ PrefixOp operator r ⌝ }
+{
+    if operator == 0 {
+        return Op::NEGATE;
+    }
+    Op::NOT
+}
+
+// The opcodes of the infix operators, by number, up to those that jump.
+const INFIX: [u8; 10] = [
+    Op::ADD,
+    Op::SUBTRACT,
+    Op::MULTIPLY,
+    Op::DIVIDE,
+    Op::LESS,
+    Op::LESS_EQUAL,
+    Op::GREATER,
+    Op::GREATER_EQUAL,
+    Op::EQUAL,
+    Op::NOT_EQUAL,
+];
+
+fn infix_op(operator: u8) -> u8
+    requires { ⌜ operator < 10 ⌝ }
+    ensures { λ r. ⌜ InfixOp operator r ⌝ }
+{
+    INFIX[operator as usize]
+}
+
+// A method of the superclass, bound to `this`.
+pub fn compile_super(
+    t: &mut [u64],
+    code: &mut [u8],
+    spans: &mut [u32],
+    level: usize,
+    limit: usize,
+    class: u8,
+    name: u16,
+    span: Span,
+    next: usize,
+) -> Step
+    requires { ⌜ Fit (mem (now t) (now code) (now spans)) level limit ⌝ }
+    ensures { λ r. ⌜ Did class limit level next steady (compile-super limit name span) (mem (now (t .entry)) (now (code .entry)) (now (spans .entry))) (mem (now (t .exit)) (now (code .exit)) (now (spans .exit))) r ⌝ }
+{
+    let n = need_super(class, span, next);
+    let Step::Next(_) = n else {
+        return n;
+    };
+    let a = get_variable(t, code, spans, level, limit, class, Name::THIS, span, next);
+    let Step::Next(_) = a else {
+        return a;
+    };
+    let b = get_variable(t, code, spans, level, limit, class, Name::SUPER, span, next);
+    let Step::Next(_) = b else {
+        return b;
+    };
+    emit_op_name(
+        t,
+        code,
+        spans,
+        level,
+        limit,
+        Op::GET_SUPER,
+        name,
+        span,
+        next,
+    )
+}
+
+// An infix operator up to its right side. `and` and `or` leave the operand of a jump open, whose place is the answer's value.
+pub fn before_right(
+    t: &mut [u64],
+    code: &mut [u8],
+    spans: &mut [u32],
+    level: usize,
+    limit: usize,
+    operator: u8,
+    span: Span,
+) -> Step
+    requires { ⌜ Fit (mem (now t) (now code) (now spans)) level limit ⌝ }
+    ensures { λ r. ⌜ ((class : ℕ) → Begun class limit level operator span (mem (now (t .entry)) (now (code .entry)) (now (spans .entry))) (mem (now (t .exit)) (now (code .exit)) (now (spans .exit))) r) ⌝ }
+{
+    if operator < 10 {
+        return Step::Next(0);
+    }
+    let a = emit_jump(t, code, spans, level, limit, Op::JUMP_IF_FALSE, span);
+    let Step::Next(first) = a else {
+        return a;
+    };
+    if operator == 10 {
+        return emit_op(t, code, spans, level, limit, Op::POP, span, first);
+    }
+    let b = emit_jump(t, code, spans, level, limit, Op::JUMP, span);
+    let Step::Next(second) = b else {
+        return b;
+    };
+    let d = patch_jump(t, code, spans, level, limit, first, span, 0);
+    let Step::Next(_) = d else {
+        return d;
+    };
+    emit_op(t, code, spans, level, limit, Op::POP, span, second)
+}
+
+pub fn after_right(
+    t: &mut [u64],
+    code: &mut [u8],
+    spans: &mut [u32],
+    level: usize,
+    limit: usize,
+    operator: u8,
+    place: usize,
+    span: Span,
+    next: usize,
+) -> Step
+    requires { ⌜ (Fit (mem (now t) (now code) (now spans)) level limit) × (10 ≤ operator → place + 2 ≤ code-len (mem (now t) (now code) (now spans)) level) ⌝ }
+    ensures { λ r. ⌜ ((class : ℕ) → Closed class limit level operator place next span (mem (now (t .entry)) (now (code .entry)) (now (spans .entry))) (mem (now (t .exit)) (now (code .exit)) (now (spans .exit))) r) ⌝ }
+{
+    if operator < 10 {
+        return emit_op(t, code, spans, level, limit, infix_op(operator), span, next);
+    }
+    patch_jump(t, code, spans, level, limit, place, span, next)
+}
+
+// A call up to its first part that is compiled; the answer's value is where that part stands.
+pub fn call_open(
+    tree: &[u8],
+    at: usize,
+    t: &mut [u64],
+    code: &mut [u8],
+    spans: &mut [u32],
+    level: usize,
+    limit: usize,
+    class: u8,
+    span: Span,
+) -> Step
+    requires { ⌜ (Fit (mem (now t) (now code) (now spans)) level limit) × (Somewhere (now tree) (at + 12)) ⌝ }
+    ensures { λ r. ⌜ CallOpened class limit level (now (tree .entry)) at span (mem (now (t .entry)) (now (code .entry)) (now (spans .entry))) (mem (now (t .exit)) (now (code .exit)) (now (spans .exit))) r ⌝ }
+{
+    if Limit::ARGS < u16_at(tree, at + 10) {
+        return Step::Stop(Refusal::TooManyArgs(span));
+    }
+    let mark = mark_at(tree, at + 12);
+    if mark == Mark::SUPER {
+        let n = need_super(class, span, 0);
+        let Step::Next(_) = n else {
+            return n;
+        };
+        return get_variable(
+            t,
+            code,
+            spans,
+            level,
+            limit,
+            class,
+            Name::THIS,
+            span,
+            at + 24,
+        );
+    }
+    if mark == Mark::GET {
+        return Step::Next(at + 24);
+    }
+    Step::Next(at + 12)
+}
+
+// How many parts are compiled one after the other: the arguments, and but for a call on `super` the object or the callee before them.
+pub fn call_parts(tree: &[u8], at: usize) -> usize
+    requires { ⌜ Somewhere (now tree) (at + 12) ⌝ }
+    ensures { λ r. ⌜ CallParts (now (tree .entry)) at r ⌝ }
+{
+    let count = u16_at(tree, at + 10) as usize;
+    if mark_at(tree, at + 12) == Mark::SUPER {
+        return count;
+    }
+    count + 1
+}
+
+pub fn call_close(
+    tree: &[u8],
+    at: usize,
+    t: &mut [u64],
+    code: &mut [u8],
+    spans: &mut [u32],
+    level: usize,
+    limit: usize,
+    class: u8,
+    span: Span,
+    next: usize,
+) -> Step
+    requires { ⌜ (Fit (mem (now t) (now code) (now spans)) level limit) × (Somewhere (now tree) (at + 12)) × (word16 (now tree) (at + 10) ≤ 255) ⌝ }
+    ensures { λ r. ⌜ CallClosed class limit level (now (tree .entry)) at next span (mem (now (t .entry)) (now (code .entry)) (now (spans .entry))) (mem (now (t .exit)) (now (code .exit)) (now (spans .exit))) r ⌝ }
+{
+    let count = (u16_at(tree, at + 10) % 256) as u8;
+    let mark = mark_at(tree, at + 12);
+    if mark == Mark::SUPER {
+        let a = get_variable(t, code, spans, level, limit, class, Name::SUPER, span, next);
+        let Step::Next(_) = a else {
+            return a;
+        };
+        let name = u16_at(tree, at + 22);
+        return emit_invoke(
+            t,
+            code,
+            spans,
+            level,
+            limit,
+            Op::SUPER_INVOKE,
+            name,
+            count,
+            span,
+            next,
+        );
+    }
+    if mark == Mark::GET {
+        let name = u16_at(tree, at + 22);
+        return emit_invoke(
+            t,
+            code,
+            spans,
+            level,
+            limit,
+            Op::INVOKE,
+            name,
+            count,
+            span,
+            next,
+        );
+    }
+    emit_op_u8(t, code, spans, level, limit, Op::CALL, count, span, next)
+}

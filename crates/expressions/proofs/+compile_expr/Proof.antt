@@ -1,0 +1,250 @@
+-- Expressions. The needs of each arm stand in a file of their own.
+use Rattle.expressions.proofs.compile_expr.Reads as own
+use Rattle.expressions.proofs.+compile_expr.Lts-compile_expr as lts
+use Rattle.expressions.proofs.+compile_expr.{statement}
+use Rattle.expressions.proofs.+compile_expr.Tie.{close}
+use Rattle.expressions.proofs.+compile_expr.Proof.Shared.{bytes-left, pre, claims, Inv-loop, μ-loop, mark-at-requires, add-span-at, span-at-requires}
+use Rattle.expressions.proofs.+compile_expr.Proof.Literal.{literal-requires, enum-known-plain, enum-told, same-length, same-length-2, same-length-3, returns, same-length-4, same-length-5}
+use Rattle.expressions.proofs.+compile_expr.Proof.Literal.{same-length-6, returns-2}
+use Rattle.expressions.proofs.+compile_expr.Proof.Variable.{add-u16-at, u16-at-requires, add-get-variable, get-variable-requires, enum-known-fetched, enum-told-2, same-length-7, same-length-8}
+use Rattle.expressions.proofs.+compile_expr.Proof.Variable.{same-length-9, returns-3, same-length-10, same-length-11, same-length-12, returns-4}
+use Rattle.expressions.proofs.+compile_expr.Proof.Infix.{add-u8-at, u8-at-requires, add-compile-expr, compile-expr-requires, enum-known-lhs, enum-told-3, same-length-13, same-length-14}
+use Rattle.expressions.proofs.+compile_expr.Proof.Infix.{same-length-15, returns-5, before-right-requires, enum-known-begun, enum-told-4, same-length-16, same-length-17, same-length-18, returns-6}
+use Rattle.expressions.proofs.+compile_expr.Proof.Infix.{compile-expr-requires-2, enum-known-rhs, enum-told-5, same-length-19, same-length-20, same-length-21, returns-7, after-right-requires}
+use Rattle.expressions.proofs.+compile_expr.Proof.Infix.{enum-known-joined, enum-told-6, same-length-22, same-length-23, same-length-24, returns-8, same-length-25, same-length-26, same-length-27}
+use Rattle.expressions.proofs.+compile_expr.Proof.Infix.{returns-9}
+use Rattle.expressions.proofs.+compile_expr.Proof.Prefix.{add-u8-at-2, u8-at-requires-2, add-compile-expr-2, compile-expr-requires-3, enum-known-operand, enum-told-7, same-length-28}
+use Rattle.expressions.proofs.+compile_expr.Proof.Prefix.{same-length-29, same-length-30, returns-10, prefix-op-requires, emit-op-requires, enum-known-signed, enum-told-8, same-length-31}
+use Rattle.expressions.proofs.+compile_expr.Proof.Prefix.{same-length-32, same-length-33, returns-11, same-length-34, same-length-35, same-length-36, returns-12}
+use Rattle.expressions.proofs.+compile_expr.Proof.Call.{call-open-requires, enum-known-opened, enum-told-9, same-length-37, same-length-38, same-length-39, returns-13, call-parts-requires}
+use Rattle.expressions.proofs.+compile_expr.Proof.Call.{loop-holds, compile-expr-requires-4, enum-known-part, enum-told-10, same-length-40, same-length-41, same-length-42, returns-14, sub-parts}
+use Rattle.expressions.proofs.+compile_expr.Proof.Call.{loop-less, loop-again, call-close-requires, enum-known-called, enum-told-11, same-length-43, same-length-44, same-length-45, returns-15}
+use Rattle.expressions.proofs.+compile_expr.Proof.Call.{same-length-46, same-length-47, same-length-48, returns-16}
+use Rattle.expressions.proofs.+compile_expr.Proof.Super.{add-u16-at-2, u16-at-requires-2, add-compile-super, compile-super-requires, enum-known-bound, enum-told-12, same-length-49, same-length-50}
+use Rattle.expressions.proofs.+compile_expr.Proof.Super.{same-length-51, returns-17, same-length-52, same-length-53, same-length-54, returns-18}
+use Rattle.expressions.proofs.+compile_expr.Proof.Assign.{add-u16-at-3, u16-at-requires-3, add-compile-expr-3, compile-expr-requires-5, enum-known-given, enum-told-13, same-length-55}
+use Rattle.expressions.proofs.+compile_expr.Proof.Assign.{same-length-56, same-length-57, returns-19, set-variable-requires, enum-known-stored, enum-told-14, same-length-58, same-length-59}
+use Rattle.expressions.proofs.+compile_expr.Proof.Assign.{same-length-60, returns-20, same-length-61, same-length-62, same-length-63, returns-21}
+use Rattle.expressions.proofs.+compile_expr.Proof.Get.{add-u16-at-4, u16-at-requires-4, add-compile-expr-4, compile-expr-requires-6, enum-known-object, enum-told-15, same-length-64}
+use Rattle.expressions.proofs.+compile_expr.Proof.Get.{same-length-65, same-length-66, returns-22, emit-op-name-requires, enum-known-read, enum-told-16, same-length-67, same-length-68}
+use Rattle.expressions.proofs.+compile_expr.Proof.Get.{same-length-69, returns-23, same-length-70, same-length-71, same-length-72, returns-24}
+use Rattle.expressions.proofs.+compile_expr.Proof.Set.{add-u16-at-5, u16-at-requires-5, add-from, compile-expr-requires-7, enum-known-value, enum-told-17, same-length-73, same-length-74}
+use Rattle.expressions.proofs.+compile_expr.Proof.Set.{same-length-75, returns-25, compile-expr-requires-8, enum-known-holder, enum-told-18, same-length-76, same-length-77, same-length-78}
+use Rattle.expressions.proofs.+compile_expr.Proof.Set.{returns-26, emit-op-name-requires-2, enum-known-put, enum-told-19, same-length-79, same-length-80, same-length-81, returns-27}
+use Rattle.expressions.proofs.+compile_expr.Proof.Set.{same-length-82, same-length-83, same-length-84, returns-28}
+mod Shared
+mod Literal
+mod Variable
+mod Infix
+mod Prefix
+mod Call
+mod Super
+mod Assign
+mod Get
+mod Set
+
+pub +compile-expr-spec : {M : Type 1} → statement M
++compile-expr-spec = close bytes-left λ t. lts.spec (claims t)
+    (pre t)
+    own.Post
+    Inv-loop
+    μ-loop
+    (mark-at-requires t)
+    (add-span-at t)
+    (span-at-requires t)
+    (literal-requires t)
+    (enum-known-plain t)
+    (enum-told t)
+    (same-length t)
+    (same-length-2 t)
+    (same-length-3 t)
+    (returns t)
+    (same-length-4 t)
+    (same-length-5 t)
+    (same-length-6 t)
+    (returns-2 t)
+    (add-u16-at t)
+    (u16-at-requires t)
+    (add-get-variable t)
+    (get-variable-requires t)
+    (enum-known-fetched t)
+    (enum-told-2 t)
+    (same-length-7 t)
+    (same-length-8 t)
+    (same-length-9 t)
+    (returns-3 t)
+    (same-length-10 t)
+    (same-length-11 t)
+    (same-length-12 t)
+    (returns-4 t)
+    (add-u8-at t)
+    (u8-at-requires t)
+    (add-compile-expr t)
+    (compile-expr-requires t)
+    (enum-known-lhs t)
+    (enum-told-3 t)
+    (same-length-13 t)
+    (same-length-14 t)
+    (same-length-15 t)
+    (returns-5 t)
+    (before-right-requires t)
+    (enum-known-begun t)
+    (enum-told-4 t)
+    (same-length-16 t)
+    (same-length-17 t)
+    (same-length-18 t)
+    (returns-6 t)
+    (compile-expr-requires-2 t)
+    (enum-known-rhs t)
+    (enum-told-5 t)
+    (same-length-19 t)
+    (same-length-20 t)
+    (same-length-21 t)
+    (returns-7 t)
+    (after-right-requires t)
+    (enum-known-joined t)
+    (enum-told-6 t)
+    (same-length-22 t)
+    (same-length-23 t)
+    (same-length-24 t)
+    (returns-8 t)
+    (same-length-25 t)
+    (same-length-26 t)
+    (same-length-27 t)
+    (returns-9 t)
+    (add-u8-at-2 t)
+    (u8-at-requires-2 t)
+    (add-compile-expr-2 t)
+    (compile-expr-requires-3 t)
+    (enum-known-operand t)
+    (enum-told-7 t)
+    (same-length-28 t)
+    (same-length-29 t)
+    (same-length-30 t)
+    (returns-10 t)
+    (prefix-op-requires t)
+    (emit-op-requires t)
+    (enum-known-signed t)
+    (enum-told-8 t)
+    (same-length-31 t)
+    (same-length-32 t)
+    (same-length-33 t)
+    (returns-11 t)
+    (same-length-34 t)
+    (same-length-35 t)
+    (same-length-36 t)
+    (returns-12 t)
+    (call-open-requires t)
+    (enum-known-opened t)
+    (enum-told-9 t)
+    (same-length-37 t)
+    (same-length-38 t)
+    (same-length-39 t)
+    (returns-13 t)
+    (call-parts-requires t)
+    (loop-holds t)
+    (compile-expr-requires-4 t)
+    (enum-known-part t)
+    (enum-told-10 t)
+    (same-length-40 t)
+    (same-length-41 t)
+    (same-length-42 t)
+    (returns-14 t)
+    (sub-parts t)
+    (loop-less t)
+    (loop-again t)
+    (call-close-requires t)
+    (enum-known-called t)
+    (enum-told-11 t)
+    (same-length-43 t)
+    (same-length-44 t)
+    (same-length-45 t)
+    (returns-15 t)
+    (same-length-46 t)
+    (same-length-47 t)
+    (same-length-48 t)
+    (returns-16 t)
+    (add-u16-at-2 t)
+    (u16-at-requires-2 t)
+    (add-compile-super t)
+    (compile-super-requires t)
+    (enum-known-bound t)
+    (enum-told-12 t)
+    (same-length-49 t)
+    (same-length-50 t)
+    (same-length-51 t)
+    (returns-17 t)
+    (same-length-52 t)
+    (same-length-53 t)
+    (same-length-54 t)
+    (returns-18 t)
+    (add-u16-at-3 t)
+    (u16-at-requires-3 t)
+    (add-compile-expr-3 t)
+    (compile-expr-requires-5 t)
+    (enum-known-given t)
+    (enum-told-13 t)
+    (same-length-55 t)
+    (same-length-56 t)
+    (same-length-57 t)
+    (returns-19 t)
+    (set-variable-requires t)
+    (enum-known-stored t)
+    (enum-told-14 t)
+    (same-length-58 t)
+    (same-length-59 t)
+    (same-length-60 t)
+    (returns-20 t)
+    (same-length-61 t)
+    (same-length-62 t)
+    (same-length-63 t)
+    (returns-21 t)
+    (add-u16-at-4 t)
+    (u16-at-requires-4 t)
+    (add-compile-expr-4 t)
+    (compile-expr-requires-6 t)
+    (enum-known-object t)
+    (enum-told-15 t)
+    (same-length-64 t)
+    (same-length-65 t)
+    (same-length-66 t)
+    (returns-22 t)
+    (emit-op-name-requires t)
+    (enum-known-read t)
+    (enum-told-16 t)
+    (same-length-67 t)
+    (same-length-68 t)
+    (same-length-69 t)
+    (returns-23 t)
+    (same-length-70 t)
+    (same-length-71 t)
+    (same-length-72 t)
+    (returns-24 t)
+    (add-u16-at-5 t)
+    (u16-at-requires-5 t)
+    (add-from t)
+    (compile-expr-requires-7 t)
+    (enum-known-value t)
+    (enum-told-17 t)
+    (same-length-73 t)
+    (same-length-74 t)
+    (same-length-75 t)
+    (returns-25 t)
+    (compile-expr-requires-8 t)
+    (enum-known-holder t)
+    (enum-told-18 t)
+    (same-length-76 t)
+    (same-length-77 t)
+    (same-length-78 t)
+    (returns-26 t)
+    (emit-op-name-requires-2 t)
+    (enum-known-put t)
+    (enum-told-19 t)
+    (same-length-79 t)
+    (same-length-80 t)
+    (same-length-81 t)
+    (returns-27 t)
+    (same-length-82 t)
+    (same-length-83 t)
+    (same-length-84 t)
+    (returns-28 t)

@@ -1,0 +1,18 @@
+-- `slot_of` meets its contract. Assumes nothing.
+use native.Mathlib.Omega.{arith}
+use Rattle.image_constants.proofs.New.{slot-low, slot-high, below-low, below-high}
+use Rattle.image_constants.proofs.slot_of.Statement.{statement}
+use Rattle.image_constants.proofs.slot_of.Tie as tie
+
+returns : tie.Need-returns
+returns c = (slot-low (c .before .args .size) (c .before .args .word) (c .if1 .taken), below-low (c .before .args .size) (c .before .args .word) (c .before .pre))
+
+returns-2 : tie.Need-returns-2
+returns-2 c = (slot-high (c .before .args .size) (c .before .args .word) (c .if1 .left), below-high (c .before .args .size) (c .before .args .word) (c .if1 .left))
+
+pub slot-of-spec : {M : Type 1} → statement M
+slot-of-spec =
+    tie.close
+    (tie.spec
+    returns
+    returns-2)

@@ -1,2 +1,0 @@
--- The rules' table of opcodes as this crate's contracts cite it.
-pub mod Table

@@ -1,0 +1,233 @@
+-- Which refusals come from where, by the table of document 01: 3, 4 and 5 from the reader, 10 to 23 from the Rust's own rules, 30 from the code limit;
+-- and their numbers.
+use mathlib.Core.Path.{_≡_, refl}
+use Prim.Native.Nat.{ℕ, _≤_}
+use native.Mathlib.Omega.{arith}
+use Rattle.rules.specs.declared.Refusal.{Refusal}
+use Rattle.rules.specs.declared.Refusal.the-variants as refusal
+use Rattle.rules.specs.Answer as answer
+
+-- 3, 4 and 5
+abbrev pub Readers : Refusal → Type 0
+Readers refusal.WorkShort = ⊥
+Readers refusal.TreeTooLong = ⊥
+Readers (refusal.TreeForm at) = Unit {0}
+Readers (refusal.TreeTooDeep at) = Unit {0}
+Readers (refusal.TooManyOpen at) = Unit {0}
+Readers (refusal.AlreadyDefined span name) = ⊥
+Readers (refusal.AccessInsideInitializer span name) = ⊥
+Readers (refusal.ClassInheritFromSelf span name) = ⊥
+Readers (refusal.JumpTooLarge span) = ⊥
+Readers (refusal.TooManyArgs span) = ⊥
+Readers (refusal.TooManyConstants span) = ⊥
+Readers (refusal.TooManyLocals span) = ⊥
+Readers (refusal.TooManyParams span) = ⊥
+Readers (refusal.TooManyUpvalues span) = ⊥
+Readers (refusal.ReturnInInitializer span) = ⊥
+Readers (refusal.ReturnOutsideFunction span) = ⊥
+Readers (refusal.SuperOutsideClass span) = ⊥
+Readers (refusal.SuperWithoutSuperclass span) = ⊥
+Readers (refusal.ThisOutsideClass span) = ⊥
+Readers refusal.CodeFull = ⊥
+Readers (refusal.OutFull needed) = ⊥
+Readers refusal.ImageRefused = ⊥
+Readers refusal.NoSuchFunction = ⊥
+Readers refusal.NoSuchByte = ⊥
+
+-- 10 to 23
+abbrev pub Rusts : Refusal → Type 0
+Rusts refusal.WorkShort = ⊥
+Rusts refusal.TreeTooLong = ⊥
+Rusts (refusal.TreeForm at) = ⊥
+Rusts (refusal.TreeTooDeep at) = ⊥
+Rusts (refusal.TooManyOpen at) = ⊥
+Rusts (refusal.AlreadyDefined span name) = Unit {0}
+Rusts (refusal.AccessInsideInitializer span name) = Unit {0}
+Rusts (refusal.ClassInheritFromSelf span name) = Unit {0}
+Rusts (refusal.JumpTooLarge span) = Unit {0}
+Rusts (refusal.TooManyArgs span) = Unit {0}
+Rusts (refusal.TooManyConstants span) = Unit {0}
+Rusts (refusal.TooManyLocals span) = Unit {0}
+Rusts (refusal.TooManyParams span) = Unit {0}
+Rusts (refusal.TooManyUpvalues span) = Unit {0}
+Rusts (refusal.ReturnInInitializer span) = Unit {0}
+Rusts (refusal.ReturnOutsideFunction span) = Unit {0}
+Rusts (refusal.SuperOutsideClass span) = Unit {0}
+Rusts (refusal.SuperWithoutSuperclass span) = Unit {0}
+Rusts (refusal.ThisOutsideClass span) = Unit {0}
+Rusts refusal.CodeFull = ⊥
+Rusts (refusal.OutFull needed) = ⊥
+Rusts refusal.ImageRefused = ⊥
+Rusts refusal.NoSuchFunction = ⊥
+Rusts refusal.NoSuchByte = ⊥
+
+-- 10 to 23, and 30
+abbrev pub Compilers : Refusal → Type 0
+Compilers refusal.WorkShort = ⊥
+Compilers refusal.TreeTooLong = ⊥
+Compilers (refusal.TreeForm at) = ⊥
+Compilers (refusal.TreeTooDeep at) = ⊥
+Compilers (refusal.TooManyOpen at) = ⊥
+Compilers (refusal.AlreadyDefined span name) = Unit {0}
+Compilers (refusal.AccessInsideInitializer span name) = Unit {0}
+Compilers (refusal.ClassInheritFromSelf span name) = Unit {0}
+Compilers (refusal.JumpTooLarge span) = Unit {0}
+Compilers (refusal.TooManyArgs span) = Unit {0}
+Compilers (refusal.TooManyConstants span) = Unit {0}
+Compilers (refusal.TooManyLocals span) = Unit {0}
+Compilers (refusal.TooManyParams span) = Unit {0}
+Compilers (refusal.TooManyUpvalues span) = Unit {0}
+Compilers (refusal.ReturnInInitializer span) = Unit {0}
+Compilers (refusal.ReturnOutsideFunction span) = Unit {0}
+Compilers (refusal.SuperOutsideClass span) = Unit {0}
+Compilers (refusal.SuperWithoutSuperclass span) = Unit {0}
+Compilers (refusal.ThisOutsideClass span) = Unit {0}
+Compilers refusal.CodeFull = Unit {0}
+Compilers (refusal.OutFull needed) = ⊥
+Compilers refusal.ImageRefused = ⊥
+Compilers refusal.NoSuchFunction = ⊥
+Compilers refusal.NoSuchByte = ⊥
+
+-- what the compiler refuses by is the Rust's own, or 30
+pub data Compiled-by : Refusal → Type 0 where
+  a-rule : {r : Refusal} → Rusts r → Compiled-by r
+  the-limit : Compiled-by refusal.CodeFull
+
+pub rusts-compilers : (r : Refusal) → Rusts r → Compilers r
+rusts-compilers refusal.WorkShort h = absurd h
+rusts-compilers refusal.TreeTooLong h = absurd h
+rusts-compilers (refusal.TreeForm at) h = absurd h
+rusts-compilers (refusal.TreeTooDeep at) h = absurd h
+rusts-compilers (refusal.TooManyOpen at) h = absurd h
+rusts-compilers (refusal.AlreadyDefined span name) h = tt
+rusts-compilers (refusal.AccessInsideInitializer span name) h = tt
+rusts-compilers (refusal.ClassInheritFromSelf span name) h = tt
+rusts-compilers (refusal.JumpTooLarge span) h = tt
+rusts-compilers (refusal.TooManyArgs span) h = tt
+rusts-compilers (refusal.TooManyConstants span) h = tt
+rusts-compilers (refusal.TooManyLocals span) h = tt
+rusts-compilers (refusal.TooManyParams span) h = tt
+rusts-compilers (refusal.TooManyUpvalues span) h = tt
+rusts-compilers (refusal.ReturnInInitializer span) h = tt
+rusts-compilers (refusal.ReturnOutsideFunction span) h = tt
+rusts-compilers (refusal.SuperOutsideClass span) h = tt
+rusts-compilers (refusal.SuperWithoutSuperclass span) h = tt
+rusts-compilers (refusal.ThisOutsideClass span) h = tt
+rusts-compilers refusal.CodeFull h = absurd h
+rusts-compilers (refusal.OutFull needed) h = absurd h
+rusts-compilers refusal.ImageRefused h = absurd h
+rusts-compilers refusal.NoSuchFunction h = absurd h
+rusts-compilers refusal.NoSuchByte h = absurd h
+
+pub compiled-by : (r : Refusal) → Compilers r → Compiled-by r
+compiled-by refusal.WorkShort h = absurd h
+compiled-by refusal.TreeTooLong h = absurd h
+compiled-by (refusal.TreeForm at) h = absurd h
+compiled-by (refusal.TreeTooDeep at) h = absurd h
+compiled-by (refusal.TooManyOpen at) h = absurd h
+compiled-by (refusal.AlreadyDefined span name) h = a-rule tt
+compiled-by (refusal.AccessInsideInitializer span name) h = a-rule tt
+compiled-by (refusal.ClassInheritFromSelf span name) h = a-rule tt
+compiled-by (refusal.JumpTooLarge span) h = a-rule tt
+compiled-by (refusal.TooManyArgs span) h = a-rule tt
+compiled-by (refusal.TooManyConstants span) h = a-rule tt
+compiled-by (refusal.TooManyLocals span) h = a-rule tt
+compiled-by (refusal.TooManyParams span) h = a-rule tt
+compiled-by (refusal.TooManyUpvalues span) h = a-rule tt
+compiled-by (refusal.ReturnInInitializer span) h = a-rule tt
+compiled-by (refusal.ReturnOutsideFunction span) h = a-rule tt
+compiled-by (refusal.SuperOutsideClass span) h = a-rule tt
+compiled-by (refusal.SuperWithoutSuperclass span) h = a-rule tt
+compiled-by (refusal.ThisOutsideClass span) h = a-rule tt
+compiled-by refusal.CodeFull h = the-limit
+compiled-by (refusal.OutFull needed) h = absurd h
+compiled-by refusal.ImageRefused h = absurd h
+compiled-by refusal.NoSuchFunction h = absurd h
+compiled-by refusal.NoSuchByte h = absurd h
+
+-- ## Numbers
+
+abbrev pub number-of : Refusal → ℕ
+number-of r = answer.refusal r .number
+
+pub readers-number : (r : Refusal) → Readers r → (3 ≤ number-of r) × (number-of r ≤ 5)
+unfolding answer.refusal
+readers-number refusal.WorkShort h = absurd h
+readers-number refusal.TreeTooLong h = absurd h
+readers-number (refusal.TreeForm at) h = (omega arith, omega arith)
+readers-number (refusal.TreeTooDeep at) h = (omega arith, omega arith)
+readers-number (refusal.TooManyOpen at) h = (omega arith, omega arith)
+readers-number (refusal.AlreadyDefined span name) h = absurd h
+readers-number (refusal.AccessInsideInitializer span name) h = absurd h
+readers-number (refusal.ClassInheritFromSelf span name) h = absurd h
+readers-number (refusal.JumpTooLarge span) h = absurd h
+readers-number (refusal.TooManyArgs span) h = absurd h
+readers-number (refusal.TooManyConstants span) h = absurd h
+readers-number (refusal.TooManyLocals span) h = absurd h
+readers-number (refusal.TooManyParams span) h = absurd h
+readers-number (refusal.TooManyUpvalues span) h = absurd h
+readers-number (refusal.ReturnInInitializer span) h = absurd h
+readers-number (refusal.ReturnOutsideFunction span) h = absurd h
+readers-number (refusal.SuperOutsideClass span) h = absurd h
+readers-number (refusal.SuperWithoutSuperclass span) h = absurd h
+readers-number (refusal.ThisOutsideClass span) h = absurd h
+readers-number refusal.CodeFull h = absurd h
+readers-number (refusal.OutFull needed) h = absurd h
+readers-number refusal.ImageRefused h = absurd h
+readers-number refusal.NoSuchFunction h = absurd h
+readers-number refusal.NoSuchByte h = absurd h
+
+pub rusts-number : (r : Refusal) → Rusts r → (10 ≤ number-of r) × (number-of r ≤ 23)
+unfolding answer.refusal
+rusts-number refusal.WorkShort h = absurd h
+rusts-number refusal.TreeTooLong h = absurd h
+rusts-number (refusal.TreeForm at) h = absurd h
+rusts-number (refusal.TreeTooDeep at) h = absurd h
+rusts-number (refusal.TooManyOpen at) h = absurd h
+rusts-number (refusal.AlreadyDefined span name) h = (omega arith, omega arith)
+rusts-number (refusal.AccessInsideInitializer span name) h = (omega arith, omega arith)
+rusts-number (refusal.ClassInheritFromSelf span name) h = (omega arith, omega arith)
+rusts-number (refusal.JumpTooLarge span) h = (omega arith, omega arith)
+rusts-number (refusal.TooManyArgs span) h = (omega arith, omega arith)
+rusts-number (refusal.TooManyConstants span) h = (omega arith, omega arith)
+rusts-number (refusal.TooManyLocals span) h = (omega arith, omega arith)
+rusts-number (refusal.TooManyParams span) h = (omega arith, omega arith)
+rusts-number (refusal.TooManyUpvalues span) h = (omega arith, omega arith)
+rusts-number (refusal.ReturnInInitializer span) h = (omega arith, omega arith)
+rusts-number (refusal.ReturnOutsideFunction span) h = (omega arith, omega arith)
+rusts-number (refusal.SuperOutsideClass span) h = (omega arith, omega arith)
+rusts-number (refusal.SuperWithoutSuperclass span) h = (omega arith, omega arith)
+rusts-number (refusal.ThisOutsideClass span) h = (omega arith, omega arith)
+rusts-number refusal.CodeFull h = absurd h
+rusts-number (refusal.OutFull needed) h = absurd h
+rusts-number refusal.ImageRefused h = absurd h
+rusts-number refusal.NoSuchFunction h = absurd h
+rusts-number refusal.NoSuchByte h = absurd h
+
+-- only 30 is 30
+pub number-30 : (r : Refusal) → number-of r ≡ 30 → r ≡ refusal.CodeFull
+unfolding answer.refusal
+number-30 refusal.WorkShort e = absurd (omega arith)
+number-30 refusal.TreeTooLong e = absurd (omega arith)
+number-30 (refusal.TreeForm at) e = absurd (omega arith)
+number-30 (refusal.TreeTooDeep at) e = absurd (omega arith)
+number-30 (refusal.TooManyOpen at) e = absurd (omega arith)
+number-30 (refusal.AlreadyDefined span name) e = absurd (omega arith)
+number-30 (refusal.AccessInsideInitializer span name) e = absurd (omega arith)
+number-30 (refusal.ClassInheritFromSelf span name) e = absurd (omega arith)
+number-30 (refusal.JumpTooLarge span) e = absurd (omega arith)
+number-30 (refusal.TooManyArgs span) e = absurd (omega arith)
+number-30 (refusal.TooManyConstants span) e = absurd (omega arith)
+number-30 (refusal.TooManyLocals span) e = absurd (omega arith)
+number-30 (refusal.TooManyParams span) e = absurd (omega arith)
+number-30 (refusal.TooManyUpvalues span) e = absurd (omega arith)
+number-30 (refusal.ReturnInInitializer span) e = absurd (omega arith)
+number-30 (refusal.ReturnOutsideFunction span) e = absurd (omega arith)
+number-30 (refusal.SuperOutsideClass span) e = absurd (omega arith)
+number-30 (refusal.SuperWithoutSuperclass span) e = absurd (omega arith)
+number-30 (refusal.ThisOutsideClass span) e = absurd (omega arith)
+number-30 refusal.CodeFull e = refl
+number-30 (refusal.OutFull needed) e = absurd (omega arith)
+number-30 refusal.ImageRefused e = absurd (omega arith)
+number-30 refusal.NoSuchFunction e = absurd (omega arith)
+number-30 refusal.NoSuchByte e = absurd (omega arith)

@@ -1,0 +1,153 @@
+-- Memory: if one room gives an answer other than 1, 30 and 31, every room at least as large in each size gives the same answer and the same image, and
+-- the output is longer only by zeros. For all limits, trees and lent sizes.
+use mathlib.Core.Path.{_≡_, refl, sym, ap, subst}
+use mathlib.Core.Logic.{_≢_}
+use mathlib.Core.Bool.{Bool, true, false}
+use mathlib.Core.List.{List, _++_, append-assoc}
+use Prim.Native.Nat.{ℕ, _+_, _-_, _*_, _≤_}
+use native.Mathlib.Omega.{arith}
+use lib.ListN.{length, replicate, replicate-append-replicate}
+use lib.Dec.{T, leb, leb→le, le→leb}
+use Rattle.rules.specs.Base.{if_then_else_}
+use Rattle.rules.specs.Limits.{Limits, first-limits, max-tree}
+use Rattle.rules.specs.declared.Answer.{Answer}
+use Rattle.rules.specs.declared.Refusal.the-variants.{WorkShort, TreeTooLong, CodeFull, OutFull}
+use Rattle.rules.specs.Answer.{refusal, accepted}
+use Rattle.rules.specs.Tree.{Stmts}
+use Rattle.rules.specs.Reader.{Read, got, bad}
+use Rattle.rules.specs.TreeFile.{read-tree}
+use Rattle.rules.specs.Chunk.{ObjectFunction}
+use Rattle.rules.specs.Compiler.{Outcome}
+use Rattle.rules.specs.Image.{image-bytes}
+use Rattle.rules.specs.Entry as entry
+use Rattle.rules.specs.Entry.{Lent, Left, code-limit, Compiled, functions-are, refused, compile-tree, compile-lent, compile-within, compile}
+use Rattle.rules_laws.proofs.Agrees as agreeing
+use Rattle.rules_laws.proofs.Agrees.{Under, agrees}
+
+-- at least as large in each size
+pub record Larger (lent lent′ : Lent) : Type 0 where
+  pub table-words : lent .table-words ≤ lent′ .table-words
+  pub code-bytes : lent .code-bytes ≤ lent′ .code-bytes
+  pub span-words : lent .span-words ≤ lent′ .span-words
+  pub output-bytes : lent .output-bytes ≤ lent′ .output-bytes
+
+pub larger-limit : (lent lent′ : Lent) → Larger lent lent′ → code-limit lent ≤ code-limit lent′
+unfolding code-limit
+larger-limit lent lent′ l = omega (arith, l .code-bytes, l .span-words)
+
+-- ## What the compiler comes to under two limits
+
+pub data Under-compiled (x x′ : Compiled) : Type 0 where
+  full : x ≡ refused CodeFull → Under-compiled x x′
+  same : x ≡ x′ → Under-compiled x x′
+
+from-outcome : {o o′ : Outcome (List ObjectFunction)} → Under o o′ → Under-compiled (entry.from-outcome o) (entry.from-outcome o′)
+unfolding entry.from-outcome
+from-outcome (agreeing.full e) = full (ap entry.from-outcome e)
+from-outcome (agreeing.same e) = same (ap entry.from-outcome e)
+
+from-read : (r : Read Stmts) (limit limit′ : ℕ) → limit ≤ limit′ → Under-compiled (entry.from-read r limit) (entry.from-read r limit′)
+unfolding entry.from-read
+from-read (got stmts next) limit limit′ l = from-outcome (agrees limit limit′ l stmts)
+from-read (bad r) limit limit′ l = same refl
+
+module _ (limits : Limits) (tree : List ℕ) where
+  pub tree-agrees : (limit limit′ : ℕ) → limit ≤ limit′ → Under-compiled (compile-tree limits tree limit) (compile-tree limits tree limit′)
+  unfolding compile-tree
+  tree-agrees limit limit′ l = by-length (leb (length tree) max-tree)
+    where
+      read : Read Stmts
+      read = read-tree tree (limits .depth) (limits .funs)
+
+      by-length : (b : Bool) →
+          Under-compiled (if b then entry.from-read read limit else refused TreeTooLong)
+          (if b then entry.from-read read limit′ else refused TreeTooLong)
+      by-length true = from-read read limit limit′ l
+      by-length false = same refl
+
+-- ## What is written
+
+-- the same answer, and an output that is longer only by zeros
+pub record Same (lent lent′ : Lent) (r r′ : Left) : Type 0 where
+  pub answer : r′ .answer ≡ r .answer
+  pub output : r′ .output ≡ r .output ++ replicate (lent′ .output-bytes - lent .output-bytes) 0
+
+zeros : (n m k : ℕ) → m + k ≡ n → replicate {A = ℕ} n 0 ≡ replicate m 0 ++ replicate k 0
+zeros n m k e = rw (replicate-append-replicate {A = ℕ} m k 0, e)
+
+module _ (lent lent′ : Lent) (larger : Larger lent lent′) where
+  abbrev Enough : Answer → Type 0
+  Enough a = (a .number ≢ 1) × (a .number ≢ 30) × (a .number ≢ 31)
+
+  image-same : (image : List ℕ) → entry.write-image lent image .answer .number ≢ 31 →
+      Same lent lent′ (entry.write-image lent image) (entry.write-image lent′ image)
+  unfolding entry.write-image entry.leaves refusal
+  image-same image n = by-room (leb (length image) (lent .output-bytes)) refl n
+    where
+      room : Lent → Bool → Left
+      room lent b =
+          if b
+          then entry.leaves lent (accepted (length image)) (image ++ replicate (lent .output-bytes - length image) 0)
+          else entry.leaves lent (refusal (OutFull (length image))) (replicate (lent .output-bytes) 0)
+
+      padded : length image ≤ lent .output-bytes →
+          image ++ replicate (lent′ .output-bytes - length image) 0 ≡ (image ++ replicate (lent .output-bytes - length image) 0) ++ replicate
+          (lent′ .output-bytes - lent .output-bytes) 0
+      padded l =
+          rw (zeros (lent′ .output-bytes - length image) (lent .output-bytes - length image) (lent′ .output-bytes - lent .output-bytes)
+          (omega (arith, larger .output-bytes)))
+          (sym (append-assoc image (replicate (lent .output-bytes - length image) 0) (replicate (lent′ .output-bytes - lent .output-bytes) 0)))
+
+      by-larger : length image ≤ lent .output-bytes → (b : Bool) → T b → Same lent lent′ (room lent true) (room lent′ b)
+      by-larger l true t = record { answer = refl; output = padded l }
+      by-larger l false t = absurd t
+
+      by-room : (b : Bool) → leb (length image) (lent .output-bytes) ≡ b → room lent b .answer .number ≢ 31 →
+          Same lent lent′ (room lent b) (room lent′ (leb (length image) (lent′ .output-bytes)))
+      by-room true e n =
+          let l : length image ≤ lent .output-bytes = leb→le (length image) (lent .output-bytes) (rw e tt) in
+          by-larger l (leb (length image) (lent′ .output-bytes)) (le→leb (length image) (lent′ .output-bytes) (omega (arith, larger .output-bytes)))
+      by-room false e n = absurd (n refl)
+
+  out-same : (x : Compiled) → entry.write-out lent x .answer .number ≢ 31 → Same lent lent′ (entry.write-out lent x) (entry.write-out lent′ x)
+  unfolding entry.write-out entry.leaves
+  out-same (refused r) n =
+      record {
+        answer = refl;
+        output = zeros (lent′ .output-bytes) (lent .output-bytes) (lent′ .output-bytes - lent .output-bytes)
+            (omega (arith, larger .output-bytes));
+      }
+  out-same (functions-are fs) n = image-same (image-bytes fs) n
+
+  out-agrees : (x x′ : Compiled) → Under-compiled x x′ → Enough (entry.write-out lent x .answer) →
+      Same lent lent′ (entry.write-out lent x) (entry.write-out lent′ x′)
+  unfolding entry.write-out entry.leaves refusal
+  out-agrees x x′ (full e) n = absurd (n .1 (ap (λ (x : Compiled). entry.write-out lent x .answer .number) e))
+  out-agrees x x′ (same e) n = subst (λ (x′ : Compiled). Same lent lent′ (entry.write-out lent x) (entry.write-out lent′ x′)) e (out-same x (n .2))
+
+  -- room enough is room enough where there is more
+  pub more-room-within : (limits : Limits) (tree : List ℕ) → Enough (compile-within limits tree lent .answer) →
+      Same lent lent′ (compile-within limits tree lent) (compile-within limits tree lent′)
+  unfolding compile-within compile-lent entry.write-out entry.leaves refusal
+  more-room-within limits tree n = by-table (leb (limits .table-bytes) (8 * lent .table-words)) refl n
+    where
+      table : Lent → Bool → Compiled
+      table lent b = if b then compile-tree limits tree (code-limit lent) else refused WorkShort
+
+      by-larger : (b : Bool) → T b → Enough (entry.write-out lent (table lent true) .answer) →
+          Same lent lent′ (entry.write-out lent (table lent true)) (entry.write-out lent′ (table lent′ b))
+      by-larger true t n = out-agrees (compile-tree limits tree (code-limit lent)) (compile-tree limits tree (code-limit lent′))
+          (tree-agrees limits tree (code-limit lent) (code-limit lent′) (larger-limit lent lent′ larger)) n
+      by-larger false t n = absurd t
+
+      by-table : (b : Bool) → leb (limits .table-bytes) (8 * lent .table-words) ≡ b → Enough (entry.write-out lent (table lent b) .answer) →
+          Same lent lent′ (entry.write-out lent (table lent b))
+          (entry.write-out lent′ (table lent′ (leb (limits .table-bytes) (8 * lent′ .table-words))))
+      by-table true e n =
+          by-larger (leb (limits .table-bytes) (8 * lent′ .table-words))
+          (le→leb (limits .table-bytes) (8 * lent′ .table-words)
+          (omega (arith, larger .table-words, leb→le (limits .table-bytes) (8 * lent .table-words) (rw e tt)))) n
+      by-table false e n = absurd (n .0 refl)
+
+  pub more-room : (tree : List ℕ) → Enough (compile tree lent .answer) → Same lent lent′ (compile tree lent) (compile tree lent′)
+  more-room tree n = more-room-within first-limits tree n

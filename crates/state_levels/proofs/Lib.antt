@@ -1,0 +1,3 @@
+-- The laws of levels, one for each way out of a function of src/.
+pub mod Opening
+pub mod Clearing

@@ -1,0 +1,2 @@
+-- The laws of the scans.
+pub mod Scan

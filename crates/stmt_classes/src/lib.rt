@@ -1,0 +1,205 @@
+// A class around its methods: what comes before them, what after, and what a method is. The methods themselves are compiled in between, by who calls this.
+ghost use mathlib.Core.Path.{_≡_};
+ghost use mathlib.Core.Option.{some};
+ghost use Prim.Native.Nat.{ℕ, _+_, _*_, _≤_, _<_};
+ghost use lib.ListN.{length, getD};
+ghost use lib.Dec.{ltb};
+ghost use Rattle.rules.specs.Base.{if_then_else_};
+ghost use Rattle.rules.specs.Op as ops;
+ghost use Rattle.rules.specs.Compiler.{done, method-type, emit-op, compile-superclass};
+ghost use Rattle.fields.specs.Words.{word8, word16};
+ghost use Rattle.state.specs.Layout.{deepest, type-of, depth-place, level-words};
+ghost use Rattle.steps.specs.View.{mem, Fit, steady, deeper, Did};
+ghost use Rattle.stmt_classes.specs.Classes.{ClassHead, superclass-of, InnerClass, SuperOpened, ClassOpened, ClassClosed};
+use fields::span_at;
+use fields::u8_at;
+use fields::u16_at;
+use op::Op;
+use rules::Name;
+use rules::Refusal;
+use rules::Span;
+use state::Kind;
+use step_bytes::emit_op;
+use step_bytes::emit_op_name;
+use step_names::define_name;
+use step_names::get_variable;
+use step_scopes::begin_scope;
+use step_scopes::declare_local;
+use step_scopes::define_local;
+use step_scopes::end_scope;
+use steps::Class;
+use steps::Step;
+
+// A class that inherits: the innermost one where its superclass is looked up.
+const HEIR: u8 = Class::WITH_SUPER;
+
+// What a method of this name is: `init` is an initializer.
+pub fn method_kind(name: u16) -> u8
+    ensures { λ r. ⌜ (type-of r ≡ method-type name) × (0 < r) ⌝ }
+{
+    if name == Name::INIT {
+        return Kind::INITIALIZER;
+    }
+    Kind::METHOD
+}
+
+// The class that the methods are in.
+pub fn inner_class(tree: &[u8], at: usize) -> u8
+    requires { ⌜ ClassHead (now tree) at ⌝ }
+    ensures { λ r. ⌜ InnerClass (now (tree .entry)) at r ⌝ }
+{
+    if u8_at(tree, at + 12) == 1 {
+        return Class::WITH_SUPER;
+    }
+    Class::ALONE
+}
+
+// ## The superclass
+
+// The scope of `super` is begun, and the class inherits. The superclass's own record follows the class's fields.
+fn inherit(
+    tree: &[u8],
+    at: usize,
+    t: &mut [u64],
+    code: &mut [u8],
+    spans: &mut [u32],
+    level: usize,
+    limit: usize,
+    name: u16,
+    span: Span,
+) -> Step
+    requires { ⌜ (at + 27 ≤ length (now tree)) × (Fit (mem (now t) (now code) (now spans)) level limit) × (getD (now t) (level * level-words + depth-place) 0 < deepest) ⌝ }
+    ensures { λ r. ⌜ Did 2 limit level (at + 27) deeper (compile-superclass limit name (some (superclass-of (now (tree .entry)) at)) span) (mem (now (t .entry)) (now (code .entry)) (now (spans .entry))) (mem (now (t .exit)) (now (code .exit)) (now (spans .exit))) r ⌝ }
+{
+    let parent = u16_at(tree, at + 25);
+    let place = span_at(tree, at + 17);
+    if parent == name {
+        return Step::Stop(Refusal::ClassInheritFromSelf(span, name));
+    }
+    begin_scope(t, level);
+    let d = declare_local(t, level, Name::SUPER, Span { start: 0, end: 0 }, 0);
+    let Step::Next(_) = d else {
+        return d;
+    };
+    define_local(t, level);
+    let a = get_variable(t, code, spans, level, limit, HEIR, parent, place, 0);
+    let Step::Next(_) = a else {
+        return a;
+    };
+    let b = get_variable(t, code, spans, level, limit, HEIR, name, span, 0);
+    let Step::Next(_) = b else {
+        return b;
+    };
+    emit_op(t, code, spans, level, limit, Op::INHERIT, span, at + 27)
+}
+
+// The superclass where there is one. The answer's value is where the first method stands.
+fn superclass(
+    tree: &[u8],
+    at: usize,
+    t: &mut [u64],
+    code: &mut [u8],
+    spans: &mut [u32],
+    level: usize,
+    limit: usize,
+    name: u16,
+    span: Span,
+) -> Step
+    requires { ⌜ (ClassHead (now tree) at) × (Fit (mem (now t) (now code) (now spans)) level limit) × (getD (now t) (level * level-words + depth-place) 0 < deepest) ⌝ }
+    ensures { λ r. ⌜ SuperOpened limit level name (now (tree .entry)) at span (mem (now (t .entry)) (now (code .entry)) (now (spans .entry))) (mem (now (t .exit)) (now (code .exit)) (now (spans .exit))) r ⌝ }
+{
+    if u8_at(tree, at + 12) == 1 {
+        return inherit(tree, at, t, code, spans, level, limit, name, span);
+    }
+    Step::Next(at + 15)
+}
+
+// ## The class
+
+// A class up to its methods. Where it has some, it is on the stack while they are made.
+pub fn open_class(
+    tree: &[u8],
+    at: usize,
+    t: &mut [u64],
+    code: &mut [u8],
+    spans: &mut [u32],
+    level: usize,
+    limit: usize,
+    span: Span,
+) -> Step
+    requires { ⌜ (ClassHead (now tree) at) × (Fit (mem (now t) (now code) (now spans)) level limit) × (getD (now t) (level * level-words + depth-place) 0 < deepest) ⌝ }
+    ensures { λ r. ⌜ ((class : ℕ) → ClassOpened class limit level (now (tree .entry)) at span (mem (now (t .entry)) (now (code .entry)) (now (spans .entry))) (mem (now (t .exit)) (now (code .exit)) (now (spans .exit))) r) ⌝ }
+{
+    let name = u16_at(tree, at + 10);
+    let a = emit_op_name(t, code, spans, level, limit, Op::CLASS, name, span, 0);
+    let Step::Next(_) = a else {
+        return a;
+    };
+    let b = define_name(t, code, spans, level, limit, name, span, 0);
+    let Step::Next(_) = b else {
+        return b;
+    };
+    let d = superclass(tree, at, t, code, spans, level, limit, name, span);
+    let Step::Next(first) = d else {
+        return d;
+    };
+    if u16_at(tree, at + 13) == 0 {
+        return Step::Next(first);
+    }
+    let class = inner_class(tree, at);
+    get_variable(t, code, spans, level, limit, class, name, span, first)
+}
+
+// The class goes from the stack where it had methods.
+fn drop_class(
+    tree: &[u8],
+    at: usize,
+    t: &mut [u64],
+    code: &mut [u8],
+    spans: &mut [u32],
+    level: usize,
+    limit: usize,
+    span: Span,
+    next: usize,
+) -> Step
+    requires { ⌜ (at + 15 ≤ length (now tree)) × (Fit (mem (now t) (now code) (now spans)) level limit) ⌝ }
+    ensures { λ r. ⌜ ((class : ℕ) → Did class limit level next steady (if ltb 0 (word16 (now (tree .entry)) (at + 13)) then emit-op limit ops.POP span else done) (mem (now (t .entry)) (now (code .entry)) (now (spans .entry))) (mem (now (t .exit)) (now (code .exit)) (now (spans .exit))) r) ⌝ }
+{
+    if u16_at(tree, at + 13) == 0 {
+        return Step::Next(next);
+    }
+    emit_op(t, code, spans, level, limit, Op::POP, span, next)
+}
+
+// A class after its methods.
+pub fn close_class(
+    tree: &[u8],
+    at: usize,
+    t: &mut [u64],
+    code: &mut [u8],
+    spans: &mut [u32],
+    level: usize,
+    limit: usize,
+    span: Span,
+    next: usize,
+) -> Step
+    requires { ⌜ (ClassHead (now tree) at) × (Fit (mem (now t) (now code) (now spans)) level limit) × (word8 (now tree) (at + 12) ≡ 1 → 0 < getD (now t) (level * level-words + depth-place) 0) ⌝ }
+    ensures { λ r. ⌜ ((class : ℕ) → ClassClosed class limit level (now (tree .entry)) at next span (mem (now (t .entry)) (now (code .entry)) (now (spans .entry))) (mem (now (t .exit)) (now (code .exit)) (now (spans .exit))) r) ⌝ }
+{
+    let a = drop_class(tree, at, t, code, spans, level, limit, span, next);
+    let Step::Next(_) = a else {
+        return a;
+    };
+    if u8_at(tree, at + 12) == 1 {
+        return end_scope(
+            t,
+            code,
+            spans,
+            level,
+            limit,
+            Span { start: 0, end: 0 },
+            next,
+        );
+    }
+    Step::Next(next)
+}

@@ -1,0 +1,2 @@
+-- What the jumps around the parts of a statement are.
+pub mod Jumps
