@@ -29,8 +29,9 @@ use Rattle.steps.specs.declared.Step.{Step}
 use Rattle.steps.specs.declared.Step.the-variants.{Next, Stop}
 use Rattle.expr_parts.specs.Exprs.{There, expr-at, Ran, Callee, on-object, on-super, on-value, callee-of, parts, first-part, part-count, open-callee, call-open, call-close, CallOpened, CallParts}
 use Rattle.expr_parts.specs.Exprs.{CallClosed}
-use Rattle.steps.proofs.Monad.{regroup, nothing, stays}
+use Rattle.steps.proofs.Monad.{regroup, nothing}
 use Rattle.fields.specs.Marks as marks
+use Rattle.steps.proofs.Jumps.{ahead-none}
 
 -- ## The parts make the whole
 
@@ -249,7 +250,7 @@ pub record Walk (class limit l : ℕ) (expr : Reader Expr) (count from : ℕ) (b
 
 module _ {class limit l : ℕ} {expr : Reader Expr} {count from : ℕ} {before : Mem} where
   pub walk-start : Fit before l limit → Walk class limit l expr count from before before from count
-  walk-start fit = record { fit = fit; to = λ es n r. record { es = es; is = r; same = λ rest q. refl; agrees = λ rest q. q; ahead = stays fit } }
+  walk-start fit = record { fit = fit; to = λ es n r. record { es = es; is = r; same = λ rest q. refl; agrees = λ rest q. q; ahead = ahead-none fit } }
 
   module _ {now : Mem} {next left : ℕ} (w : Walk class limit l expr count from before now next left) {es : Exprs} {n : ℕ} (r : read-exprs count expr from ≡ got es n) where
     -- one more is there

@@ -21,9 +21,7 @@ use Rattle.steps.specs.declared.Step.{Step}
 use Rattle.steps.specs.declared.Step.the-variants.{Next, Stop}
 use Rattle.expr_parts.specs.Exprs.{PrefixOp, InfixOp, before-right, after-right, BegunAs, BegunBy, Begun, Closed}
 use Rattle.steps.proofs.Monad.{returned, cut-and, cut-or}
-
-same-some : {A : Type 0} {a b : A} → some a ≡ some b → a ≡ b
-same-some e = cc
+use Rattle.tree_laws.proofs.Statements.{same-some}
 
 -- ## Opcodes
 

@@ -91,7 +91,8 @@ module _ {class limit l : ℕ} {before : Mem} where
   -- ## Names
 
   module _ (tree : List ℕ) (d at : ℕ) (sp : Span) (s : sp ≡ span-of tree (at + 2)) (name : ℕ) (p : name ≡ word16 tree (at + 10)) where
-    pub var-done : {now : Mem} {r : Step} → letters tree at ≡ marks.EV → Did class limit l (at + 12) steady (get-variable limit name sp) before now r → Ran class limit l (expr-at tree d at) before now r
+    pub var-done : {now : Mem} {r : Step} → letters tree at ≡ marks.EV → Did class limit l (at + 12) steady (get-variable limit name sp) before now r → Ran
+        class limit l (expr-at tree d at) before now r
     unfolding compile-expr
     var-done m x = record {
       did = λ e n z.
@@ -242,7 +243,8 @@ module _ {class limit l : ℕ} {before mid : Mem} (tree : List ℕ) (d at operat
   infix-done b q′ f q″ g = infix-by (λ o rt n h z. let c = f .did rt n z in did-bind (begun-gave (b .did o h) q′ .0) _ (then-on _ c q″ (on-to (valued c q″) (g .did o h))))
 
 -- what the steps after the left side need
-pub begun-fit : {class limit l operator place : ℕ} (tree : List ℕ) (d at : ℕ) {sp : Span} {e : Expr} {n : ℕ} {before now : Mem} {r : Step} → operator ≡ word8 tree (at + 10) → letters tree at ≡ marks.EI
+pub begun-fit : {class limit l operator place : ℕ} (tree : List ℕ) (d at : ℕ) {sp : Span} {e : Expr} {n : ℕ} {before now : Mem} {r : Step} → operator ≡ word8
+    tree (at + 10) → letters tree at ≡ marks.EI
     → expr-at tree d at ≡ got e n
     → Begun class limit l operator sp before now r → r ≡ Next place → Fit now l limit × (10 ≤ operator → place + 2 ≤ code-len now l)
 begun-fit tree d at w m z b q =

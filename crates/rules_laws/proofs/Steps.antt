@@ -72,7 +72,31 @@ module _ (l : Leaf) (limit limit′ : ℕ) (R : (A : Type 0) → (from to : l .l
   module _ (laws : Laws) where
     infixl 10 _>>=_
     infixl 10 _>>_
-    open Laws laws using (no-span, this-name, super-name, _>>=_, _>>_, enough, needs, return, the, need, refuse, resolve, patch-jump, declare-local, define-local, begin-scope, push-class-ctx, pop-class-ctx, begin-ctx, emit-u8, emit-constant, end-scope, end-function)
+    open Laws laws using (
+      no-span,
+      this-name,
+      super-name,
+      _>>=_,
+      _>>_,
+      enough,
+      needs,
+      return,
+      the,
+      need,
+      refuse,
+      resolve,
+      patch-jump,
+      declare-local,
+      define-local,
+      begin-scope,
+      push-class-ctx,
+      pop-class-ctx,
+      begin-ctx,
+      emit-u8,
+      emit-constant,
+      end-scope,
+      end-function,
+    )
 
     -- the same step under both limits
     abbrev Has : (g h : l .level) → (code image : ℕ) → (ℕ → Compile (Unit {0})) → Type 0

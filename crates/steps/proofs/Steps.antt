@@ -10,6 +10,7 @@ use Rattle.rules.specs.Compiler.{Compiler, Outcome, ok, err, Compile, go-on, _>
 use Rattle.steps.specs.View.{Mem, Rest, view, Agrees, code-len, depth-at, Turn, _⨾_, Ahead, Gave, Refused, DidAs, Did, OpenedAs, Opened, Told}
 use Rattle.steps.specs.declared.Step.{Step}
 use Rattle.steps.specs.declared.Step.the-variants.{Next, Stop}
+use Rattle.state.proofs.Words.{and-left, and-right}
 
 -- ## After a step
 
@@ -69,14 +70,6 @@ module _ {class l : ℕ} {A B : Type 0} {m : Compile A} {before : Mem} {x : Refu
   pub refused-seq : (f : Compile B) → Refused class l (m >> f) before x
   unfolding _>>_ go-on
   refused-seq f = record { refuses = λ rest q. ap (λ (o : Outcome A). go-on o (λ _. f)) (h .refuses rest q) }
-
-and-left : (x y : Bool) → (x && y) ≡ true → x ≡ true
-and-left true y h = refl
-and-left false y h = h
-
-and-right : (x y : Bool) → (x && y) ≡ true → y ≡ true
-and-right true y h = h
-and-right false y h = let z : _≡_ {A = ℕ} 0 1 = cc in absurd (omega arith)
 
 pub ahead-then : {l limit : ℕ} {e f : Turn} {before mid now : Mem} → Ahead l limit e before mid → Ahead l limit f mid now → Ahead l limit (e ⨾ f) before now
 ahead-then {e = e} {f = f} a b = record {

@@ -23,11 +23,12 @@ use Rattle.steps.specs.View.{Mem, mem, Rest, view, top-class, Fit, depth-at, st
 use Rattle.steps.specs.declared.Step.{Step}
 use Rattle.steps.specs.declared.Step.the-variants.{Next, Stop}
 use Rattle.steps.proofs.Steps.{went, valued, next-at, stop, halt, then-on, did-seq, refused-seq, ask-seq, passed, failed, chosen, otherwise, turn}
-use Rattle.steps.proofs.Monad.{stays, nothing, on-to}
+use Rattle.steps.proofs.Monad.{nothing, on-to}
 use Rattle.stmt_output_laws.specs.Parts.{open-class}
 use Rattle.stmt_classes.specs.Classes.{inner, entering, scoping, opening, ClassHead, superclass-of, InnerClass, SuperOpened, ClassOpened}
 use Rattle.stmt_classes.proofs.Heads.{with-super, without-super, no-count, a-count}
 use Rattle.state.specs.Layout.{depth-place, level-words}
+use Rattle.steps.proofs.Jumps.{ahead-none}
 
 -- ## The class is the innermost one: no code says so
 
@@ -41,7 +42,7 @@ entered-view l b rest (mem t code spans) = refl
 
 entered : {class limit l : ℕ} (b : Bool) {m : Mem} → Fit m l limit → Gave class limit l (entering b) (push-class-ctx b) tt m m
 entered {l = l} b {m} fit =
-    let a = stays fit in
+    let a = ahead-none fit in
     record {
       comes = λ rest h. entered-view l b rest m;
       agrees = λ rest h. record { innermost = top-is b (rest .classes); made = h .made };

@@ -83,7 +83,8 @@ more-none rest = ap (λ (fs : List ObjectFunction). record { classes = rest .cla
 
 module _ {class limit l : ℕ} {before now : Mem} where
   -- a step that finishes none
-  pub of-gave : {at n : ℕ} {e : Turn} {A : Type 0} {m : Compile A} {v : A} (out : List ℕ) → e .aloof ≡ true → at ≤ n → Gave class limit l e m v before now → Run class limit l at n e m v before out now out
+  pub of-gave : {at n : ℕ} {e : Turn} {A : Type 0} {m : Compile A} {v : A} (out : List ℕ) → e .aloof ≡ true → at ≤ n → Gave class limit l e m v before now → Run
+      class limit l at n e m v before out now out
   of-gave {e = e} out a h g =
       record {
         made = [];
@@ -112,14 +113,16 @@ module _ {class limit l : ℕ} {before now : Mem} where
 
 -- ## One after the other
 
-joined : {class limit l : ℕ} (e f : Turn) (free : Free f) {B : Type 0} {w : B} {before now : Mem} {x : Compile B} (a b : List ObjectFunction) → Gave class limit l ((e ⨾ grow a) ⨾ (f ⨾ grow b)) x w before now
+joined : {class limit l : ℕ} (e f : Turn) (free : Free f) {B : Type 0} {w : B} {before now : Mem} {x : Compile B} (a b : List ObjectFunction) → Gave class limit
+    l ((e ⨾ grow a) ⨾ (f ⨾ grow b)) x w before now
     → Gave class limit l ((e ⨾ f) ⨾ grow (a ++ b)) x w before now
 joined e f free a b g =
     turned {e = (e ⨾ grow a) ⨾ (f ⨾ grow b)} {f = (e ⨾ f) ⨾ grow (a ++ b)} (λ d. refl) (λ c. refl)
     (λ x. ap (more b) (free .past a (e .rest x)) ∙ more-more a b (f .rest (e .rest x)))
     (and-second (e .aloof && f .aloof)) g
 
-module _ {class limit l at mid n : ℕ} {e f : Turn} (free : Free f) {A B : Type 0} {m : Compile A} {v : A} {w : B} {before : Mem} {out : List ℕ} {between : Mem} {out′ : List ℕ} {now : Mem} {out″ : List ℕ} where
+module _ {class limit l at mid n : ℕ} {e f : Turn} (free : Free f) {A B : Type 0} {m : Compile A} {v : A} {w : B} {before : Mem} {out : List ℕ} {between : Mem}
+    {out′ : List ℕ} {now : Mem} {out″ : List ℕ} where
   pub run-bind : (next : A → Compile B) → Run class limit l at mid e m v before out between out′ → Run (e .class class) limit l mid n f (next v) w between out′ now out″
       → Run class limit l at n (e ⨾ f) (m >>= next) w before out now out″
   run-bind next r s = record { made = r .made ++ s .made; gave = joined e f free (r .made) (s .made) (gave-bind (r .gave) next (s .gave)); added = added-then (r .added) (s .added) }
@@ -129,7 +132,8 @@ module _ {class limit l at mid n : ℕ} {e f : Turn} (free : Free f) {A B : Type
   run-seq next r s = record { made = r .made ++ s .made; gave = joined e f free (r .made) (s .made) (gave-seq (r .gave) next (s .gave)); added = added-then (r .added) (s .added) }
 
 -- a refusal after a run
-module _ {class limit l at n : ℕ} {e : Turn} {A B : Type 0} {m : Compile A} {v : A} {before : Mem} {out : List ℕ} {now : Mem} {out′ : List ℕ} (r : Run class limit l at n e m v before out now out′) where
+module _ {class limit l at n : ℕ} {e : Turn} {A B : Type 0} {m : Compile A} {v : A} {before : Mem} {out : List ℕ} {now : Mem} {out′ : List ℕ}
+    (r : Run class limit l at n e m v before out now out′) where
   pub run-refused : (next : A → Compile B) {x : Refusal} → Refused (e .class class) l (next v) now x → Refused class l (m >>= next) before x
   run-refused next h = gave-refused (r .gave) next h
 
@@ -216,7 +220,8 @@ module _ {class limit l at n : ℕ} {m m′ : Compile Unit} {before : Mem} {out 
   worked-like {r} d = record { does = like-as r d }
 
 -- a question to the state
-pub told-run : {class limit l at n : ℕ} {A : Type 0} {m : Compile A} {v : A} {now : Mem} (out : List ℕ) → Fit now l limit → at ≤ n → Told class l m v now → Run class limit l at n steady m v now out now out
+pub told-run : {class limit l at n : ℕ} {A : Type 0} {m : Compile A} {v : A} {now : Mem} (out : List ℕ) → Fit now l limit → at ≤ n → Told class l m v now → Run
+    class limit l at n steady m v now out now out
 told-run out fit h w = of-gave out refl h (record { comes = w .says; agrees = λ rest q. q; ahead = ahead-none fit })
 
 -- ## A walk over a row: from `before`, p comes to what q comes to from `now`, and functions were finished on the way

@@ -161,17 +161,6 @@ constant-short (CN bits) = omega arith
 constant-short (CS name) = omega arith
 constant-short (CF number) = omega arith
 
--- ## What a constant's word stands for
-
-pub number-word : (w : ℕ) → w < 2 ^ 63 → constantOf w ≡ CN w
-number-word w l = rw (lt-ltb w (2 ^ 63) l)
-
-pub string-word : (w : ℕ) → 2 ^ 63 ≤ w → w < 2 ^ 63 + 2 ^ 32 → constantOf w ≡ CS (w - 2 ^ 63)
-string-word w g l = rw (le-ltb w (2 ^ 63) g, lt-ltb w (2 ^ 63 + 2 ^ 32) l)
-
-pub function-word : (w : ℕ) → 2 ^ 63 + 2 ^ 32 ≤ w → constantOf w ≡ CF (w - (2 ^ 63 + 2 ^ 32))
-function-word w g = rw (le-ltb w (2 ^ 63) (omega arith), le-ltb w (2 ^ 63 + 2 ^ 32) g)
-
 pub as-constant : {out out′ : List ℕ} {at r : ℕ} {a b : Constant} → a ≡ b → Put out out′ at (constant-bytes b) r → Put out out′ at (constant-bytes a) r
 as-constant {out} {out′} {at} {r} {a} {b} e p = subst (λ (v : Constant). Put out out′ at (constant-bytes v) r) (sym e) p
 
