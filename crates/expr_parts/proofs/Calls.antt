@@ -10,7 +10,6 @@ use lib.Dec.{leb, eqb}
 use native.Mathlib.Numerals.{add-one}
 use borrow.Author.Tests.{le-leb, lt-leb, eqb-true, eqb-false}
 use Rattle.rules.specs.declared.Span.{Span}
-use Rattle.rules.specs.declared.Refusal.{Refusal}
 use Rattle.rules.specs.declared.Refusal.the-variants.{TooManyArgs}
 use Rattle.rules.specs.Tree.{this, super, Expr, Exprs, ExprAssign, ExprCall, ExprGet, ExprInfix, Literal, ExprPrefix, ExprSet, ExprSuper, ExprVar, _∷ᵉ_, count-exprs}
 use Rattle.rules.specs.Reader.{got, Reader}
@@ -32,6 +31,8 @@ use Rattle.expr_parts.specs.Exprs.{CallClosed}
 use Rattle.steps.proofs.Monad.{regroup, nothing}
 use Rattle.fields.specs.Marks as marks
 use Rattle.steps.proofs.Jumps.{ahead-none}
+use Rattle.steps.specs.declared.Why.{Why}
+use Rattle.steps.specs.Why.{too-many-args, refusal-of}
 
 -- ## The parts make the whole
 
@@ -146,8 +147,8 @@ name-is : (tree : List ℕ) (at n : ℕ) → n ≡ word16 tree (at + 22) → n �
 name-is tree at n q = q ∙ ap (word16 tree) (sym (twenty-two at))
 
 module _ {class limit l : ℕ} (tree : List ℕ) (at : ℕ) (span : Span) {before : Mem} where
-  pub too-many : {now : Mem} → 255 < word16 tree (at + 10) → CallOpened class limit l tree at span before now (Stop (TooManyArgs span))
-  unfolding call-open
+  pub too-many : {now : Mem} → 255 < word16 tree (at + 10) → CallOpened class limit l tree at span before now (Stop (too-many-args span))
+  unfolding call-open refusal-of
   too-many {now} h = record {
     did = λ d e n r. stop now (refused-seq (failed (leb (word16 tree (at + 10)) 255) (lt-leb _ _ h)) _);
     few = λ v q. let z : _≡_ {A = ℕ} 0 1 = cc in absurd (omega arith);
@@ -163,7 +164,7 @@ module _ {class limit l : ℕ} (tree : List ℕ) (at : ℕ) (span : Span) {befor
     few = λ v q. h;
   }
 
-  pub super-stop : {now : Mem} {r : Step} {x : Refusal} {v : ℕ} → word16 tree (at + 10) ≤ 255 → letters tree (at + 12) ≡ marks.EU
+  pub super-stop : {now : Mem} {r : Step} {x : Why} {v : ℕ} → word16 tree (at + 10) ≤ 255 → letters tree (at + 12) ≡ marks.EU
       → Did class limit l v steady (need-super span) before now r → r ≡ Stop x → CallOpened class limit l tree at span before now r
   unfolding open-callee
   super-stop h m d q = few-open h (λ k e n r. as-open at span (super-of tree _ k (at + 12) r m) (halt _ d q))
@@ -183,7 +184,7 @@ module _ {class limit l : ℕ} (tree : List ℕ) (at : ℕ) (span : Span) {befor
   unfolding open-callee first-part
   value-open fit h g u = few-open h (λ k e n r. as-open at span (value-of tree _ k (at + 12) r g u) (next (nothing fit)))
 
-  pub close-super-stop : (next : ℕ) {now : Mem} {r : Step} {x : Refusal} {k : ℕ} → letters tree (at + 12) ≡ marks.EU → Did class limit l k steady (get-variable limit super span) before now r
+  pub close-super-stop : (next : ℕ) {now : Mem} {r : Step} {x : Why} {k : ℕ} → letters tree (at + 12) ≡ marks.EU → Did class limit l k steady (get-variable limit super span) before now r
       → r ≡ Stop x
       → CallClosed class limit l tree at next span before now r
   unfolding call-close
@@ -262,7 +263,7 @@ module _ {class limit l : ℕ} {expr : Reader Expr} {count from : ℕ} {before :
     pub walk-there : 0 < left → There (expr next)
     walk-there h = let i = head-of h in record { thing = i .one; next = i .mid; is = i .head }
 
-    pub walk-stop : {now′ : Mem} {a : Step} {x : Refusal} → 0 < left → Ran class limit l (expr next) now now′ a → a ≡ Stop x → Refused class l (compile-exprs limit es) before x
+    pub walk-stop : {now′ : Mem} {a : Step} {x : Why} → 0 < left → Ran class limit l (expr next) now now′ a → a ≡ Stop x → Refused class l (compile-exprs limit es) before x
     unfolding compile-exprs
     walk-stop h b q =
         let i = head-of h in

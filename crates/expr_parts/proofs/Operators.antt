@@ -9,7 +9,6 @@ use native.Mathlib.Nat.{le-trans}
 use lib.ListN.{getD}
 use Rattle.rules.specs.Base.{lookup}
 use Rattle.rules.specs.declared.Span.{Span}
-use Rattle.rules.specs.declared.Refusal.{Refusal}
 use Rattle.rules.specs.Tree.{OpInfix, Add, Subtract, Multiply, Divide, Less, LessEqual, Greater, GreaterEqual, Equal, NotEqual, LogicAnd, LogicOr, OpPrefix, Negate, Not}
 use Rattle.rules.specs.TreeFile.{infix-ops, prefix-ops}
 use Rattle.rules.specs.Op as op
@@ -22,6 +21,7 @@ use Rattle.steps.specs.declared.Step.the-variants.{Next, Stop}
 use Rattle.expr_parts.specs.Exprs.{PrefixOp, InfixOp, before-right, after-right, BegunAs, BegunBy, Begun, Closed}
 use Rattle.steps.proofs.Monad.{returned, cut-and, cut-or}
 use Rattle.tree_laws.proofs.Statements.{same-some}
+use Rattle.steps.specs.declared.Why.{Why}
 
 -- ## Opcodes
 
@@ -118,7 +118,7 @@ module _ {class limit l n : ℕ} where
       → BegunBy class limit l n (before-right limit o′ span) before now r
   begun-by span {before = before} {now = now} {r = r} e d = subst (λ (x : OpInfix). BegunBy class limit l n (before-right limit x span) before now r) e d
 
-  stopped-by : {m : Compile ℕ} {before now : Mem} {r : Step} {x : Refusal} → r ≡ Stop x → Refused class l m before x → BegunBy class limit l n m before now r
+  stopped-by : {m : Compile ℕ} {before now : Mem} {r : Step} {x : Why} → r ≡ Stop x → Refused class l m before x → BegunBy class limit l n m before now r
   stopped-by {m} {before} {now} q h = record { does = subst (λ (s : Step). BegunAs class limit l n m before now s) (sym q) h }
 
   -- the last step, and then the place
@@ -152,7 +152,7 @@ module _ {class limit l n : ℕ} where
     };
   }
 
-  pub begun-stop : (span : Span) {before now : Mem} {r : Step} {x : Refusal} → 10 ≤ n → Opened class limit l steady (emit-jump limit op.JUMP-IF-FALSE span) before now r → r ≡ Stop x
+  pub begun-stop : (span : Span) {before now : Mem} {r : Step} {x : Why} → 10 ≤ n → Opened class limit l steady (emit-jump limit op.JUMP-IF-FALSE span) before now r → r ≡ Stop x
       → Begun class limit l n span before now r
   unfolding before-right
   begun-stop span b a q = record {
@@ -171,13 +171,13 @@ module _ {class limit l n : ℕ} where
   or-as : (span : Span) {before now : Mem} {r : Step} → 10 ≤ n → (n ≡ 10 → ⊥) → BegunBy class limit l n (before-right limit LogicOr span) before now r → Begun class limit l n span before now r
   or-as span b z d = record { did = λ o h. ⊎-elim (λ e. absurd (z e)) (λ e. begun-by span (is-or n h e) d) (eleven n h b) }
 
-  pub begun-or-stop : (span : Span) {before mid now : Mem} {r r′ : Step} {j : ℕ} {x : Refusal} → 10 ≤ n → (n ≡ 10 → ⊥)
+  pub begun-or-stop : (span : Span) {before mid now : Mem} {r r′ : Step} {j : ℕ} {x : Why} → 10 ≤ n → (n ≡ 10 → ⊥)
       → Opened class limit l steady (emit-jump limit op.JUMP-IF-FALSE span) before mid r → r ≡ Next j
       → Opened class limit l steady (emit-jump limit op.JUMP span) mid now r′ → r′ ≡ Stop x → Begun class limit l n span before now r′
   unfolding before-right
   begun-or-stop span {r′ = r′} b z a q d q′ = or-as span b z (bind-as (went-to a q) _ r′ (stopped-by q′ (refused-bind (stuck-to d q′) _)))
 
-  pub begun-or-stop-2 : (span : Span) {before mid late now : Mem} {r r′ r″ : Step} {i j k : ℕ} {x : Refusal} → 10 ≤ n → (n ≡ 10 → ⊥)
+  pub begun-or-stop-2 : (span : Span) {before mid late now : Mem} {r r′ r″ : Step} {i j k : ℕ} {x : Why} → 10 ≤ n → (n ≡ 10 → ⊥)
       → Opened class limit l steady (emit-jump limit op.JUMP-IF-FALSE span) before mid r → r ≡ Next i
       → Opened class limit l steady (emit-jump limit op.JUMP span) mid late r′ → r′ ≡ Next j → Did class limit l k steady (patch-jump i span) late now r″ → r″ ≡ Stop x
       → Begun class limit l n span before now r″

@@ -11,7 +11,6 @@ use fields::u16_at;
 use op::Op;
 use rules::Limit;
 use rules::Name;
-use rules::Refusal;
 use rules::Span;
 use step_bytes::emit_invoke;
 use step_bytes::emit_op;
@@ -22,6 +21,7 @@ use step_jumps::patch_jump;
 use step_names::get_variable;
 use step_returns::need_super;
 use steps::Step;
+use steps::Why;
 
 // The opcode of a prefix operator's number.
 pub fn prefix_op(operator: u8) -> u8
@@ -164,7 +164,11 @@ pub fn call_open(
     ensures { λ r. ⌜ CallOpened class limit level (now (tree .entry)) at span (mem (now (t .entry)) (now (code .entry)) (now (spans .entry))) (mem (now (t .exit)) (now (code .exit)) (now (spans .exit))) r ⌝ }
 {
     if Limit::ARGS < u16_at(tree, at + 10) {
-        return Step::Stop(Refusal::TooManyArgs(span));
+        return Step::Stop(Why {
+            number: Why::TOO_MANY_ARGS,
+            span,
+            name: 0,
+        });
     }
     let mark = mark_at(tree, at + 12);
     if mark == Mark::SUPER {

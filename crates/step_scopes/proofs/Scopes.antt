@@ -10,7 +10,7 @@ use borrow.Author.Tests.{lt-ltb, le-ltb}
 use Rattle.rules.specs.Base.{if_then_else_}
 use Rattle.rules.specs.Op as op
 use Rattle.rules.specs.declared.Span.{Span}
-use Rattle.rules.specs.declared.Refusal.the-variants.{AlreadyDefined, TooManyLocals, CodeFull}
+use Rattle.rules.specs.declared.Refusal.the-variants.{AlreadyDefined, TooManyLocals}
 use Rattle.rules.specs.Compiler.{Local, CompilerCtx, Compiler, with-ctx, with-locals, with-scope-depth, Outcome, ok, err, Compile, go-on, _>>=_, _>>_, done, return, need, the, update-ctx, declared, declare-local, define-local, is-global, begin-scope, begin-ctx, emit-u8, emit-op, pop-locals, end-scope, end-ctx, back-to}
 use Rattle.state.specs.Layout.{levels, stack, localOf, localsOf, codeEnd, runsEnd, ctxAt, codeFrom, runsFrom, upvaluesOf, parentsOf, Wf, upvalues-place, depth-place, code-from-place, runs-from-place, level-words, local-count-place}
 use Rattle.state.specs.Contracts.{DeclaredAs, DeclaredAt, DefinedAt, Moved, Began, Wrote, Dropped, Closed}
@@ -27,6 +27,7 @@ use Rattle.steps.proofs.Steps.{next, stop, ahead-then, gave-seq, refused-seq, g
 use Rattle.steps.proofs.Views.{still-agrees, ahead-named, ahead-kept, view-locals, view-scope}
 use Rattle.step_bytes.proofs.Bytes.{byte-gave, byte-full}
 use Rattle.steps.proofs.Jumps.{ahead-none}
+use Rattle.steps.specs.Why.{already-defined, code-full, too-many-locals, refusal-of}
 
 -- ## The scope depth
 
@@ -91,12 +92,12 @@ module _ (l n name : ℕ) (span : Span) (t t′ : List ℕ) (r : Declared) (w : 
   does-as : (s : Declared) → r ≡ s → DeclaredAs t t′ l name s
   does-as s q = subst (λ (s : Declared). DeclaredAs t t′ l name s) q (w .does)
 
-  pub declared-again : r ≡ decl.Already → Tried l n steady (declare-local name span) t t′ (Stop (AlreadyDefined span name))
-  unfolding view ctxAt
+  pub declared-again : r ≡ decl.Already → Tried l n steady (declare-local name span) t t′ (Stop (already-defined span name))
+  unfolding view ctxAt refusal-of
   declared-again q = record { gives = λ code spans fit. stop _ (record { refuses = λ rest _. declare-again name span (view (mem t code spans) l rest) (does-as decl.Already q) }) }
 
-  pub declared-full : r ≡ decl.Full → Tried l n steady (declare-local name span) t t′ (Stop (TooManyLocals span))
-  unfolding view ctxAt
+  pub declared-full : r ≡ decl.Full → Tried l n steady (declare-local name span) t t′ (Stop (too-many-locals span))
+  unfolding view ctxAt refusal-of
   declared-full q = record {
     gives = λ code spans fit. stop _
         (record { refuses = λ rest _. declare-full name span (view (mem t code spans) l rest) (does-as decl.Full q .0) (does-as decl.Full q .1) });
@@ -270,8 +271,8 @@ module _ (l limit d : ℕ) (span : Span) (t code spans t₁ : List ℕ) (fit : F
         ahead = ahead-then (p .ahead) (g .ahead);
       })
 
-  pub ended-full : (now : Mem) → PoppedAt limit l span mid now popped.Full → {class : ℕ} → Refused class l (end-scope limit span) (mem t code spans) CodeFull
-  unfolding end-scope
+  pub ended-full : (now : Mem) → PoppedAt limit l span mid now popped.Full → {class : ℕ} → Refused class l (end-scope limit span) (mem t code spans) code-full
+  unfolding end-scope refusal-of
   ended-full now h {class} = gave-refused-seq (lowered l d t t₁ w q code spans fit) _ (record { refuses = λ rest a. p .same rest a ∙ h .does class .refuses rest (p .agrees rest a) })
 
 -- ## A context

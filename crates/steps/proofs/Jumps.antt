@@ -9,6 +9,7 @@ use lib.Seq.{getD-set-same, getD-set-other}
 use borrow.Author.Tests.{le-leb, lt-leb}
 use Rattle.rules.specs.declared.Span.{Span}
 use Rattle.rules.specs.declared.Refusal.the-variants.{JumpTooLarge}
+use Rattle.steps.specs.Why.{jump-too-large, refusal-of}
 use Rattle.rules.specs.Compiler.{Compiler, ok, err, go-on, _>>=_, _>>_, the, need, return, update-ctx, with-chunk, with-ctx, code-length, set-u16, patch-jump}
 use Rattle.state.specs.Layout.{row, constantsOf, codeFrom, codeEnd, runsEnd, chunkAt, ctxAt, parentsOf}
 use Rattle.state.proofs.Laws.{row-cong, chunk-paths, ctx-paths, parents-same}
@@ -134,5 +135,6 @@ module _ {limit : ℕ} (l place d : ℕ) (span : Span) (t code spans : List ℕ)
         };
       }
 
-  pub far : {class : ℕ} → 65535 < d → Refused class l (patch-jump place span) (mem t code spans) (JumpTooLarge span)
+  pub far : {class : ℕ} → 65535 < d → Refused class l (patch-jump place span) (mem t code spans) (jump-too-large span)
+  unfolding refusal-of
   far h = record { refuses = λ rest q. patch-far place d span (view (mem t code spans) l rest) (len rest) h }

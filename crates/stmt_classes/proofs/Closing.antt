@@ -6,7 +6,6 @@ use Prim.Native.Nat.{ℕ, _+_}
 use lib.Dec.{ltb}
 use Rattle.rules.specs.Base.{if_then_else_}
 use Rattle.rules.specs.declared.Span.{Span}
-use Rattle.rules.specs.declared.Refusal.{Refusal}
 use Rattle.rules.specs.Answer.{NO-SPAN}
 use Rattle.rules.specs.Tree.{Superclass}
 use Rattle.rules.specs.Op as op
@@ -20,6 +19,7 @@ use Rattle.steps.proofs.Monad.{nothing}
 use Rattle.stmt_output_laws.specs.Parts.{close-class}
 use Rattle.stmt_classes.specs.Classes.{closing, ClassClosed}
 use Rattle.stmt_classes.proofs.Heads.{with-super, without-super, no-count, a-count}
+use Rattle.steps.specs.declared.Why.{Why}
 
 -- the class goes from the stack
 abbrev pub drops : (limit count : ℕ) → Span → Compile Unit
@@ -34,7 +34,7 @@ module _ {class limit l next-at : ℕ} (count : ℕ) (span : Span) where
   drop-one h d = chosen _ _ _ (a-count count h) d
 
 module _ {class limit l : ℕ} (tree : List ℕ) (at to : ℕ) (span : Span) {n : ℕ} {before : Mem} where
-  pub close-stop : {now : Mem} {r : Step} {x : Refusal} → Did class limit l n steady (drops limit (word16 tree (at + 13)) span) before now r → r ≡ Stop x →
+  pub close-stop : {now : Mem} {r : Step} {x : Why} → Did class limit l n steady (drops limit (word16 tree (at + 13)) span) before now r → r ≡ Stop x →
       ClassClosed class limit l tree at to span before now r
   unfolding close-class
   close-stop a q = record { did = λ d has o mid look one. halt _ a q }

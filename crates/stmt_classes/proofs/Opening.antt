@@ -9,7 +9,6 @@ use lib.Dec.{ltb, eqb}
 use borrow.Author.Tests.{eq-eqb, ne-eqb}
 use Rattle.rules.specs.Base.{if_then_else_, lookup}
 use Rattle.rules.specs.declared.Span.{Span}
-use Rattle.rules.specs.declared.Refusal.{Refusal}
 use Rattle.rules.specs.declared.Refusal.the-variants.{ClassInheritFromSelf}
 use Rattle.rules.specs.Answer.{NO-SPAN}
 use Rattle.rules.specs.Tree.{super, Superclass}
@@ -29,6 +28,8 @@ use Rattle.stmt_classes.specs.Classes.{inner, entering, scoping, opening
 use Rattle.stmt_classes.proofs.Heads.{with-super, without-super, no-count, a-count}
 use Rattle.state.specs.Layout.{depth-place, level-words}
 use Rattle.steps.proofs.Jumps.{ahead-none}
+use Rattle.steps.specs.declared.Why.{Why}
+use Rattle.steps.specs.Why.{class-inherit-from-self, refusal-of}
 
 -- ## The class is the innermost one: no code says so
 
@@ -68,8 +69,8 @@ module _ {limit l : ℕ} {t t₁ : List ℕ} (code spans : List ℕ) (fit : Fit 
 
 module _ {limit l : ℕ} (tree : List ℕ) (at name : ℕ) (span : Span) where
   pub inherit-self : {k parent : ℕ} {before now : Mem} → parent ≡ word16 tree (at + 25) → parent ≡ name
-      → Did 2 limit l k deeper (compile-superclass limit name (some (superclass-of tree at)) span) before now (Stop (ClassInheritFromSelf span name))
-  unfolding compile-superclass
+      → Did 2 limit l k deeper (compile-superclass limit name (some (superclass-of tree at)) span) before now (Stop (class-inherit-from-self span name))
+  unfolding compile-superclass refusal-of
   inherit-self {now = now} p q = stop now (refused-seq (failed (not (eqb (word16 tree (at + 25)) name)) (ap not (eq-eqb _ _ (sym p ∙ q)))) _)
 
   module _ {k parent : ℕ} {place : Span} (p : parent ≡ word16 tree (at + 25)) (s : place ≡ span-of tree (at + 17)) (q : parent ≡ name → ⊥)
@@ -83,7 +84,7 @@ module _ {limit l : ℕ} (tree : List ℕ) (at name : ℕ) (span : Span) where
         (did-seq (b .gives code spans fit) _
         (subst (λ (m : Compile Unit). Did 2 limit l k steady (declare-local super NO-SPAN >> (define-local >> m)) (mem t₁ code spans) now r) e d))
 
-    pub inherit-stop : {t₂ : List ℕ} {n : ℕ} {r : Step} {x : Refusal} → Tried l n steady (declare-local super NO-SPAN) t₁ t₂ r → r ≡ Stop x
+    pub inherit-stop : {t₂ : List ℕ} {n : ℕ} {r : Step} {x : Why} → Tried l n steady (declare-local super NO-SPAN) t₁ t₂ r → r ≡ Stop x
         → Did 2 limit l k deeper (compile-superclass limit name (some (superclass-of tree at)) span) (mem t code spans) (mem t₂ code spans) r
     inherit-stop d h = inherit-by (halt _ (d .gives code spans (begun-fit code spans fit b)) h)
 
@@ -124,13 +125,13 @@ module _ {class limit l : ℕ} (tree : List ℕ) (at : ℕ) (span : Span) (name 
         subst (λ (j : ℕ). Did class limit l mid (opening (is-some o)) (open-class limit j o (ltb 0 (word16 tree (at + 13))) span) before now r) p (f d has o mid look one);
   }
 
-  pub class-stop : {now : Mem} {r : Step} {n : ℕ} {x : Refusal} → Did class limit l n steady (emit-op-constant limit op.CLASS (CS name) span) before now r → r ≡
+  pub class-stop : {now : Mem} {r : Step} {n : ℕ} {x : Why} → Did class limit l n steady (emit-op-constant limit op.CLASS (CS name) span) before now r → r ≡
       Stop x → ClassOpened class limit l tree at span before now r
   unfolding open-class
   class-stop a q = open-by (λ d has o mid look one. halt _ a q)
 
   module _ {mid : Mem} {r : Step} {n v : ℕ} (a : Did class limit l n steady (emit-op-constant limit op.CLASS (CS name) span) before mid r) (q : r ≡ Next v) where
-    pub class-stop-2 : {now : Mem} {r′ : Step} {n′ : ℕ} {x : Refusal} → Did class limit l n′ steady (define-name limit name span) mid now r′ → r′ ≡ Stop x →
+    pub class-stop-2 : {now : Mem} {r′ : Step} {n′ : ℕ} {x : Why} → Did class limit l n′ steady (define-name limit name span) mid now r′ → r′ ≡ Stop x →
         ClassOpened class limit l tree at span before now r′
     unfolding open-class
     class-stop-2 b h = open-by (λ d has o mid look one. turn (λ d. refl) (λ c. refl) (λ x. refl) (λ h. h) (then-on _ a q (halt _ b h)))
@@ -146,7 +147,7 @@ module _ {class limit l : ℕ} (tree : List ℕ) (at : ℕ) (span : Span) (name 
           turn (λ d. refl) (λ c. refl) (λ x. refl) (λ h. h)
           (then-on _ a q (then-on _ b h (did-seq (entered (is-some o) (went b h .ahead .fit)) _ (f d has o k look one)))))
 
-      pub class-stop-3 : {now : Mem} {r″ : Step} {x : Refusal} → SuperOpened limit l name tree at span late now r″ → r″ ≡ Stop x → ClassOpened class limit l tree at span before now r″
+      pub class-stop-3 : {now : Mem} {r″ : Step} {x : Why} → SuperOpened limit l name tree at span late now r″ → r″ ≡ Stop x → ClassOpened class limit l tree at span before now r″
       class-stop-3 c w = open-on (λ d has o k look one. halt _ (c .did d has o k look one) w)
 
       pub class-bare : {now : Mem} {r″ : Step} {first : ℕ} → SuperOpened limit l name tree at span late now r″ → r″ ≡ Next first → word16 tree (at + 13) ≡ 0

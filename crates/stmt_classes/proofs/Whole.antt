@@ -8,7 +8,6 @@ use native.Mathlib.Nat.{le-refl}
 use lib.Dec.{ltb}
 use Rattle.rules.specs.Base.{lookup}
 use Rattle.rules.specs.declared.Span.{Span}
-use Rattle.rules.specs.declared.Refusal.{Refusal}
 use Rattle.rules.specs.Tree.{Superclass, StmtClass, Fun, Methods}
 use Rattle.rules.specs.Reader.{got, Reader}
 use Rattle.rules.specs.TreeFile.{flags, maybe, read-superclass, read-methods}
@@ -23,9 +22,10 @@ use Rattle.stmt_output_laws.specs.Output.{Grew}
 use Rattle.stmt_output_laws.proofs.Growing.{Run, of-gave, run-seq, run-refused-seq}
 use Rattle.stmt_classes.specs.Classes.{inner, opening, closing, ClassOpened, ClassClosed}
 use Rattle.stmt_classes.proofs.Cut.{class-then-pop, closes, free-closing, class-grown, some-count}
+use Rattle.steps.specs.declared.Why.{Why}
 
 -- what comes to another step from every state
-like-refused : {class l : ℕ} {m m′ : Compile Unit} {before : Mem} {x : Refusal} → ((s : Compiler) → m′ s ≡ m s) → Refused class l m before x → Refused class l m′ before x
+like-refused : {class l : ℕ} {m m′ : Compile Unit} {before : Mem} {x : Why} → ((s : Compiler) → m′ s ≡ m s) → Refused class l m before x → Refused class l m′ before x
 like-refused h y = record { refuses = λ rest q. h _ ∙ y .refuses rest q }
 
 like-grew : {class limit l at n : ℕ} {m m′ : Compile Unit} {before now : Mem} {out out′ : List ℕ} → ((s : Compiler) → m′ s ≡ m s) → Grew class limit l at n m
@@ -48,20 +48,20 @@ whole limit name count super methods span e s =
 module _ {class limit l : ℕ} (tree : List ℕ) (at : ℕ) (span : Span) (d : ℕ) {has : Bool} {super : Option Superclass} {mid n : ℕ} {methods : Methods} (one : Reader (Span × Fun))
     (look : lookup (word8 tree (at + 12)) flags ≡ some has) (head : maybe has (read-superclass tree (word16 tree 2) d) (at + 15) ≡ got super mid)
     (row : read-methods (word16 tree (at + 13)) one mid ≡ got methods n) {before : Mem} where
-  pub open-refused : {now : Mem} {r : Step} {x : Refusal} → ClassOpened class limit l tree at span before now r → r ≡ Stop x
+  pub open-refused : {now : Mem} {r : Step} {x : Why} → ClassOpened class limit l tree at span before now r → r ≡ Stop x
       → Refused class l (compile-stmt limit (StmtClass span (word16 tree (at + 10)) super methods)) before x
   open-refused o q = like-refused (whole limit (word16 tree (at + 10)) (word16 tree (at + 13)) super methods span (some-count one _ mid row))
       (refused-seq (refused-seq (stuck (o .did d has super mid look head) q) _) _)
 
   module _ {begun : Mem} {r : Step} {first : ℕ} (o : ClassOpened class limit l tree at span before begun r) (q : r ≡ Next first) where
-    pub methods-refused : {x : Refusal} → Refused (inner (is-some super)) l (compile-methods limit methods) begun x
+    pub methods-refused : {x : Why} → Refused (inner (is-some super)) l (compile-methods limit methods) begun x
         → Refused class l (compile-stmt limit (StmtClass span (word16 tree (at + 10)) super methods)) before x
     methods-refused y = like-refused (whole limit (word16 tree (at + 10)) (word16 tree (at + 13)) super methods span (some-count one _ mid row))
         (refused-seq (gave-refused-seq (went (o .did d has super mid look head) q) _ (refused-seq y _)) _)
 
     module _ {out out′ : List ℕ} {late now : Mem} {r′ : Step} (y : Run (inner (is-some super)) limit l mid n steady (compile-methods limit methods) tt begun out late out′)
         (c : ClassClosed (inner (is-some super)) limit l tree at n span late now r′) where
-      pub close-refused : {x : Refusal} → r′ ≡ Stop x → Refused class l (compile-stmt limit (StmtClass span (word16 tree (at + 10)) super methods)) before x
+      pub close-refused : {x : Why} → r′ ≡ Stop x → Refused class l (compile-stmt limit (StmtClass span (word16 tree (at + 10)) super methods)) before x
       close-refused z =
           like-refused (whole limit (word16 tree (at + 10)) (word16 tree (at + 13)) super methods span (some-count one _ mid row))
           (refused-seq (gave-refused-seq (went (o .did d has super mid look head) q) _ (run-refused-seq y _ (stuck (c .did d has super mid look head) z))) _)

@@ -16,7 +16,6 @@ use fields::u8_at;
 use fields::u16_at;
 use op::Op;
 use rules::Name;
-use rules::Refusal;
 use rules::Span;
 use state::Kind;
 use step_bytes::emit_op;
@@ -29,6 +28,7 @@ use step_scopes::define_local;
 use step_scopes::end_scope;
 use steps::Class;
 use steps::Step;
+use steps::Why;
 
 // A class that inherits: the innermost one where its superclass is looked up.
 const HEIR: u8 = Class::WITH_SUPER;
@@ -74,7 +74,11 @@ fn inherit(
     let parent = u16_at(tree, at + 25);
     let place = span_at(tree, at + 17);
     if parent == name {
-        return Step::Stop(Refusal::ClassInheritFromSelf(span, name));
+        return Step::Stop(Why {
+            number: Why::CLASS_INHERIT_FROM_SELF,
+            span,
+            name,
+        });
     }
     begin_scope(t, level);
     let d = declare_local(t, level, Name::SUPER, Span { start: 0, end: 0 }, 0);

@@ -6,7 +6,6 @@ use Prim.Native.Nat.{ℕ, _+_, _*_, _-_, _≤_}
 use native.Mathlib.Omega.{arith}
 use native.Mathlib.Nat.{le-refl, le-trans}
 use lib.ListN.{length, getD}
-use Rattle.rules.specs.declared.Refusal.{Refusal}
 use Rattle.rules.specs.Chunk.{ObjectFunction}
 use Rattle.rules.specs.Compiler.{Compiler, Outcome, ok, Compile, go-on, _>>=_, _>>_}
 use Rattle.state.specs.Layout.{deepest, image-at}
@@ -16,6 +15,7 @@ use Rattle.steps.specs.declared.Step.the-variants.{Next, Stop}
 use Rattle.steps.proofs.Steps.{gave-bind, gave-seq, gave-refused, gave-refused-seq, ahead-then}
 use Rattle.steps.proofs.Jumps.{ahead-none}
 use Rattle.stmt_output_laws.specs.Output.{largest, Holds, Added, more, grow, Grew, WorkedAs, Worked, Ready}
+use Rattle.steps.specs.declared.Why.{Why}
 
 -- ## Another turn
 
@@ -134,10 +134,10 @@ module _ {class limit l at mid n : ℕ} {e f : Turn} (free : Free f) {A B : Type
 -- a refusal after a run
 module _ {class limit l at n : ℕ} {e : Turn} {A B : Type 0} {m : Compile A} {v : A} {before : Mem} {out : List ℕ} {now : Mem} {out′ : List ℕ}
     (r : Run class limit l at n e m v before out now out′) where
-  pub run-refused : (next : A → Compile B) {x : Refusal} → Refused (e .class class) l (next v) now x → Refused class l (m >>= next) before x
+  pub run-refused : (next : A → Compile B) {x : Why} → Refused (e .class class) l (next v) now x → Refused class l (m >>= next) before x
   run-refused next h = gave-refused (r .gave) next h
 
-  pub run-refused-seq : (next : Compile B) {x : Refusal} → Refused (e .class class) l next now x → Refused class l (m >> next) before x
+  pub run-refused-seq : (next : Compile B) {x : Why} → Refused (e .class class) l next now x → Refused class l (m >> next) before x
   run-refused-seq next h = gave-refused-seq (r .gave) next h
 
 -- ## Answers
@@ -149,13 +149,13 @@ module _ {class limit l at n : ℕ} {m : Compile Unit} {before : Mem} {out : Lis
   pub reached : {v : ℕ} → Worked class limit l at n m before out now out′ r → r ≡ Next v → v ≡ n
   reached d q = subst (λ (s : Step). WorkedAs class limit l at n m before out now out′ s) q (d .does) .1
 
-  pub refused : {x : Refusal} → Worked class limit l at n m before out now out′ r → r ≡ Stop x → Refused class l m before x
+  pub refused : {x : Why} → Worked class limit l at n m before out now out′ r → r ≡ Stop x → Refused class l m before x
   refused d q = subst (λ (s : Step). WorkedAs class limit l at n m before out now out′ s) q (d .does)
 
   pub worked : {v : ℕ} → r ≡ Next v → v ≡ n → Grew class limit l at n m before out now out′ → Worked class limit l at n m before out now out′ r
   worked q h g = record { does = subst (λ (s : Step). WorkedAs class limit l at n m before out now out′ s) (sym q) (g, h) }
 
-  pub stopped : {x : Refusal} → r ≡ Stop x → Refused class l m before x → Worked class limit l at n m before out now out′ r
+  pub stopped : {x : Why} → r ≡ Stop x → Refused class l m before x → Worked class limit l at n m before out now out′ r
   stopped q h = record { does = subst (λ (s : Step). WorkedAs class limit l at n m before out now out′ s) (sym q) h }
 
 -- a statement that finishes no function
@@ -185,7 +185,7 @@ ready-after {l = l} {left′ = left′} y r h =
 
 module _ {class limit l at n : ℕ} {m : Compile Unit} {before : Mem} {out : List ℕ} {now : Mem} {out′ : List ℕ} where
   module _ {inner k : ℕ} {f : Turn} {last : Compile Unit} {mid : Mem} (g : Gave inner limit k f last tt mid now → Grew class limit l at n m before out now out′)
-      (h : (x : Refusal) → Refused inner k last mid x → Refused class l m before x) where
+      (h : (x : Why) → Refused inner k last mid x → Refused class l m before x) where
     conclude-as : (r : Step) → Did inner limit k n f last mid now r → WorkedAs class limit l at n m before out now out′ r
     conclude-as (Next v) d = (g (d .does .0), d .does .1)
     conclude-as (Stop x) d = h x (d .does)
@@ -194,7 +194,7 @@ module _ {class limit l at n : ℕ} {m : Compile Unit} {before : Mem} {out : Lis
     conclude {r} d = record { does = conclude-as r d }
 
   module _ {inner from : ℕ} {last : Compile Unit} {mid : Mem} {mid-out : List ℕ} (g : Grew inner limit l from n last mid mid-out now out′ → Grew class limit l at n m before out now out′)
-      (h : (x : Refusal) → Refused inner l last mid x → Refused class l m before x) where
+      (h : (x : Why) → Refused inner l last mid x → Refused class l m before x) where
     conclude-worked-as : (r : Step) → Worked inner limit l from n last mid mid-out now out′ r → WorkedAs class limit l at n m before out now out′ r
     conclude-worked-as (Next v) d = (g (d .does .0), d .does .1)
     conclude-worked-as (Stop x) d = h x (d .does)
@@ -245,7 +245,7 @@ module _ {class limit l at : ℕ} {p : Compile Unit} {before : Mem} {out : List 
       }
 
   module _ {next : ℕ} {q : Compile Unit} {now : Mem} {out′ : List ℕ} (w : Onward class limit l at next p q before out now out′) where
-    pub onward-refused : {x : Refusal} → Refused class l q now x → Refused class l p before x
+    pub onward-refused : {x : Why} → Refused class l q now x → Refused class l p before x
     onward-refused h = record { refuses = λ rest g. w .same rest g ∙ h .refuses (more (w .made) rest) (w .agrees rest g) }
 
     -- one more is done, and q′ is left

@@ -7,7 +7,6 @@ use native.Mathlib.Omega.{arith}
 use lib.ListN.{length, getD}
 use Rattle.rules.specs.Base.{lookup}
 use Rattle.rules.specs.declared.Span.{Span}
-use Rattle.rules.specs.declared.Refusal.{Refusal}
 use Rattle.rules.specs.declared.Refusal.the-variants.{ReturnInInitializer, ReturnOutsideFunction}
 use Rattle.rules.specs.Tree.{Expr, Stmt, StmtReturn}
 use Rattle.rules.specs.Reader.{got}
@@ -29,6 +28,8 @@ use Rattle.stmt_output_laws.specs.Output.{funs-left, stmt-at}
 use Rattle.stmt_plain.specs.Plain.{StmtSomewhere, Plainly, Flagged, return-kind, may-return}
 use Rattle.stmt_plain.proofs.Values.{by-stmt, flagged-no, flagged-yes}
 use Rattle.fields.specs.Marks as marks
+use Rattle.steps.specs.declared.Why.{Why}
+use Rattle.steps.specs.Why.{return-in-initializer, return-outside-function, refusal-of}
 
 -- ## The kind of function
 
@@ -55,12 +56,12 @@ module _ (l n : ℕ) (span : Span) (t : List ℕ) where
   abbrev kind : ℕ
   kind = getD t (l * level-words + type-place) 0
 
-  pub kind-outside : kind ≡ 0 → Tried l n steady (may-return span) t t (Stop (ReturnOutsideFunction span))
-  unfolding may-return refuse
+  pub kind-outside : kind ≡ 0 → Tried l n steady (may-return span) t t (Stop (return-outside-function span))
+  unfolding may-return refuse refusal-of
   kind-outside e = record { gives = λ code spans fit. stop _ (ask-refused (told-type t code spans l) _ (record { refuses = λ rest h. outside span _ kind e })) }
 
-  pub kind-initializer : 3 ≤ kind → Tried l n steady (may-return span) t t (Stop (ReturnInInitializer span))
-  unfolding may-return refuse
+  pub kind-initializer : 3 ≤ kind → Tried l n steady (may-return span) t t (Stop (return-in-initializer span))
+  unfolding may-return refuse refusal-of
   kind-initializer e = record { gives = λ code spans fit. stop _ (ask-refused (told-type t code spans l) _ (record { refuses = λ rest h. initializer span _ kind e })) }
 
   pub kind-returns : (kind ≡ 0 → ⊥) → kind < 3 → Tried l n steady (may-return span) t t (Next n)
@@ -117,12 +118,12 @@ module _ (tree : List ℕ) (left l at : ℕ) (m : letters tree at ≡ marks.SR) 
             → Did class limit l n steady (compile-stmt limit s) before now r
         by-parts z d = let i = valued-at z in by-return sp h z (i .is) (like (whole limit (i .thing) sp) d)
 
-        pub return-stop : {k : ℕ} {now : Mem} {r : Step} {x : Refusal} → Did class limit l k steady (may-return sp) before now r → r ≡ Stop x
+        pub return-stop : {k : ℕ} {now : Mem} {r : Step} {x : Why} → Did class limit l k steady (may-return sp) before now r → r ≡ Stop x
             → Plainly class limit l (stmt-at tree left l at) before now r
         return-stop a q = record { did = λ s n z. by-parts z (halt _ a q) }
 
         module _ {k v : ℕ} {mid : Mem} {r : Step} (a : Did class limit l k steady (may-return sp) before mid r) (q : r ≡ Next v) where
-          pub return-value-stop : {now : Mem} {r′ : Step} {x : Refusal} → Ran class limit l (expr-at tree (left - 1) (at + 11)) mid now r′ → r′ ≡ Stop x
+          pub return-value-stop : {now : Mem} {r′ : Step} {x : Why} → Ran class limit l (expr-at tree (left - 1) (at + 11)) mid now r′ → r′ ≡ Stop x
               → Plainly class limit l (stmt-at tree left l at) before now r′
           return-value-stop b q′ = record { did = λ s n z. let i = valued-at z in by-parts z (then-on _ a q (halt _ (b .did (i .thing) n (i .one-is)) q′)) }
 

@@ -8,7 +8,6 @@ use Prim.Native.Nat.{ℕ, _+_, _-_, _≤_}
 use lib.ListN.{length}
 use Rattle.rules.specs.Base.{lookup}
 use Rattle.rules.specs.declared.Span.{Span}
-use Rattle.rules.specs.declared.Refusal.{Refusal}
 use Rattle.rules.specs.Tree.{Expr, Stmt, StmtExpr, StmtPrint}
 use Rattle.rules.specs.Reader.{got}
 use Rattle.rules.specs.TreeFile.{flags, maybe, read-expr}
@@ -25,6 +24,7 @@ use Rattle.steps.proofs.Monad.{on-to}
 use Rattle.stmt_output_laws.specs.Output.{funs-left, stmt-at}
 use Rattle.stmt_plain.specs.Plain.{StmtSomewhere, NoOther, Plainly, Flagged, Announced, ValueRan}
 use Rattle.fields.specs.Marks as marks
+use Rattle.steps.specs.declared.Why.{Why}
 
 -- ## What is known of any statement
 
@@ -64,7 +64,7 @@ module _ {limit l left at : ℕ} {tree : List ℕ} {make : Span → Expr → Stm
   one-there w = let i = one .read (w .thing) (w .next) (w .is) in record { depth = left - 1; there = record { thing = i .value; next = w .next; is = i .one } }
 
   module _ {class : ℕ} {before : Mem} where
-    pub one-stop : {now : Mem} {r : Step} {x : Refusal} → Ran class limit l (expr-at tree (left - 1) (at + 10)) before now r → r ≡ Stop x → Plainly class limit l (stmt-at tree left l at) before now r
+    pub one-stop : {now : Mem} {r : Step} {x : Why} → Ran class limit l (expr-at tree (left - 1) (at + 10)) before now r → r ≡ Stop x → Plainly class limit l (stmt-at tree left l at) before now r
     one-stop a q = record {
       did = λ s n z.
           let i = one .read s n z in

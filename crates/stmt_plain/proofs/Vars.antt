@@ -6,7 +6,6 @@ use Prim.Native.Nat.{ℕ, _+_, _-_, _≤_}
 use lib.ListN.{length}
 use Rattle.rules.specs.Base.{if_then_else_, lookup}
 use Rattle.rules.specs.declared.Span.{Span}
-use Rattle.rules.specs.declared.Refusal.{Refusal}
 use Rattle.rules.specs.Tree.{Stmt, StmtVar}
 use Rattle.rules.specs.Reader.{got}
 use Rattle.rules.specs.TreeFile.{flags}
@@ -24,6 +23,7 @@ use Rattle.stmt_output_laws.specs.Output.{funs-left, stmt-at}
 use Rattle.stmt_plain.specs.Plain.{StmtSomewhere, Plainly, Flagged, Announced, ValueRan, open-var, close-var}
 use Rattle.stmt_plain.proofs.Values.{by-stmt}
 use Rattle.fields.specs.Marks as marks
+use Rattle.steps.specs.declared.Why.{Why}
 
 -- ## The parts
 
@@ -76,12 +76,12 @@ module _ (tree : List ℕ) (left l at : ℕ) (m : letters tree at ≡ marks.SV) 
           by-stmt (i .is ∙ ap₂ (λ w k. StmtVar w k (i .value)) (sym h) (sym p))
           (ask g _ (like (whole limit name sp (compile-value limit (i .value) sp) global) d))
 
-      pub var-stop : {k : ℕ} {now : Mem} {r : Step} {x : Refusal} → Did class limit l k steady (open-var global name sp) before now r → r ≡ Stop x
+      pub var-stop : {k : ℕ} {now : Mem} {r : Step} {x : Why} → Did class limit l k steady (open-var global name sp) before now r → r ≡ Stop x
           → Plainly class limit l (stmt-at tree left l at) before now r
       var-stop a q = record { did = λ s n z. by-parts z (halt _ a q) }
 
       module _ {k v : ℕ} {mid : Mem} {r : Step} (a : Did class limit l k steady (open-var global name sp) before mid r) (q : r ≡ Next v) where
-        pub var-value-stop : {now : Mem} {r′ : Step} {x : Refusal} → ValueRan class limit l tree (left - 1) (at + 13) flag sp mid now r′ → r′ ≡ Stop x
+        pub var-value-stop : {now : Mem} {r′ : Step} {x : Why} → ValueRan class limit l tree (left - 1) (at + 13) flag sp mid now r′ → r′ ≡ Stop x
             → Plainly class limit l (stmt-at tree left l at) before now r′
         var-value-stop b q′ = record { did = λ s n z. by-parts z (then-on _ a q (halt _ (b .did _ n (announced z)) q′)) }
 

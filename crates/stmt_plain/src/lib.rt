@@ -15,7 +15,6 @@ use fields::span_at;
 use fields::u8_at;
 use fields::u16_at;
 use op::Op;
-use rules::Refusal;
 use rules::Span;
 use state::Kind;
 use state::Table;
@@ -26,6 +25,7 @@ use step_scopes::declare_local;
 use step_scopes::define_local;
 use step_scopes::is_global;
 use steps::Step;
+use steps::Why;
 
 // As words of the table.
 const SCRIPT: u64 = Kind::SCRIPT as u64;
@@ -190,10 +190,18 @@ fn return_kind(t: &[u64], level: usize, span: Span, next: usize) -> Step
 {
     let kind = t[level * Table::LEVEL_WORDS + Table::TYPE];
     if kind == SCRIPT {
-        return Step::Stop(Refusal::ReturnOutsideFunction(span));
+        return Step::Stop(Why {
+            number: Why::RETURN_OUTSIDE_FUNCTION,
+            span,
+            name: 0,
+        });
     }
     if INITIALIZER <= kind {
-        return Step::Stop(Refusal::ReturnInInitializer(span));
+        return Step::Stop(Why {
+            number: Why::RETURN_IN_INITIALIZER,
+            span,
+            name: 0,
+        });
     }
     Step::Next(next)
 }

@@ -1,4 +1,4 @@
--- `compile_lent` meets its contract. Assumes nothing.
+-- `compile_lent` meets its contract.
 use mathlib.Core.Path.{refl, sym, _∙_}
 use lib.Seq.{length-take-le}
 use Rattle.tree.proofs.SoundFile.{refused-file}
