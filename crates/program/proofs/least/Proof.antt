@@ -2,10 +2,10 @@
 use native.Mathlib.Omega.{arith}
 use Rattle.io.proofs.Counting.{counts}
 use borrow.Author.Needs.{needs}
-use Rattle.puffbramble.proofs.least.Statement.{statement}
-use Rattle.puffbramble.proofs.least.Tie as tie
-use Rattle.puffbramble.proofs.least.Reads as reads
-use Rattle.puffbramble.proofs.least.Lts as lts
+use Rattle.program.proofs.least.Statement.{statement}
+use Rattle.program.proofs.least.Tie as tie
+use Rattle.program.proofs.least.Reads as reads
+use Rattle.program.proofs.least.Lts as lts
 
 returns : tie.Need-returns
 returns c = counts _ _ (omega arith)

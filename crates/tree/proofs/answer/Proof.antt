@@ -1,4 +1,4 @@
--- `puffbramble_read` meets its contract: what the reader found, as an answer, is the rules' answer. Assumes nothing.
+-- `answer` meets its contract: what the reader found, as an answer, is the rules' answer.
 use mathlib.Core.Path.{_≡_, refl, sym, _∙_, ap}
 use mathlib.Core.Bool.{Bool, true, false}
 use mathlib.Core.List.{List}
@@ -13,12 +13,12 @@ use Rattle.rules.specs.Answer.{refusal, accepted}
 use Rattle.rules.specs.Tree.{Stmts}
 use Rattle.rules.specs.Reader.{Read, got, bad}
 use Rattle.rules.specs.TreeFile.{read-tree}
 use Rattle.tree.specs.Checked.{checked, checked-file}
 use Rattle.tree.specs.declared.Checked.{Checked}
-use Rattle.c_entry.specs.Read.{told, read-answer}
+use Rattle.tree.specs.Read.{told, read-answer}
 use borrow.Author.Needs.{needs}
-use Rattle.c_entry.proofs.puffbramble_read.Statement.{statement}
-use Rattle.c_entry.proofs.puffbramble_read.Tie as tie
+use Rattle.tree.proofs.answer.Statement.{statement}
+use Rattle.tree.proofs.answer.Tie as tie
 
 -- what the reader found, as an answer
 abbrev said : Checked → Answer
@@ -78,8 +78,8 @@ read-of-refused c = read-of-at-match-keys2 (c .before .before .before)
 returns-2 : tie.Need-returns-2
 returns-2 c = c .refused .ensures ∙ ap said (sym (c .before .before .r .given .1) ∙ read-of-refused c .read .ensures) ∙ said-file _
 
-pub puffbramble-read-spec : {M : Type 1} → statement M
-puffbramble-read-spec =
+pub answer-spec : {M : Type 1} → statement M
+answer-spec =
     tie.close
     (tie.spec
     read-requires

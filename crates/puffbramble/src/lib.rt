@@ -6,11 +6,8 @@ ghost use Rattle.rules.specs.Entry as rules;
 ghost use Rattle.rules.specs.Checker.{check, code-answer, span-of};
 ghost use Rattle.image.specs.Counted.{code-part};
 ghost use Rattle.spans.specs.Words.{runs-of};
-ghost use Rattle.c_entry.specs.Read.{read-answer};
-use answers::accepted;
-use answers::refused;
+ghost use Rattle.tree.specs.Read.{read-answer};
 use rules::Answer;
-use tree::Checked;
 
 // 0 with the image's length in `length`, or a refusal. The output has the image and then zeros, or only zeros; the work areas end all zero.
 #[no_mangle]
@@ -31,10 +28,7 @@ pub extern "C" fn puffbramble_compile(
 pub extern "C" fn puffbramble_read(tree: &[u8]) -> Answer
     ensures { λ r. ⌜ r ≡ read-answer (now (tree .entry)) ⌝ }
 {
-    match tree::read(tree) {
-        Checked::Sound(_) => accepted(0),
-        Checked::Bad(r) => refused(r),
-    }
+    tree::answer(tree)
 }
 
 // 0 with the number of instructions in `length`, or 40.

@@ -3,7 +3,7 @@
 // come. No contract can say what is read or written; `answer` says the rest.
 ghost use lib.ListN.{length};
 ghost use Rattle.io.specs.Counts.{Counts};
-ghost use Rattle.puffbramble.specs.Program.{Answered};
+ghost use Rattle.program.specs.Program.{Answered};
 use answers::refused;
 use rules::Answer;
 use rules::Refusal;

@@ -14,7 +14,7 @@ use Rattle.rules.specs.Answer.{refusal}
 use Rattle.rules.specs.Entry.{Lent, compile}
 use Rattle.rules_laws.proofs.Facts.{Bytes}
 use Rattle.rules_laws.proofs.Bounds.{room-that-suffices}
-use Rattle.puffbramble.specs.Program.{most, program-answer}
+use Rattle.program.specs.Program.{most, program-answer}
 
 -- the sizes in src/main.rt
 abbrev pub areas : Lent

@@ -9,12 +9,12 @@ use Rattle.rules.specs.declared.Answer.{Answer}
 use Rattle.rules.specs.declared.Refusal.the-variants.{TreeTooLong}
 use Rattle.rules.specs.Answer.{refusal}
 use Rattle.rules.specs.Entry.{Lent, Left, compile}
-use Rattle.puffbramble.specs.Program.{most, program-answer, Answered}
+use Rattle.program.specs.Program.{most, program-answer, Answered}
 use borrow.Author.Needs.{needs}
-use Rattle.puffbramble.proofs.answer.Statement.{statement}
-use Rattle.puffbramble.proofs.answer.Tie as tie
-use Rattle.puffbramble.proofs.answer.Reads as reads
-use Rattle.puffbramble.proofs.answer.Lts as lts
+use Rattle.program.proofs.answer.Statement.{statement}
+use Rattle.program.proofs.answer.Tie as tie
+use Rattle.program.proofs.answer.Reads as reads
+use Rattle.program.proofs.answer.Lts as lts
 use Rattle.entry.proofs.compile.Reads as compile-reads
 use Rattle.answers.proofs.refused.Reads as refused-reads
 
