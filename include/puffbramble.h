@@ -1,5 +1,5 @@
-/* Puffbramble's functions for C, in the archive libc_entry.a (x86-64 Linux; `rt staticlib c_entry` writes it). What they answer is proved
- * in crates/c_entry for all bytes and numbers: none is refused a call. What the caller owes is what C asks of any pointer.
+/* Puffbramble's functions for C, in the archive libpuffbramble.a (x86-64 Linux; `rt staticlib puffbramble` writes it). What they answer is proved
+ * in crates/puffbramble for all bytes and numbers: none is refused a call. What the caller owes is what C asks of any pointer.
  *
  * Lent memory. A pointer stands with the number of elements behind it (of bytes for uint8_t, of words of four bytes for uint32_t, of eight for
  * uint64_t); the memory must be readable for the whole call, and writable where the pointer is not to const; nobody else may use it meanwhile, no
