@@ -129,7 +129,7 @@ module _ (limit limit′ : ℕ) (larger : limit ≤ limit′) where
     emit-constant (CF number) span
     emit-upvalues upvalues span
 
-  laws : Laws anything limit limit′ (λ A g h n w m m′. Agrees {A = A} m m′)
+  laws : Laws anything (λ A g h n w m. Agrees {A = A} (m limit) (m limit′))
   laws =
       record {
         no-span = tt;
@@ -161,5 +161,5 @@ module _ (limit limit′ : ℕ) (larger : limit ≤ limit′) where
 pub agrees : (limit limit′ : ℕ) → limit ≤ limit′ → (stmts : Stmts) → Under (c.compile-functions limit stmts) (c.compile-functions limit′ stmts)
 unfolding c.compile-functions
 agrees limit limit′ l stmts =
-    (steps.compile-script anything limit limit′ (λ A g h n w m m′. Agrees {A = A} m m′) (laws limit limit′ l) stmts tt
+    (steps.compile-script anything (λ A g h n w m. Agrees {A = A} (m limit) (m limit′)) (laws limit limit′ l) stmts tt
     (stmts-any stmts) >> any) .run c.new

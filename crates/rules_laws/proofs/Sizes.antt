@@ -484,7 +484,7 @@ module _ (limit most top : ℕ) (room : top ≤ limit) where
   unfolding c.end-function c.end-ctx c._>>=_ go-on c.the
   end-function {g} span up = record { run = λ s k l i. back-to g s k (s .parents) span refl (up .0) (up .1) l i }
 
-  laws : Laws (fitting most) limit limit (λ A g h n w m m′. Does {A = A} g h n m)
+  laws : Laws (fitting most) (λ A g h n w m. Does {A = A} g h n (m limit))
   unfolding c.define-local c.begin-scope c.push-class-ctx c.pop-class-ctx
   laws =
       record {
@@ -531,7 +531,7 @@ within limit most stmts o room = by-outcome (c.compile-script limit stmts c.new)
 
     compiled : Ends (λ g k s. Spent peak gone most g k s) Rusts top most (0 + top) (c.compile-script limit stmts c.new)
     compiled =
-        (steps.compile-script (fitting most) limit limit (λ A g h n w m m′. Does limit most top room {A = A} g h n m)
+        (steps.compile-script (fitting most) (λ A g h n w m. Does limit most top room {A = A} g h n (m limit))
         (laws limit most top room) stmts most o) .run c.new 0 (omega arith)
         (record { levels = omega arith; spent = omega arith })
 
