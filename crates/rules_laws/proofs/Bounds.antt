@@ -57,7 +57,8 @@ module _ (limits : Limits) (nested : limits .funs ≤ 16) (tree : List ℕ) (byt
   pub ample-30 : Ample → compile-within limits tree lent .answer .number ≢ 30
   ample-30 a e =
       let (stmts, w, l) = code-full-exactly limits tree bytes lent .0 e in
-      omega (arith, l, ample-limit a, needed-most stmts, tree-fits tree bytes (limits .depth) (limits .funs) stmts (w .next) (w .read) .size)
+      let fits : Fitting tree (limits .funs) stmts = tree-fits tree bytes (limits .depth) (limits .funs) stmts (w .next) (w .read) in
+      omega (arith, l, ample-limit a, needed-most (limits .funs) stmts (fits .parts), fits .size)
 
   pub ample-31 : Ample → compile-within limits tree lent .answer .number ≢ 31
   ample-31 a e =
@@ -137,13 +138,14 @@ module _ (tree : List ℕ) (bytes : Bytes tree) (lent lent′ : Lent) (every : F
   every-30 : Enough (compile tree lent .answer) → compile tree lent′ .answer .number ≢ 30
   every-30 n e =
       let (stmts, w, l) = code-full-exactly first-limits tree bytes lent′ .0 e in
+      let fits : Fitting tree (first-limits .funs) stmts = tree-fits tree bytes (first-limits .depth) (first-limits .funs) stmts (w .next) (w .read) in
       omega (
         arith,
         l,
         every-limit tree lent′ every,
         most-limit lent,
-        needed-most stmts,
-        tree-fits tree bytes (first-limits .depth) (first-limits .funs) stmts (w .next) (w .read) .size,
+        needed-most (first-limits .funs) stmts (fits .parts),
+        fits .size,
         enough .code stmts (record { started = record { table = enough .table; short = w .started .short }; next = w .next; read = w .read }),
       )
     where
