@@ -4,7 +4,7 @@
 use mathlib.Core.Path.{_≡_, refl, sym, ap, subst, subst⁻¹, _∙_}
 use mathlib.Core.Bool.{Bool, true, false}
 use mathlib.Core.List.{List, [], _∷_, _++_}
-use Prim.Native.Nat.{ℕ, suc, _+_, _-_, _≤_, _<_, max}
+use Prim.Native.Nat.{ℕ, suc, _+_, _≤_, _<_, max}
 use native.Mathlib.Omega.{arith}
 use lib.ListN.{length, length-set}
 use lib.Dec.{T, ltb, leb, leb→le, nleb→lt}
@@ -20,31 +20,43 @@ use Rattle.rules_laws.proofs.Refusals.{Rusts}
 use Rattle.rules_laws.proofs.Steps as steps
 use Rattle.rules_laws.proofs.Steps.{Laws}
 use Rattle.rules_laws.proofs.Trees.{anything, stmts-any}
-use Rattle.rules_laws.proofs.Sizes.{emitted, byte-fits, byte-full, one-more, Placed, placed, Likes, Raised-if, Within}
+use Rattle.rules_laws.proofs.Sizes.{emitted, byte-fits, byte-full, one-more, Placed, placed, Likes, Raised-if, Within, open-code-step}
 use Rattle.rules_laws.proofs.Sizes as sizes
 
 -- ## The run that meets no limit
 
--- the length of each open function's code, the innermost first
-abbrev pub each-length : List CompilerCtx → List ℕ
-each-length [] = []
-each-length (x ∷ xs) = length (x .chunk .ops) ∷ each-length xs
+-- the lengths of the functions' code: of the open ones, the innermost first, and of the finished ones, in order
+abbrev pub Lengths : Type 0
+Lengths = List ℕ × List ℕ
 
-abbrev pub lengths : Compiler → List ℕ
-lengths s = each-length (s .ctx ∷ s .parents)
+abbrev pub of-open : List CompilerCtx → List ℕ
+of-open [] = []
+of-open (x ∷ xs) = length (x .chunk .ops) ∷ of-open xs
 
--- what may happen to these lengths between two bytes: functions are opened, with no code, and the innermost is ended
-pub data Still : List ℕ → List ℕ → Type 0 where
-  same : {ls : List ℕ} → Still ls ls
-  opened : {ls ks : List ℕ} → Still (0 ∷ ls) ks → Still ls ks
-  ended : {n : ℕ} {ls ks : List ℕ} → Still ls ks → Still (n ∷ ls) ks
+abbrev pub of-finished : List ObjectFunction → List ℕ
+of-finished [] = []
+of-finished (f ∷ fs) = length (f .chunk .ops) ∷ of-finished fs
 
--- a run: the states right after each of its bytes, each of which is one more at the end of the innermost function's code, and what it comes to
-pub data Path {A : Type 0} : List ℕ → List Compiler → Outcome A → Type 0 where
-  comes-to : {ls : List ℕ} {a : A} {t : Compiler} → Still ls (lengths t) → Path ls [] (ok a t)
-  refuses : {ls : List ℕ} {r : Refusal} → Rusts r → Path ls [] (err r)
-  byte : {n : ℕ} {ls ks : List ℕ} {t : Compiler} {ts : List Compiler} {o : Outcome A} → Still ls (n ∷ ks) → lengths t ≡ suc n ∷ ks →
-      Path (lengths t) ts o → Path ls (t ∷ ts) o
+abbrev pub lengths : Compiler → Lengths
+lengths s = (of-open (s .ctx ∷ s .parents), of-finished (s .functions))
+
+-- what may happen to them between two bytes: functions are opened, with no code, and the innermost is finished
+pub data Still : Lengths → Lengths → Type 0 where
+  same : {x : Lengths} → Still x x
+  opened : {ls fs : List ℕ} {y : Lengths} → Still (0 ∷ ls, fs) y → Still (ls, fs) y
+  ended : {n : ℕ} {ls fs : List ℕ} {y : Lengths} → Still (ls, fs ++ (n ∷ [])) y → Still (n ∷ ls, fs) y
+
+-- a run: the states right after each of its bytes, each of which is one more of the innermost function's code, and what it comes to
+pub data Path {A : Type 0} : Lengths → List Compiler → Outcome A → Type 0 where
+  comes-to : {x : Lengths} {a : A} {t : Compiler} → Still x (lengths t) → Path x [] (ok a t)
+  refuses : {x : Lengths} {r : Refusal} → Rusts r → Path x [] (err r)
+  byte : {n : ℕ} {x : Lengths} {ls fs : List ℕ} {t : Compiler} {ts : List Compiler} {o : Outcome A} → Still x (n ∷ ls, fs) →
+      lengths t ≡ (suc n ∷ ls, fs) →
+      Path (lengths t) ts o → Path x (t ∷ ts) o
+
+abbrev pub sum : List ℕ → ℕ
+sum [] = 0
+sum (n ∷ ns) = n + sum ns
 
 -- the most that the open functions' code comes to, summed, in any of these states
 abbrev pub peak : List Compiler → ℕ
@@ -67,7 +79,7 @@ peak-both : (ts us : List Compiler) → peak (ts ++ us) ≡ max (peak ts) (peak 
 peak-both [] us = omega arith
 peak-both (t ∷ ts) us = omega (arith, peak-both ts us)
 
-still-both : {ls ks js : List ℕ} → Still ls ks → Still ks js → Still ls js
+still-both : {x y z : Lengths} → Still x y → Still y z → Still x z
 still-both same h = h
 still-both (opened g) h = opened (still-both g h)
 still-both (ended g) h = ended (still-both g h)
@@ -77,13 +89,13 @@ abbrev after : {A : Type 0} → Outcome A → (A → Compiler → List Compiler)
 after (ok a t) f = f a t
 after (err r) f = []
 
-start : {A : Type 0} {ls ks : List ℕ} {ts : List Compiler} {o : Outcome A} → Still ls ks → Path ks ts o → Path ls ts o
+start : {A : Type 0} {x y : Lengths} {ts : List Compiler} {o : Outcome A} → Still x y → Path y ts o → Path x ts o
 start h (comes-to g) = comes-to (still-both h g)
 start h (refuses a) = refuses a
 start h (byte g e p) = byte (still-both h g) e p
 
-path-both : {A B : Type 0} {ls : List ℕ} {ts : List Compiler} {o : Outcome A} (f : A → Compile B) (g : A → Compiler → List Compiler) →
-    ((a : A) (t : Compiler) → Path (lengths t) (g a t) (f a t)) → Path ls ts o → Path ls (ts ++ after o g) (go-on o f)
+path-both : {A B : Type 0} {x : Lengths} {ts : List Compiler} {o : Outcome A} (f : A → Compile B) (g : A → Compiler → List Compiler) →
+    ((a : A) (t : Compiler) → Path (lengths t) (g a t) (f a t)) → Path x ts o → Path x (ts ++ after o g) (go-on o f)
 unfolding go-on
 path-both f g h (comes-to {a = a} {t = t} st) = start st (h a t)
 path-both f g h (refuses a) = refuses a
@@ -203,13 +215,13 @@ refuse : {A : Type 0} (r : Refusal) → Rusts r → Counted {A = A} (λ _. c.ref
 unfolding c.refuse
 refuse r a = quiet (c.refuse r) (λ s. a)
 
-still-eq : {ls ks : List ℕ} → ks ≡ ls → Still ls ks
-still-eq {ls} e = subst⁻¹ (λ (ks : List ℕ). Still ls ks) e same
+still-eq : {x y : Lengths} → y ≡ x → Still x y
+still-eq {x} e = subst⁻¹ (λ (y : Lengths). Still x y) e same
 
 -- a change of the current context that leaves its code as long
 update : (f : CompilerCtx → CompilerCtx) → ((x : CompilerCtx) → length (f x .chunk .ops) ≡ length (x .chunk .ops)) → Counted (λ _. c.update-ctx f)
 unfolding c.update-ctx
-update f h = quiet (c.update-ctx f) (λ s. still-eq (ap (λ (n : ℕ). n ∷ each-length (s .parents)) (h (s .ctx))))
+update f h = quiet (c.update-ctx f) (λ s. still-eq (ap (λ (n : ℕ). (n ∷ of-open (s .parents), of-finished (s .functions))) (h (s .ctx))))
 
 declare-local : (name : ℕ) (span : Span) → Counted (λ _. c.declare-local name span)
 unfolding c.declare-local
@@ -246,28 +258,34 @@ begin-ctx : (name arity depth : ℕ) (type : FunctionType) → Counted (λ _. c.
 unfolding c.begin-ctx
 begin-ctx name arity depth type = quiet (c.begin-ctx (c.new-ctx name arity type depth)) (λ s. opened same)
 
+finished-both : (fs gs : List ObjectFunction) → of-finished (fs ++ gs) ≡ of-finished fs ++ of-finished gs
+finished-both [] gs = refl
+finished-both (f ∷ fs) gs = ap (λ (ns : List ℕ). length (f .chunk .ops) ∷ ns) (finished-both fs gs)
+
 end-ctx : Counted (λ _. c.end-ctx)
-unfolding c.end-ctx c._>>=_ go-on c.the c.back-to
+unfolding c.end-ctx c._>>=_ go-on c.the c.back-to c.finish
 end-ctx = quiet c.end-ctx (λ s. by-parents s (s .parents) refl)
   where
     by-parents : (s : Compiler) (ps : List CompilerCtx) → s .parents ≡ ps → Rests s (c.back-to ps s)
     by-parents s [] e = same
-    by-parents s (p ∷ ps) e = ended (still-eq (ap each-length (sym e)))
+    by-parents s (p ∷ ps) e =
+        ended (still-eq (ap (λ (ns : List ℕ). (of-open (p ∷ ps), ns)) (finished-both (s .functions) (c.finish (s .ctx) ∷ []))
+        ∙ ap (λ (qs : List CompilerCtx). (of-open qs, of-finished (s .functions) ++ (length (s .ctx .chunk .ops) ∷ []))) (sym e)))
 
 -- a name that is looked up: contexts change, and their code does not
-likes-lengths : (xs ys : List CompilerCtx) → Likes xs ys → each-length ys ≡ each-length xs
+likes-lengths : (xs ys : List CompilerCtx) → Likes xs ys → of-open ys ≡ of-open xs
 likes-lengths [] [] h = refl
 likes-lengths [] (y ∷ ys) h = absurd h
 likes-lengths (x ∷ xs) [] h = absurd h
 likes-lengths (x ∷ xs) (y ∷ ys) h =
-    ap (λ (n : ℕ). n ∷ each-length ys) (h .0 .ops) ∙ ap (λ (ls : List ℕ). length (x .chunk .ops) ∷ ls) (likes-lengths xs ys (h .1))
+    ap (λ (n : ℕ). n ∷ of-open ys) (h .0 .ops) ∙ ap (λ (ls : List ℕ). length (x .chunk .ops) ∷ ls) (likes-lengths xs ys (h .1))
 
 resolved : (f : Found) (outer : Resolved) (name : ℕ) (span : Span) (s : Compiler) → Raised-if (s .ctx) (s .parents) outer →
     Rests s (c.resolved f outer name span s)
 unfolding c.resolved c._>>_ go-on c.put-ctxs c.return c.refuse
 resolved (at-slot slot) outer name span s h = same
 resolved uninitialized outer name span s h = tt
-resolved missing (captured idx ctx parents) name span s h = still-eq (likes-lengths (s .ctx ∷ s .parents) (ctx ∷ parents) h)
+resolved missing (captured idx ctx parents) name span s h = still-eq (ap (λ (ls : List ℕ). (ls, of-finished (s .functions))) (likes-lengths (s .ctx ∷ s .parents) (ctx ∷ parents) h))
 resolved missing nowhere name span s h = same
 resolved missing (failed r) name span s h = h
 
@@ -294,10 +312,10 @@ emit-u8 b span =
       full = λ limit s l. byte-full limit s b span (omega (arith, l, open-code-emitted s b span));
     }
   where
-    longer : (s : Compiler) → lengths (emitted s b span) ≡ suc (length (s .ctx .chunk .ops)) ∷ each-length (s .parents)
+    longer : (s : Compiler) → lengths (emitted s b span) ≡ (suc (length (s .ctx .chunk .ops)) ∷ of-open (s .parents), of-finished (s .functions))
     longer s =
         let e : length (emitted s b span .ctx .chunk .ops) ≡ suc (length (s .ctx .chunk .ops)) = omega (arith, one-more (s .ctx .chunk) b span) in
-        ap (λ (n : ℕ). n ∷ each-length (s .parents)) e
+        ap (λ (n : ℕ). (n ∷ of-open (s .parents), of-finished (s .functions))) e
 
 -- the current context with a constant more, and then the byte that says where it stands; or no room for the constant
 abbrev pooled : Compiler → Chunk → Compiler
@@ -314,7 +332,7 @@ place-moments no-room span s = []
 place-path : (w : Written) (span : Span) (s : Compiler) → Placed (s .ctx .chunk) w → Path (lengths s) (place-moments w span s) (place-freely w span s)
 unfolding Placed
 place-path (at-place place ch) span s e =
-    start (still-eq (ap (λ (ops : List ℕ). length ops ∷ each-length (s .parents)) e)) (emit-u8 place span .path (pooled s ch))
+    start (still-eq (ap (λ (ops : List ℕ). (length ops ∷ of-open (s .parents), of-finished (s .functions))) e)) (emit-u8 place span .path (pooled s ch))
 place-path no-room span s e = refuses tt
 
 place-fits : (w : Written) (span : Span) (limit : ℕ) (s : Compiler) → peak (place-moments w span s) ≤ limit →
@@ -418,8 +436,8 @@ module _ (stmts : Stmts) where
   pub moments-of : List Compiler
   moments-of = whole stmts .moments c.new
 
-  -- it starts with the script open, which has no code
-  pub run-path : Path (0 ∷ []) moments-of free-run
+  -- it starts with the script open, which has no code, and no function finished
+  pub run-path : Path (0 ∷ [], []) moments-of free-run
   unfolding free-run moments-of
   run-path = whole stmts .path c.new
 
@@ -436,7 +454,51 @@ module _ (stmts : Stmts) where
   pub free-run-not-full : free-run ≡ err CodeFull → ⊥
   free-run-not-full e = subst Within e (by-path run-path)
     where
-      by-path : {ls : List ℕ} {ts : List Compiler} {o : Outcome (List ObjectFunction)} → Path ls ts o → Within o
+      by-path : {x : Lengths} {ts : List Compiler} {o : Outcome (List ObjectFunction)} → Path x ts o → Within o
       by-path (comes-to h) = tt
       by-path (refuses a) = a
       by-path (byte h d p) = by-path p
+
+-- ## What is counted
+
+-- the rules' own sum is that of the open functions' lengths
+pub open-code-is : (s : Compiler) → c.open-code s ≡ sum (lengths s .0)
+unfolding c.open-code
+open-code-is s = by-parents (s .ctx) (s .parents)
+  where
+    by-parents : (x : CompilerCtx) (ps : List CompilerCtx) → c.open-code (c.with-ctxs s x ps) ≡ sum (of-open (x ∷ ps))
+    by-parents x [] = refl
+    by-parents x (p ∷ ps) = omega (arith, open-code-step s x p ps, by-parents p ps)
+
+abbrev all-of : Lengths → ℕ
+all-of x = sum (x .0) + sum (x .1)
+
+sum-both : (ms ns : List ℕ) → sum (ms ++ ns) ≡ sum ms + sum ns
+sum-both [] ns = omega arith
+sum-both (m ∷ ms) ns = omega (arith, sum-both ms ns)
+
+still-all : {x y : Lengths} → Still x y → all-of y ≡ all-of x
+still-all same = refl
+still-all (opened h) = omega (arith, still-all h)
+still-all (ended {n} {ls} {fs} h) = omega (arith, still-all h, sum-both fs (n ∷ []))
+
+abbrev Adds-up : {A : Type 0} → Lengths → List Compiler → Outcome A → Type 0
+Adds-up x ts (ok a t) = all-of (lengths t) ≡ all-of x + length ts
+Adds-up x ts (err r) = Unit {0}
+
+adds-up : {A : Type 0} {x : Lengths} {ts : List Compiler} {o : Outcome A} → Path x ts o → Adds-up x ts o
+adds-up (comes-to h) = omega (arith, still-all h)
+adds-up (refuses a) = tt
+adds-up {A} {x = x} (byte {n = n} {ls = ls} {fs = fs} {t = t} {ts = ts} {o = o} h e p) = onward o (adds-up p)
+  where
+    onward : (o : Outcome A) → Adds-up (lengths t) ts o → Adds-up x (t ∷ ts) o
+    onward (ok a u) k = omega (arith, k, still-all h, ap all-of e)
+    onward (err r) k = tt
+
+-- no byte is left out and none is there twice: where the compiler comes to functions, there are as many moments as bytes in all code
+pub each-byte-once : (stmts : Stmts) (fs : List ObjectFunction) (t : Compiler) → free-run stmts ≡ ok fs t →
+    length (moments-of stmts) ≡ sum (lengths t .0) + sum (lengths t .1)
+each-byte-once stmts fs t e = omega (arith, counted)
+  where
+    counted : Adds-up (0 ∷ [], []) (moments-of stmts) (ok fs t)
+    counted = subst (λ (o : Outcome (List ObjectFunction)). Adds-up (0 ∷ [], []) (moments-of stmts) o) e (adds-up (run-path stmts))

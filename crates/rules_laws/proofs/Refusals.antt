@@ -205,34 +205,6 @@ rusts-number refusal.ImageRefused h = absurd h
 rusts-number refusal.NoSuchFunction h = absurd h
 rusts-number refusal.NoSuchByte h = absurd h
 
--- only 30 is 30
-pub number-30 : (r : Refusal) → number-of r ≡ 30 → r ≡ refusal.CodeFull
-unfolding answer.refusal
-number-30 refusal.WorkShort e = absurd (omega arith)
-number-30 refusal.TreeTooLong e = absurd (omega arith)
-number-30 (refusal.TreeForm at) e = absurd (omega arith)
-number-30 (refusal.TreeTooDeep at) e = absurd (omega arith)
-number-30 (refusal.TooManyOpen at) e = absurd (omega arith)
-number-30 (refusal.AlreadyDefined span name) e = absurd (omega arith)
-number-30 (refusal.AccessInsideInitializer span name) e = absurd (omega arith)
-number-30 (refusal.ClassInheritFromSelf span name) e = absurd (omega arith)
-number-30 (refusal.JumpTooLarge span) e = absurd (omega arith)
-number-30 (refusal.TooManyArgs span) e = absurd (omega arith)
-number-30 (refusal.TooManyConstants span) e = absurd (omega arith)
-number-30 (refusal.TooManyLocals span) e = absurd (omega arith)
-number-30 (refusal.TooManyParams span) e = absurd (omega arith)
-number-30 (refusal.TooManyUpvalues span) e = absurd (omega arith)
-number-30 (refusal.ReturnInInitializer span) e = absurd (omega arith)
-number-30 (refusal.ReturnOutsideFunction span) e = absurd (omega arith)
-number-30 (refusal.SuperOutsideClass span) e = absurd (omega arith)
-number-30 (refusal.SuperWithoutSuperclass span) e = absurd (omega arith)
-number-30 (refusal.ThisOutsideClass span) e = absurd (omega arith)
-number-30 refusal.CodeFull e = refl
-number-30 (refusal.OutFull needed) e = absurd (omega arith)
-number-30 refusal.ImageRefused e = absurd (omega arith)
-number-30 refusal.NoSuchFunction e = absurd (omega arith)
-number-30 refusal.NoSuchByte e = absurd (omega arith)
-
 -- only 31 carries a length
 pub no-length : (r : Refusal) → answer.refusal r .number ≢ 31 → answer.refusal r .length ≡ 0
 unfolding answer.refusal

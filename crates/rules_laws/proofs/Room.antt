@@ -12,7 +12,6 @@ use lib.Dec.{T, leb, leb→le, le→leb, nleb→lt}
 use Rattle.rules.specs.Base.{if_then_else_}
 use Rattle.rules.specs.Limits.{Limits, first-limits, max-tree}
 use Rattle.rules.specs.declared.Answer.{Answer}
-use Rattle.rules.specs.declared.Refusal.{Refusal}
 use Rattle.rules.specs.declared.Refusal.the-variants.{WorkShort, TreeTooLong, CodeFull, OutFull}
 use Rattle.rules.specs.Answer.{refusal, accepted}
 use Rattle.rules.specs.Tree.{Stmts}

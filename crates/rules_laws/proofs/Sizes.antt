@@ -76,7 +76,7 @@ carried-more n n′ d (p ∷ ps) l =
     (max (length (p .chunk .ops) + n′) (2 * length (p .upvalues))) d ps (omega arith)
 
 -- the open functions' code, summed, is part of it
-open-code-step : (s : Compiler) (x p : CompilerCtx) (ps : List CompilerCtx) →
+pub open-code-step : (s : Compiler) (x p : CompilerCtx) (ps : List CompilerCtx) →
     c.open-code (c.with-ctxs s x (p ∷ ps)) ≡ length (x .chunk .ops) + c.open-code (c.with-ctxs s p ps)
 unfolding c.open-code
 open-code-step s x p ps = refl
