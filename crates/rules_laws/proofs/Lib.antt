@@ -31,3 +31,4 @@ pub mod Lookups
 pub mod OneResult
 pub mod UpTo
 pub mod Impossible
+pub mod EachByte

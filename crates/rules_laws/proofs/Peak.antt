@@ -258,7 +258,7 @@ begin-ctx : (name arity depth : ℕ) (type : FunctionType) → Counted (λ _. c.
 unfolding c.begin-ctx
 begin-ctx name arity depth type = quiet (c.begin-ctx (c.new-ctx name arity type depth)) (λ s. opened same)
 
-finished-both : (fs gs : List ObjectFunction) → of-finished (fs ++ gs) ≡ of-finished fs ++ of-finished gs
+pub finished-both : (fs gs : List ObjectFunction) → of-finished (fs ++ gs) ≡ of-finished fs ++ of-finished gs
 finished-both [] gs = refl
 finished-both (f ∷ fs) gs = ap (λ (ns : List ℕ). length (f .chunk .ops) ∷ ns) (finished-both fs gs)
 
@@ -470,10 +470,10 @@ open-code-is s = by-parents (s .ctx) (s .parents)
     by-parents x [] = refl
     by-parents x (p ∷ ps) = omega (arith, open-code-step s x p ps, by-parents p ps)
 
-abbrev all-of : Lengths → ℕ
+abbrev pub all-of : Lengths → ℕ
 all-of x = sum (x .0) + sum (x .1)
 
-sum-both : (ms ns : List ℕ) → sum (ms ++ ns) ≡ sum ms + sum ns
+pub sum-both : (ms ns : List ℕ) → sum (ms ++ ns) ≡ sum ms + sum ns
 sum-both [] ns = omega arith
 sum-both (m ∷ ms) ns = omega (arith, sum-both ms ns)
 
@@ -482,11 +482,12 @@ still-all same = refl
 still-all (opened h) = omega (arith, still-all h)
 still-all (ended {n} {ls} {fs} h) = omega (arith, still-all h, sum-both fs (n ∷ []))
 
-abbrev Adds-up : {A : Type 0} → Lengths → List Compiler → Outcome A → Type 0
+-- a byte adds one to the code of all functions, and nothing else changes how much that is
+abbrev pub Adds-up : {A : Type 0} → Lengths → List Compiler → Outcome A → Type 0
 Adds-up x ts (ok a t) = all-of (lengths t) ≡ all-of x + length ts
 Adds-up x ts (err r) = Unit {0}
 
-adds-up : {A : Type 0} {x : Lengths} {ts : List Compiler} {o : Outcome A} → Path x ts o → Adds-up x ts o
+pub adds-up : {A : Type 0} {x : Lengths} {ts : List Compiler} {o : Outcome A} → Path x ts o → Adds-up x ts o
 adds-up (comes-to h) = omega (arith, still-all h)
 adds-up (refuses a) = tt
 adds-up {A} {x = x} (byte {n = n} {ls = ls} {fs = fs} {t = t} {ts = ts} {o = o} h e p) = onward o (adds-up p)
@@ -494,11 +495,3 @@ adds-up {A} {x = x} (byte {n = n} {ls = ls} {fs = fs} {t = t} {ts = ts} {o = o} 
     onward : (o : Outcome A) → Adds-up (lengths t) ts o → Adds-up x (t ∷ ts) o
     onward (ok a u) k = omega (arith, k, still-all h, ap all-of e)
     onward (err r) k = tt
-
--- no byte is left out and none is there twice: where the compiler comes to functions, there are as many moments as bytes in all code
-pub each-byte-once : (stmts : Stmts) (fs : List ObjectFunction) (t : Compiler) → free-run stmts ≡ ok fs t →
-    length (moments-of stmts) ≡ sum (lengths t .0) + sum (lengths t .1)
-each-byte-once stmts fs t e = omega (arith, counted)
-  where
-    counted : Adds-up (0 ∷ [], []) (moments-of stmts) (ok fs t)
-    counted = subst (λ (o : Outcome (List ObjectFunction)). Adds-up (0 ∷ [], []) (moments-of stmts) o) e (adds-up (run-path stmts))
