@@ -461,7 +461,7 @@ module _ (limit most top : ℕ) (nested : most ≤ 16) where
   unfolding c.end-function c.end-ctx c._>>=_ go-on c.the
   end-function {g} span up = record { run = λ s k l i. back-to g s k (s .parents) span refl (up .0) (up .1) i }
 
-  laws : Laws (fitting most) limit limit (λ A g h n w m m′. Does {A = A} g h w m)
+  laws : Laws (fitting most) (λ A g h n w m. Does {A = A} g h w (m limit))
   unfolding c.define-local c.begin-scope c.push-class-ctx c.pop-class-ctx
   laws =
       record {
@@ -503,7 +503,7 @@ image-at-most limit most stmts nested o = by-outcome (c.compile-script limit stm
 
     compiled : Ends (λ g k s. Spent (summed held) weigh-all most g k s) Any top most (0 + top) (c.compile-script limit stmts c.new)
     compiled =
-        (steps.compile-script (fitting most) limit limit (λ A g h n w m m′. Does limit most top nested {A = A} g h w m)
+        (steps.compile-script (fitting most) (λ A g h n w m. Does limit most top nested {A = A} g h w (m limit))
         (laws limit most top nested) stmts most o) .run c.new 0 (omega arith)
         (record { levels = omega arith; spent = omega arith })
 

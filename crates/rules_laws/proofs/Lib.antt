@@ -18,10 +18,11 @@ pub mod Spends
 pub mod TreeBytes
 pub mod Widths
 pub mod Accepted
-pub mod Agrees
-pub mod Room
 pub mod Held
 pub mod Sizes
+pub mod Peak
+pub mod Agrees
+pub mod Room
 pub mod ImageSizes
 pub mod CodeNeed
 pub mod Exactly
@@ -30,3 +31,4 @@ pub mod Lookups
 pub mod OneResult
 pub mod UpTo
 pub mod Impossible
+pub mod EachByte
