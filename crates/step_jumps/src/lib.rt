@@ -96,8 +96,8 @@ pub fn emit_loop(
     requires { ⌜ (Fit (mem (now t) (now code) (now spans)) level limit) × (start ≤ code-len (mem (now t) (now code) (now spans)) level) ⌝ }
     ensures { λ r. ⌜ ((class : ℕ) → Did class limit level next steady (emit-loop limit start span) (mem (now (t .entry)) (now (code .entry)) (now (spans .entry))) (mem (now (t .exit)) (now (code .exit)) (now (spans .exit))) r) ⌝ }
 {
-    let distance = code_length(&t[..], level) + 3 - start;
-    if Limit::JUMP < distance {
+    let back = code_length(&t[..], level) + 3 - start;
+    if Limit::JUMP < back {
         return Step::Stop(Why {
             number: Why::JUMP_TOO_LARGE,
             span,
@@ -114,7 +114,7 @@ pub fn emit_loop(
         spans,
         level,
         limit,
-        (distance % 256) as u8,
+        (back % 256) as u8,
         span,
         next,
     );
@@ -127,7 +127,7 @@ pub fn emit_loop(
         spans,
         level,
         limit,
-        (distance / 256) as u8,
+        (back / 256) as u8,
         span,
         next,
     )

@@ -26,7 +26,6 @@ use steps::Step;
 use steps::Why;
 use writer::put_function;
 
-// The image writer's words: how many functions are finished, and how long their records are.
 // ## A function is begun
 
 // The name of slot zero: `this` in a method, a function's own name in it.

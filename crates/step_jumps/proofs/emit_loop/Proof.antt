@@ -188,13 +188,13 @@ enum-told3-of-slice-known12 c = enum-told3-of-emit-op3 (emit-op3-of-slice-known1
 
 -- ## Needs
 
-add-distance : tie.Need-add-distance
+add-back : tie.Need-add-back
 unfolding code-len
-add-distance c = omega (arith, c .code-length .ensures .is [] [], start-of-code-length c .pre .0 .coded .within, start-of-code-length c .pre .0 .coded .roomCode)
+add-back c = omega (arith, c .code-length .ensures .is [] [], start-of-code-length c .pre .0 .coded .within, start-of-code-length c .pre .0 .coded .roomCode)
 
-sub-distance : tie.Need-sub-distance
+sub-back : tie.Need-sub-back
 unfolding code-len
-sub-distance c = omega (arith, c .code-length .ensures .is [] [], start-of-code-length c .pre .1)
+sub-back c = omega (arith, c .code-length .ensures .is [] [], start-of-code-length c .pre .1)
 
 same-length : tie.Need-same-length
 same-length c = search needs
@@ -286,8 +286,8 @@ emit-loop-spec =
     tie.close
     (tie.spec
     code-length-requires
-    add-distance
-    sub-distance
+    add-back
+    sub-back
     same-length
     returns
     emit-op-requires
