@@ -28,5 +28,6 @@ pub mod Exactly
 pub mod Bounds
 pub mod Lookups
 pub mod OneResult
+pub mod WrittenAgain
 pub mod UpTo
 pub mod Impossible
