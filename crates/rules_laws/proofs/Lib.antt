@@ -29,5 +29,6 @@ pub mod Bounds
 pub mod Lookups
 pub mod OneResult
 pub mod WrittenAgain
+pub mod Edges
 pub mod UpTo
 pub mod Impossible
