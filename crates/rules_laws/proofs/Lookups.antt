@@ -1,5 +1,5 @@
 -- The lookups: the span of a code byte is what the runs say when written out byte by byte, and 42 comes back exactly from their sum on; the code of a
--- function is that very stretch of the image, from `code-start` on.
+-- function is that very stretch of the image, from `code-place` on.
 use mathlib.Core.Path.{_≡_, refl, ap, subst, subst⁻¹}
 use mathlib.Core.Logic.{_↔_}
 use mathlib.Core.Bool.{Bool, true, false}
@@ -21,7 +21,7 @@ use Rattle.rules.specs.Reader.{Read, Reader, got, bad}
 use Rattle.rules.specs.Chunk.{Run, total, ObjectFunction}
 use Rattle.rules.specs.ImageFile as file
 use Rattle.rules.specs.Checker as checker
-use Rattle.rules.specs.Checker.{check, image-of, code-of, code-start, code-answer, span-of}
+use Rattle.rules.specs.Checker.{check, image-of, code-of, code-place, code-answer, span-of}
 
 -- ## The span of a byte
 
@@ -235,13 +235,16 @@ module _ (image : List ℕ) where
           omega (arith, (mark-next 0x494D 0) .run t i e, (u32-next i) .run count j e₁, (need-next (ltb 0 count) ImageRefused j) .run t′ k e₂) in
           subst (λ (k : ℕ). r.many count (file.read-function image) k ≡ got fs m) z e₃
 
-  -- the code of function k is the stretch of the image from `code-start` on
-  start-of : (k : ℕ) (f : ObjectFunction) (n : Nth (file.read-function image) k 6 f) → code-start image k ≡ n .after - length (f .chunk .ops)
-  unfolding code-start checker.code-before r._>>_ r.go-on
+  -- the code of function k is the stretch of the image from `code-place` on
+  abbrev start : (k : ℕ) → ℕ
+  start k = checker.code-before ((r._>>_ (r.many k (file.read-function image)) (file.read-function image)) 6)
+
+  start-of : (k : ℕ) (f : ObjectFunction) (n : Nth (file.read-function image) k 6 f) → start k ≡ n .after - length (f .chunk .ops)
+  unfolding checker.code-before r._>>_ r.go-on
   start-of k f n = rw (n .before, n .here)
 
   stretch-of : (fs : List ObjectFunction) (k : ℕ) (f : ObjectFunction) → In-a-row fs → getElem? fs k ≡ some f →
-      f .chunk .ops ≡ take (length (f .chunk .ops)) (drop (code-start image k) image)
+      f .chunk .ops ≡ take (length (f .chunk .ops)) (drop (start k) image)
   stretch-of fs k f row e =
       let n = (nth-read (file.read-function image) (row .count) k 6 f) .run fs (row .end) (row .read) e in
       subst⁻¹ (λ (i : ℕ). f .chunk .ops ≡ take (length (f .chunk .ops)) (drop i image)) (start-of k f n)
@@ -259,18 +262,18 @@ module _ (image : List ℕ) where
       by-read (got gs next) e₁ e₂ = subst In-a-row (by-sound (checker.sound gs) gs e₂) (functions-read .run gs next e₁)
       by-read (bad fault) e₁ e₂ = let z : _≡_ {A = ℕ} 0 1 = cc in absurd (omega arith)
 
-  pub code-stretch : (k : ℕ) → code-of image k ≡ take (length (code-of image k)) (drop (code-start image k) image)
-  unfolding code-of checker.code-in checker.function-numbered
+  pub code-stretch : (k : ℕ) → code-of image k ≡ take (length (code-of image k)) (drop (code-place image k) image)
+  unfolding code-of code-place checker.code-in checker.place-in checker.function-numbered
   code-stretch k = by-image (image-of image) refl
     where
       by-function : (fs : List ObjectFunction) → image-of image ≡ some fs → (o : Option ObjectFunction) → getElem? fs k ≡ o →
-          checker.code-in o ≡ take (length (checker.code-in o)) (drop (code-start image k) image)
+          checker.code-in o ≡ take (length (checker.code-in o)) (drop (checker.place-in o (start k)) image)
       by-function fs e none e′ = refl
       by-function fs e (some f) e′ = stretch-of fs k f (in-a-row fs e) e′
 
       by-image : (o : Option (List ObjectFunction)) → image-of image ≡ o →
           checker.code-in (checker.function-numbered k o) ≡ take (length (checker.code-in (checker.function-numbered k o)))
-          (drop (code-start image k) image)
+          (drop (checker.place-in (checker.function-numbered k o) (start k)) image)
       by-image none e = refl
       by-image (some fs) e = by-function fs e (getElem? fs k) refl
 
