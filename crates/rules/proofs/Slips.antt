@@ -11,7 +11,7 @@ use borrow.Author.Tests.{le-leb, lt-leb, lt-ltb, le-ltb}
 use Rattle.rules.specs.Base.{if_then_else_, position}
 use Rattle.rules.specs.declared.Span.{Span}
 use Rattle.rules.specs.declared.Refusal.{Refusal}
-use Rattle.rules.specs.declared.Refusal.the-variants.{JumpTooLarge, TooManyArgs, TooManyParams, TooManyLocals, TooManyUpvalues, TreeTooDeep, TooManyOpen, TreeTooLong, CodeFull, OutFull}
+use Rattle.rules.specs.declared.Refusal.the-variants.{AlreadyDefined, JumpTooLarge, TooManyArgs, TooManyParams, TooManyLocals, TooManyUpvalues, TreeTooDeep, TooManyOpen, TreeTooLong, CodeFull, OutFull}
 use Rattle.rules.specs.declared.Answer.{Answer}
 use Rattle.rules.specs.Answer.{NO-SPAN, refusal, accepted}
 use Rattle.rules.specs.Tree.{Expr, Exprs, ExprCall, count-exprs}
@@ -96,10 +96,16 @@ with-local s name =
     with-ctx s (with-locals (s .ctx)
     (record { name = name; depth = s .ctx .scope-depth; is-initialized = false; is-captured = false } ∷ s .ctx .locals))
 
-pub enough-locals : (name : ℕ) (span : Span) (s : Compiler) → declared (s .ctx .scope-depth) name (s .ctx .locals) ≡ false → length (s .ctx .locals) ≤ 255 →
+pub enough-locals : (name : ℕ) (span : Span) (s : Compiler) → declared (s .ctx .scope-depth) name (s .ctx .locals) ≡ false → length (s .ctx .locals) < 256 →
     c.declare-local name span s ≡ ok tt (with-local s name)
 unfolding c.declare-local c._>>=_ c._>>_ c.go-on c.need c.the c.update-ctx
-enough-locals name span s e l = rw (e, lt-ltb (length (s .ctx .locals)) 256 (omega arith))
+enough-locals name span s e l = rw (e, lt-ltb (length (s .ctx .locals)) 256 l)
+
+-- a name that its scope has already is 10, however many there are
+pub already-declared : (name : ℕ) (span : Span) (s : Compiler) → declared (s .ctx .scope-depth) name (s .ctx .locals) ≡ true →
+    c.declare-local name span s ≡ err (AlreadyDefined span name)
+unfolding c.declare-local c._>>=_ c._>>_ c.go-on c.need c.the
+already-declared name span s e = rw e
 
 -- ## A jump goes 65,535 bytes and no further
 

@@ -8,7 +8,7 @@ use mathlib.Core.List.{List, [], _∷_}
 use Prim.Native.Nat.{ℕ, _+_, _-_, _/_, _%_, _≤_, _<_}
 use native.Mathlib.Omega.{arith}
 use lib.ListN.{length, set, length-append}
-use lib.Dec.{ltb, leb, leb→le, nleb→lt}
+use lib.Dec.{ltb, leb, ltb→lt, nltb→le, leb→le, nleb→lt}
 use Rattle.rules.specs.declared.Span.{Span}
 use Rattle.rules.specs.declared.Refusal.{Refusal}
 use Rattle.rules.specs.declared.Refusal.the-variants.{JumpTooLarge, TooManyParams, TooManyLocals, AlreadyDefined, TooManyConstants, ReturnOutsideFunction, CodeFull}
@@ -18,7 +18,7 @@ use Rattle.rules.specs.Chunk.{Written, at-place, no-room, Constant, CF, write-u
 use Rattle.rules.specs.Compiler as c
 use Rattle.rules.specs.Compiler.{Compiler, CompilerCtx, Compile, Outcome, ok, err, FunctionType, Function, Initializer, Method, Script, Upvalue, declared, open-code}
 use Rattle.rules.specs.Compiler.{with-ctx, with-chunk}
-use Rattle.rules.proofs.Slips.{near-ahead, too-far-ahead, near-back, too-far-back, with-operand, too-many-params, enough-params, too-many-locals, enough-locals}
+use Rattle.rules.proofs.Slips.{near-ahead, too-far-ahead, near-back, too-far-back, with-operand, too-many-params, enough-params, too-many-locals, enough-locals, already-declared}
 use Rattle.rules_laws.proofs.Facts.{write-all, loop-bytes}
 use Rattle.rules_laws.proofs.Sizes.{emitted, byte-fits}
 use Rattle.rules_laws.proofs.Spends as spends
@@ -247,25 +247,22 @@ too-many-params-exactly limit type name params body span own s =
 -- ## 16 TooManyLocals
 
 module _ (name : ℕ) (span : Span) (s : Compiler) where
-  already-declared : declared (s .ctx .scope-depth) name (s .ctx .locals) ≡ true → c.declare-local name span s ≡ err (AlreadyDefined span name)
-  unfolding c.declare-local c._>>=_ c._>>_ c.go-on c.need c.the
-  already-declared e = rw e
-
-  -- exactly when the scope has no local of that name and there are 256 locals already; up to 255 the local is declared: Slips `enough-locals`
+  -- exactly when 256 stand already and the scope has none of that name; the 256th is declared: Slips `enough-locals`
   pub too-many-locals-exactly : (c.declare-local name span s ≡ err (TooManyLocals span)) ↔
-      ((declared (s .ctx .scope-depth) name (s .ctx .locals) ≡ false) × (255 < length (s .ctx .locals)))
-  too-many-locals-exactly = (λ e. by-name (declared (s .ctx .scope-depth) name (s .ctx .locals)) refl e, λ p. too-many-locals name span s (p .0) (omega (arith, p .1)))
+      ((declared (s .ctx .scope-depth) name (s .ctx .locals) ≡ false) × (256 ≤ length (s .ctx .locals)))
+  too-many-locals-exactly =
+      (λ e. by-name (declared (s .ctx .scope-depth) name (s .ctx .locals)) refl e, λ p. too-many-locals name span s (p .0) (p .1))
     where
-      by-count : declared (s .ctx .scope-depth) name (s .ctx .locals) ≡ false → (b : Bool) → leb (length (s .ctx .locals)) 255 ≡ b →
-          c.declare-local name span s ≡ err (TooManyLocals span) → 255 < length (s .ctx .locals)
+      by-count : declared (s .ctx .scope-depth) name (s .ctx .locals) ≡ false → (b : Bool) → ltb (length (s .ctx .locals)) 256 ≡ b →
+          c.declare-local name span s ≡ err (TooManyLocals span) → 256 ≤ length (s .ctx .locals)
       by-count d true t e =
-          let o = enough-locals name span s d (leb→le (length (s .ctx .locals)) 255 (rw t tt)) in
+          let o = enough-locals name span s d (ltb→lt (length (s .ctx .locals)) 256 (rw t tt)) in
           let z : _≡_ {A = ℕ} 0 1 = cc in absurd (omega arith)
-      by-count d false t e = nleb→lt (length (s .ctx .locals)) 255 (rw t tt)
+      by-count d false t e = nltb→le (length (s .ctx .locals)) 256 (rw t tt)
 
       by-name : (b : Bool) → declared (s .ctx .scope-depth) name (s .ctx .locals) ≡ b → c.declare-local name span s ≡ err (TooManyLocals span) →
-          (declared (s .ctx .scope-depth) name (s .ctx .locals) ≡ false) × (255 < length (s .ctx .locals))
+          (declared (s .ctx .scope-depth) name (s .ctx .locals) ≡ false) × (256 ≤ length (s .ctx .locals))
       by-name true d e =
-          let o = already-declared d in
+          let o = already-declared name span s d in
           let z : _≡_ {A = ℕ} 0 1 = cc in absurd (omega arith)
-      by-name false d e = (d, by-count d (leb (length (s .ctx .locals)) 255) refl e)
+      by-name false d e = (d, by-count d (ltb (length (s .ctx .locals)) 256) refl e)
