@@ -11,7 +11,8 @@ use borrow.Author.Tests.{le-leb, lt-leb, lt-ltb, le-ltb}
 use Rattle.rules.specs.Base.{if_then_else_, position}
 use Rattle.rules.specs.declared.Span.{Span}
 use Rattle.rules.specs.declared.Refusal.{Refusal}
-use Rattle.rules.specs.declared.Refusal.the-variants.{AlreadyDefined, JumpTooLarge, TooManyArgs, TooManyParams, TooManyLocals, TooManyUpvalues, TreeTooDeep, TooManyOpen, TreeTooLong, CodeFull, OutFull}
+use Rattle.rules.specs.declared.Refusal.the-variants.{AlreadyDefined, JumpTooLarge, TooManyArgs, TooManyParams, TooManyLocals, TooManyUpvalues}
+use Rattle.rules.specs.declared.Refusal.the-variants.{TreeTooDeep, TooManyOpen, TreeTooLong, CodeFull, OutFull, ImageRefused}
 use Rattle.rules.specs.declared.Answer.{Answer}
 use Rattle.rules.specs.Answer.{NO-SPAN, refusal, accepted}
 use Rattle.rules.specs.Tree.{Expr, Exprs, ExprCall, count-exprs}
@@ -30,8 +31,8 @@ use Rattle.rules.specs.ImageFile.{read-run}
 use Rattle.rules.specs.Reader.{got}
 use Rattle.rules.specs.Division.{division, function-fits, run-fits}
 use Rattle.rules.specs.Checker as checker
-use Rattle.rules.specs.Checker.{span-of}
-use Rattle.rules.proofs.Examples.{hex, P2-tree, P12-tree, from-to, lent, given, codes}
+use Rattle.rules.specs.Checker.{check, span-of}
+use Rattle.rules.proofs.Examples.{hex, P2-tree, P2-image, P12-tree, from-to, lent, given, codes}
 
 -- ## "256 arguments", and `super` before the count
 
@@ -282,6 +283,17 @@ pub record Read-runs : Type 0 where
 pub read-runs : Read-runs
 unfolding hex d.computes image-file.computes
 read-runs = record { longest = refl; too-long-a-run = refl; as-written = refl }
+
+-- ## An image has one form: to the last byte, and with a function
+
+pub record One-form : Type 0 where
+  pub as-written : check P2-image ≡ accepted 4
+  pub one-byte-more : check (P2-image ++ 0 ∷ []) ≡ refusal ImageRefused
+  pub no-functions : check (hex 6 0x494D_0000_0000) ≡ refusal ImageRefused
+
+pub one-form : One-form
+unfolding hex checker.computes
+one-form = record { as-written = refl; one-byte-more = refl; no-functions = refl }
 
 -- ## INVOKE has its count, METHOD takes a string
 
