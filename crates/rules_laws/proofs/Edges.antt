@@ -19,7 +19,7 @@ use Rattle.rules.specs.Compiler as c
 use Rattle.rules.specs.Compiler.{Compiler, CompilerCtx, Compile, Outcome, ok, err, FunctionType, Function, Initializer, Method, Script, Upvalue, declared, open-code}
 use Rattle.rules.specs.Compiler.{with-ctx, with-chunk}
 use Rattle.rules.proofs.Slips.{near-ahead, too-far-ahead, near-back, too-far-back, with-operand, too-many-params, enough-params, too-many-locals, enough-locals, already-declared}
-use Rattle.rules_laws.proofs.Facts.{write-all, loop-bytes}
+use Rattle.rules_laws.proofs.Facts.{with-ops, write-all, loop-bytes}
 use Rattle.rules_laws.proofs.Sizes.{emitted, byte-fits}
 use Rattle.rules_laws.proofs.Spends as spends
 use Rattle.rules_laws.proofs.Spends.{Spends, Ends}
@@ -148,12 +148,10 @@ module _ (at : ℕ) (span : Span) (s : Compiler) where
       by-test false t e = nleb→lt (ahead s at) 65_535 (rw t tt)
 
   -- the longest: both of its bytes are 255
-  pub longest-jump : ahead s at ≡ 65_535 → c.patch-jump at span s ≡ ok tt (with-operand s at 65_535)
-  longest-jump e = near-ahead at span s (omega (arith, e)) ∙ ap (λ (d : ℕ). ok tt (with-operand s at d)) e
-
-  pub longest-jump-bytes : (ops : List ℕ) → c.set-u16 ops at 65_535 ≡ set (set ops at 0xFF) (at + 1) 0xFF
+  pub longest-jump : ahead s at ≡ 65_535 →
+      c.patch-jump at span s ≡ ok tt (with-ctx s (with-chunk (s .ctx) (with-ops (s .ctx .chunk) (set (set (s .ctx .chunk .ops) at 0xFF) (at + 1) 0xFF))))
   unfolding c.set-u16
-  longest-jump-bytes ops = refl
+  longest-jump e = near-ahead at span s (omega (arith, e)) ∙ ap (λ (d : ℕ). ok tt (with-operand s at d)) e
 
 -- ## 13 JumpTooLarge, of LOOP
 
@@ -234,6 +232,7 @@ too-many-params-exactly limit type name params body span own s =
     begun : (depth : ℕ) (s : Compiler) → c.begin-ctx (c.new-ctx name (length params) type (depth + 1)) s ≡ err x → ⊥
     begun depth s e = let z : _≡_ {A = ℕ} 0 1 = cc in omega arith
 
+    -- every other part of a function refuses otherwise
     by-test : (b : Bool) → leb (length params) 255 ≡ b → c.compile-function-with limit type name params body span s ≡ err x → 255 < length params
     by-test true t e =
         absurd (says x (bind x (the x _) (λ depth. _⟫_ x (never x (begun depth))

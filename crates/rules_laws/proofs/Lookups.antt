@@ -9,7 +9,7 @@ use Prim.Native.Nat.{ℕ, zero, suc, _+_, _-_, _≤_, _<_}
 use native.Mathlib.Omega.{arith}
 use lib.ListN.{length, getD, getElem?, take, drop, replicate}
 use lib.Seq.{drop-cons}
-use lib.Dec.{ltb, ltb→lt, nltb→le}
+use lib.Dec.{T, ltb, ltb→lt, nltb→le}
 use Rattle.rules.specs.Base.{if_then_else_}
 use Rattle.rules.specs.declared.Span.{Span}
 use Rattle.rules.specs.declared.Answer.{Answer}
@@ -114,6 +114,11 @@ return {A} {at = at} {Q = Q} a q = record { run = λ b next e. same b next e }
         let y : at ≡ next = cc in
         subst (λ (i : ℕ). Q b i) y (subst (λ (b : A). Q b at) z q)
 
+pub need-so : (b : Bool) (fault : Refusal) (at : ℕ) → Makes (r.need b fault) at (λ _ next. T b × (next ≡ at))
+unfolding r.need r.return
+need-so true fault at = return tt (tt, refl)
+need-so false fault at = record { run = λ a next e. let z : _≡_ {A = ℕ} 0 1 = cc in absurd (omega arith) }
+
 -- bytes in a row are that stretch
 record Stretch (image : List ℕ) (at : ℕ) (bs : List ℕ) (next : ℕ) : Type 0 where
   content : bs ≡ take (length bs) (drop at image)
@@ -199,17 +204,12 @@ module _ (image : List ℕ) where
   unfolding r.u32 r.u16
   u32-next at = wider 2 _ (wider 1 _ (byte-next ImageRefused)) at
 
-  need-next : (b : Bool) (fault : Refusal) (at : ℕ) → Makes (r.need b fault) at (λ _ next. next ≡ at)
-  unfolding r.need r.return
-  need-next true fault at = return tt refl
-  need-next false fault at = record { run = λ a next e. let z : _≡_ {A = ℕ} 0 1 = cc in absurd (omega arith) }
-
   mark-next : (letters at : ℕ) → Makes (r.mark-is image ImageRefused letters) at (λ _ next. next ≡ at + 2)
   unfolding r.mark-is r.mark
   mark-next letters at =
       first _ (λ m i e. record {
         run =
-            λ t j e′. omega (arith, (wider 1 _ (byte-next ImageRefused) at) .run m i e, (need-next _ ImageRefused i) .run t j e′);
+            λ t j e′. omega (arith, (wider 1 _ (byte-next ImageRefused) at) .run m i e, (need-so _ ImageRefused i) .run t j e′ .1);
       })
 
   record In-a-row (fs : List ObjectFunction) : Type 0 where
@@ -232,7 +232,7 @@ module _ (image : List ℕ) where
           r.many count (file.read-function image) k ≡ got fs m → r.many count (file.read-function image) 6 ≡ got fs m
       from-6 count fs m i j k t t′ e e₁ e₂ e₃ =
           let z : k ≡ 6 =
-          omega (arith, (mark-next 0x494D 0) .run t i e, (u32-next i) .run count j e₁, (need-next (ltb 0 count) ImageRefused j) .run t′ k e₂) in
+          omega (arith, (mark-next 0x494D 0) .run t i e, (u32-next i) .run count j e₁, (need-so (ltb 0 count) ImageRefused j) .run t′ k e₂ .1) in
           subst (λ (k : ℕ). r.many count (file.read-function image) k ≡ got fs m) z e₃
 
   -- the code of function k is the stretch of the image from `code-place` on

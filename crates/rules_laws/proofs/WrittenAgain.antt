@@ -29,7 +29,7 @@ use Rattle.rules.specs.Checker as checker
 use Rattle.rules.specs.Checker.{check, image-of, sound}
 use Rattle.rules_laws.proofs.Facts.{All, Bytes, getD-small}
 use Rattle.rules_laws.proofs.ReadBack.{Narrow, Fits-run, Fits-constant, Fits-form, Fits-image, base, le-parts, sound-accepted}
-use Rattle.rules_laws.proofs.Lookups.{Makes, first, next, return, byte-at}
+use Rattle.rules_laws.proofs.Lookups.{Makes, first, next, return, need-so, byte-at}
 
 -- what reading an image gives: these functions, and the place behind the last one
 pub record Again (image : List ℕ) (functions : List ObjectFunction) (next : ℕ) : Type 0 where
@@ -110,11 +110,6 @@ module _ (bytes : List ℕ) (small : Bytes bytes) where
           let high : (256 * a + b) / 256 ≡ a = omega (arith, k .fits) in
           let low : (256 * a + b) % 256 ≡ b = omega (arith, k .fits) in
           record { fits = omega (arith, h .fits, k .fits); same = rw (high, low) (behind (a ∷ []) (b ∷ []) at i j (h .same) (k .same)) }
-
-  need-so : (b : Bool) (fault : Refusal) (at : ℕ) → Makes (r.need b fault) at (λ _ next. T b × (next ≡ at))
-  unfolding r.need r.return
-  need-so true fault at = return tt (tt, refl)
-  need-so false fault at = record { run = λ a next e. let z : _≡_ {A = ℕ} 0 1 = cc in absurd (omega arith) }
 
   here-so : (at : ℕ) → Makes r.here at (λ end next. (end ≡ at) × (next ≡ at))
   unfolding r.here
