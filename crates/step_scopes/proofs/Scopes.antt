@@ -11,7 +11,7 @@ use Rattle.rules.specs.Base.{if_then_else_}
 use Rattle.rules.specs.Op as op
 use Rattle.rules.specs.declared.Span.{Span}
 use Rattle.rules.specs.declared.Refusal.the-variants.{AlreadyDefined, TooManyLocals, CodeFull}
-use Rattle.rules.specs.Compiler.{Local, CompilerCtx, Compiler, with-ctx, with-locals, with-scope-depth, Outcome, ok, Compile, go-on, _>>_, done, return, the, update-ctx, declare-local, define-local, is-global, begin-scope, begin-ctx, emit-u8, emit-op, pop-locals, end-scope, end-ctx, back-to}
+use Rattle.rules.specs.Compiler.{Local, CompilerCtx, Compiler, with-ctx, with-locals, with-scope-depth, Outcome, ok, Compile, go-on, _>>=_, _>>_, done, return, the, update-ctx, declare-local, define-local, is-global, begin-scope, begin-ctx, emit-u8, emit-op, pop-locals, end-scope, end-ctx, back-to}
 use Rattle.rules.proofs.Slips.{too-many-locals, enough-locals, already-declared}
 use Rattle.state.specs.Layout.{levels, stack, localOf, localsOf, codeEnd, runsEnd, ctxAt, codeFrom, runsFrom, upvaluesOf, parentsOf, Wf, upvalues-place, depth-place, code-from-place, runs-from-place, level-words, local-count-place}
 use Rattle.state.specs.Contracts.{DeclaredAs, DeclaredAt, DefinedAt, Moved, Began, Wrote, Dropped, Closed}
