@@ -3,15 +3,16 @@ use mathlib.Core.Path.{_≡_, refl, ap}
 use mathlib.Core.Bool.{Bool, true, false}
 use mathlib.Core.Option.{none}
 use mathlib.Core.List.{List, [], _∷_, _++_}
-use Prim.Native.Nat.{ℕ, _-_, _≤_, _<_}
+use Prim.Native.Nat.{ℕ, _+_, _-_, _/_, _%_, _≤_, _<_}
 use native.Mathlib.Omega.{arith}
 use lib.ListN.{length, replicate}
 use lib.Dec.{leb, eqb}
-use borrow.Author.Tests.{le-leb, lt-leb, le-ltb}
+use borrow.Author.Tests.{le-leb, lt-leb, lt-ltb, le-ltb}
 use Rattle.rules.specs.Base.{if_then_else_, position}
 use Rattle.rules.specs.declared.Span.{Span}
 use Rattle.rules.specs.declared.Refusal.{Refusal}
-use Rattle.rules.specs.declared.Refusal.the-variants.{TooManyArgs, TooManyParams, TooManyLocals, TooManyUpvalues, TreeTooDeep, TooManyOpen, TreeTooLong, CodeFull, OutFull}
+use Rattle.rules.specs.declared.Refusal.the-variants.{AlreadyDefined, JumpTooLarge, TooManyArgs, TooManyParams, TooManyLocals, TooManyUpvalues}
+use Rattle.rules.specs.declared.Refusal.the-variants.{TreeTooDeep, TooManyOpen, TreeTooLong, CodeFull, OutFull, ImageRefused}
 use Rattle.rules.specs.declared.Answer.{Answer}
 use Rattle.rules.specs.Answer.{NO-SPAN, refusal, accepted}
 use Rattle.rules.specs.Tree.{Expr, Exprs, ExprCall, count-exprs}
@@ -19,7 +20,8 @@ use Rattle.rules.specs.Op as op
 use Rattle.rules.specs.Chunk.{Chunk, Constant, CN, CS, same-constant, Run, push-span, ObjectFunction, write-constant, written, at-place, no-room}
 use Rattle.rules.specs.Image.{image-bytes}
 use Rattle.rules.specs.Compiler as c
-use Rattle.rules.specs.Compiler.{Compiler, CompilerCtx, FunctionType, Upvalue, err, ends-in-return, same-upvalue, add-upvalue, added, captured, failed, with-upvalues, declared}
+use Rattle.rules.specs.Compiler.{Compiler, CompilerCtx, FunctionType, Upvalue, ok, err, with-ctx, with-chunk, with-locals, with-upvalues}
+use Rattle.rules.specs.Compiler.{ends-in-return, same-upvalue, add-upvalue, added, captured, failed, declared, set-u16}
 use Rattle.rules.specs.Limits.{Limits, first-limits, max-tree, max-code}
 use Rattle.rules.specs.Entry as entry
 use Rattle.rules.specs.Entry.{Lent, Left, Compiled, functions-are, refused, compile-tree, compile-lent, compile-within}
@@ -29,8 +31,8 @@ use Rattle.rules.specs.ImageFile.{read-run}
 use Rattle.rules.specs.Reader.{got}
 use Rattle.rules.specs.Division.{division, function-fits, run-fits}
 use Rattle.rules.specs.Checker as checker
-use Rattle.rules.specs.Checker.{span-of}
-use Rattle.rules.proofs.Examples.{hex, P2-tree, P12-tree, from-to, lent, given, codes}
+use Rattle.rules.specs.Checker.{check, span-of}
+use Rattle.rules.proofs.Examples.{hex, P2-tree, P2-image, P12-tree, from-to, lent, given, codes}
 
 -- ## "256 arguments", and `super` before the count
 
@@ -52,6 +54,16 @@ pub too-many-params : (limit : ℕ) (type : FunctionType) (name : ℕ) (params :
     c.compile-function-with limit type name params body span s ≡ err (TooManyParams span)
 unfolding c.compile-function-with c._>>_ c.go-on c.need
 too-many-params limit type name params body span s l = rw (lt-leb (length params) 255 (omega arith))
+
+pub enough-params : (limit : ℕ) (type : FunctionType) (name : ℕ) (params : List ℕ) (body : c.Compile Unit) (span : Span) (s : Compiler) →
+    length params ≤ 255 → c.compile-function-with limit type name params body span s ≡ c._>>=_ (c.the (λ s. s .ctx .scope-depth))
+    (λ depth. c._>>_ (c.begin-ctx (c.new-ctx name (length params) type (depth + 1)))
+    (c._>>_ (c.declare-local (c.slot-zero type name) span)
+    (c._>>_ c.define-local
+    (c._>>_ (c.declare-params params span)
+    (c._>>_ body (c._>>_ (c.implicit-return limit) (c.end-function limit span))))))) s
+unfolding c.compile-function-with c._>>=_ c._>>_ c.go-on c.need
+enough-params limit type name params body span s l = rw (le-leb (length params) 255 l)
 
 -- ## 256 constants, captured variables and locals: one more is refused
 
@@ -79,6 +91,52 @@ pub too-many-locals : (name : ℕ) (span : Span) (s : Compiler) → declared (s 
     c.declare-local name span s ≡ err (TooManyLocals span)
 unfolding c.declare-local c._>>=_ c._>>_ c.go-on c.need c.the
 too-many-locals name span s e l = rw (e, le-ltb (length (s .ctx .locals)) 256 l)
+
+abbrev pub with-local : Compiler → (name : ℕ) → Compiler
+with-local s name =
+    with-ctx s (with-locals (s .ctx)
+    (record { name = name; depth = s .ctx .scope-depth; is-initialized = false; is-captured = false } ∷ s .ctx .locals))
+
+pub enough-locals : (name : ℕ) (span : Span) (s : Compiler) → declared (s .ctx .scope-depth) name (s .ctx .locals) ≡ false → length (s .ctx .locals) < 256 →
+    c.declare-local name span s ≡ ok tt (with-local s name)
+unfolding c.declare-local c._>>=_ c._>>_ c.go-on c.need c.the c.update-ctx
+enough-locals name span s e l = rw (e, lt-ltb (length (s .ctx .locals)) 256 l)
+
+-- a name that its scope has already is 10, however many there are
+pub already-declared : (name : ℕ) (span : Span) (s : Compiler) → declared (s .ctx .scope-depth) name (s .ctx .locals) ≡ true →
+    c.declare-local name span s ≡ err (AlreadyDefined span name)
+unfolding c.declare-local c._>>=_ c._>>_ c.go-on c.need c.the
+already-declared name span s e = rw e
+
+-- ## A jump goes 65,535 bytes and no further
+
+-- the operand at this place holds how far it goes
+abbrev pub with-operand : Compiler → (at distance : ℕ) → Compiler
+with-operand s at distance =
+    with-ctx s (with-chunk (s .ctx)
+    (record { ops = set-u16 (s .ctx .chunk .ops) at distance; constants = s .ctx .chunk .constants; spans = s .ctx .chunk .spans }))
+
+pub near-ahead : (at : ℕ) (span : Span) (s : Compiler) → length (s .ctx .chunk .ops) - 2 - at ≤ 65_535 →
+    c.patch-jump at span s ≡ ok tt (with-operand s at (length (s .ctx .chunk .ops) - 2 - at))
+unfolding c.patch-jump c.code-length c._>>=_ c._>>_ c.go-on c.need c.the c.update-ctx
+near-ahead at span s l = rw (le-leb (length (s .ctx .chunk .ops) - 2 - at) 65_535 l)
+
+pub too-far-ahead : (at : ℕ) (span : Span) (s : Compiler) → 65_535 < length (s .ctx .chunk .ops) - 2 - at →
+    c.patch-jump at span s ≡ err (JumpTooLarge span)
+unfolding c.patch-jump c.code-length c._>>=_ c._>>_ c.go-on c.need c.the
+too-far-ahead at span s l = rw (lt-leb (length (s .ctx .chunk .ops) - 2 - at) 65_535 l)
+
+pub near-back : (limit start : ℕ) (span : Span) (s : Compiler) → length (s .ctx .chunk .ops) + 3 - start ≤ 65_535 →
+    c.emit-loop limit start span s ≡ c._>>_ (c.emit-u8 limit op.LOOP span)
+    (c._>>_ (c.emit-u8 limit ((length (s .ctx .chunk .ops) + 3 - start) % 256) span)
+    (c.emit-u8 limit ((length (s .ctx .chunk .ops) + 3 - start) / 256) span)) s
+unfolding c.emit-loop c.code-length c._>>=_ c._>>_ c.go-on c.need c.the
+near-back limit start span s l = rw (le-leb (length (s .ctx .chunk .ops) + 3 - start) 65_535 l)
+
+pub too-far-back : (limit start : ℕ) (span : Span) (s : Compiler) → 65_535 < length (s .ctx .chunk .ops) + 3 - start →
+    c.emit-loop limit start span s ≡ err (JumpTooLarge span)
+unfolding c.emit-loop c.code-length c._>>=_ c._>>_ c.go-on c.need c.the
+too-far-back limit start span s l = rw (lt-leb (length (s .ctx .chunk .ops) + 3 - start) 65_535 l)
 
 -- ## The last byte and not the last instruction
 
@@ -225,6 +283,17 @@ pub record Read-runs : Type 0 where
 pub read-runs : Read-runs
 unfolding hex d.computes image-file.computes
 read-runs = record { longest = refl; too-long-a-run = refl; as-written = refl }
+
+-- ## An image has one form: to the last byte, and with a function
+
+pub record One-form : Type 0 where
+  pub as-written : check P2-image ≡ accepted 4
+  pub one-byte-more : check (P2-image ++ 0 ∷ []) ≡ refusal ImageRefused
+  pub no-functions : check (hex 6 0x494D_0000_0000) ≡ refusal ImageRefused
+
+pub one-form : One-form
+unfolding hex checker.computes
+one-form = record { as-written = refl; one-byte-more = refl; no-functions = refl }
 
 -- ## INVOKE has its count, METHOD takes a string
 

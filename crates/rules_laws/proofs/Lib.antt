@@ -29,6 +29,8 @@ pub mod Exactly
 pub mod Bounds
 pub mod Lookups
 pub mod OneResult
+pub mod WrittenAgain
+pub mod Edges
 pub mod UpTo
 pub mod Impossible
 pub mod EachByte

@@ -2,6 +2,7 @@
 -- `Reads` follows a reader over the bytes that are left, so that a record's law is the chain of its fields' laws, in the order they are written.
 use mathlib.Core.Path.{_≡_, refl, sym, ap, _∙_, subst, subst⁻¹}
 use mathlib.Core.Bool.{Bool, true, false}
+use mathlib.Core.Option.{none, some}
 use mathlib.Core.List.{List, [], _∷_, _++_, append-assoc, append-nil}
 use Prim.Native.Nat.{ℕ, zero, suc, _+_, _*_, _/_, _%_, _≤_, _<_}
 use native.Mathlib.Omega.{arith}
@@ -19,6 +20,9 @@ use Rattle.rules.specs.Reader.{Read, Reader, got, bad}
 use Rattle.rules.specs.Chunk.{Constant, CN, CS, CF, Run, ObjectFunction}
 use Rattle.rules.specs.Image as image
 use Rattle.rules.specs.ImageFile as file
+use Rattle.rules.specs.Answer.{accepted}
+use Rattle.rules.specs.Checker as checker
+use Rattle.rules.specs.Checker.{check, sound, instruction-count}
 use Rattle.rules_laws.proofs.Facts.{All, all-map, Bytes}
 
 -- ## What fits
@@ -56,7 +60,7 @@ pub record Fits-image (fs : List ObjectFunction) : Type 0 where
 -- ## Numbers as bytes, for all widths
 
 -- how many numbers `width` bytes can say
-abbrev base : ℕ → ℕ
+abbrev pub base : ℕ → ℕ
 base zero = 1
 base (suc width) = 256 * base width
 
@@ -65,7 +69,7 @@ base-pos zero = omega arith
 base-pos (suc width) = omega (arith, base-pos width)
 
 -- a number in two parts is the bytes of the low one and then those of the high one
-le-parts : (j k low high : ℕ) → low < base j → le j low ++ le k high ≡ le (j + k) (low + base j * high)
+pub le-parts : (j k low high : ℕ) → low < base j → le j low ++ le k high ≡ le (j + k) (low + base j * high)
 unfolding le
 le-parts zero k low high l =
     let e : low + 1 * high ≡ high = omega arith in
@@ -289,3 +293,12 @@ read-back fs h =
   where
     come : Comes (image.image-bytes fs) (file.read-functions (image.image-bytes fs) 0) [] fs
     come = (functions (image.image-bytes fs) fs h) .run 0 (record { passed = []; all-of = refl; place = refl })
+
+-- so the checker accepts the image of sound functions, with the number of instructions in the division of all their code
+pub sound-accepted : (fs : List ObjectFunction) → Fits-image fs → T (sound fs) → check (image.image-bytes fs) ≡ accepted (instruction-count fs fs)
+unfolding check checker.image-of checker.checked checker.verdict
+sound-accepted fs h t = rw (read-back fs h) (by-test (sound fs) t)
+  where
+    by-test : (b : Bool) → T b → checker.verdict (if b then some fs else none) ≡ accepted (instruction-count fs fs)
+    by-test true t = refl
+    by-test false t = absurd t

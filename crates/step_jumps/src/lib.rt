@@ -108,27 +108,9 @@ pub fn emit_loop(
     let Step::Next(_) = a else {
         return a;
     };
-    let b = emit_op(
-        t,
-        code,
-        spans,
-        level,
-        limit,
-        (back % 256) as u8,
-        span,
-        next,
-    );
+    let b = emit_op(t, code, spans, level, limit, (back % 256) as u8, span, next);
     let Step::Next(_) = b else {
         return b;
     };
-    emit_op(
-        t,
-        code,
-        spans,
-        level,
-        limit,
-        (back / 256) as u8,
-        span,
-        next,
-    )
+    emit_op(t, code, spans, level, limit, (back / 256) as u8, span, next)
 }

@@ -19,7 +19,8 @@ use Rattle.steps.specs.declared.Step.{Step}
 use Rattle.steps.specs.declared.Step.the-variants.{Next, Stop}
 use Rattle.steps.proofs.Steps.{seq-ok, seq-err}
 use Rattle.steps.proofs.Views.{view-locals}
-use Rattle.step_scopes.proofs.Scopes.{declare-again, declare-full, declare-new}
+use Rattle.rules.proofs.Slips as slips
+use Rattle.rules.proofs.Slips.{enough-locals, already-declared}
 use Rattle.steps.proofs.Monad.{regroup}
 use Rattle.stmt_functions.specs.Functions.{names-at, NamesThere, declare-named, Locally, NamedAs, Named, ParamsDeclared}
 use Rattle.rules.specs.declared.Refusal.{Refusal}
@@ -62,7 +63,7 @@ module _ (l n name : ℕ) (span : Span) (t t₁ : List ℕ) (r : Declared) (w : 
   pub named-again : r ≡ decl.Already → Named l n (declare-named name span) t t₁ (Stop (already-defined span name))
   unfolding view ctxAt refusal-of
   named-again q = record {
-    does = λ code spans rest. seq-err (declare-local name span) (view (mem t code spans) l rest) define-local (declare-again name span (view (mem t code spans) l rest) (does-as decl.Already q));
+    does = λ code spans rest. seq-err (declare-local name span) (view (mem t code spans) l rest) define-local (already-declared name span (view (mem t code spans) l rest) (does-as decl.Already q));
   }
 
   pub named-full : r ≡ decl.Full → Named l n (declare-named name span) t t₁ (Stop (too-many-locals span))
@@ -70,13 +71,13 @@ module _ (l n name : ℕ) (span : Span) (t t₁ : List ℕ) (r : Declared) (w : 
   named-full q = record {
     does = λ code spans rest.
         seq-err (declare-local name span) (view (mem t code spans) l rest) define-local
-        (declare-full name span (view (mem t code spans) l rest) (does-as decl.Full q .0) (does-as decl.Full q .1));
+        (slips.too-many-locals name span (view (mem t code spans) l rest) (does-as decl.Full q .0) (does-as decl.Full q .1));
   }
 
   declare-is : l < levels → Wf t → r ≡ decl.Done → (code spans : List ℕ) (rest : Rest) → declare-local name span (view (mem t code spans) l rest) ≡ ok tt (view (mem t₁ code spans) l rest)
   unfolding view ctxAt
   declare-is low wf q code spans rest =
-      declare-new name span (view (mem t code spans) l rest) (does-as decl.Done q .0) (does-as decl.Done q .1)
+      enough-locals name span (view (mem t code spans) l rest) (does-as decl.Done q .0) (does-as decl.Done q .1)
       ∙ ap (ok tt) (sym (view-locals t code spans t₁ l upvalues-place _ wf low (w .kept) (omega arith) (does-as decl.Done q .2) rest))
 
   pub named-new : l < levels → Wf t → r ≡ decl.Done → (t₂ : List ℕ) → DefinedAt t₁ t₂ l → Named l n (declare-named name span) t t₂ (Next n)
