@@ -152,7 +152,7 @@ forms limit bound l b [] w s r e = tt
 forms limit bound l b (f ∷ fs) w s r e =
     (form limit bound l b f (w .0) (s .0 .1) (r .0 .1) (e .0), forms limit bound l b fs (w .1) (s .1) (r .1) (e .1))
 
-code-limit-most : (lent : Lent) → code-limit lent ≤ max-code
+pub code-limit-most : (lent : Lent) → code-limit lent ≤ max-code
 unfolding code-limit
 code-limit-most lent = omega arith
 

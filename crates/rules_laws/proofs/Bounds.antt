@@ -13,7 +13,7 @@ use Rattle.rules.specs.Image.{image-bytes}
 use Rattle.rules.specs.Entry.{Lent, code-limit, functions-are, compile-lent, compile-within, compile}
 use Rattle.rules_laws.proofs.Facts.{Bytes}
 use Rattle.rules_laws.proofs.Checks.{from-ok, from-lent}
-use Rattle.rules_laws.proofs.Accepted.{From, from-tree}
+use Rattle.rules_laws.proofs.Accepted.{From, from-tree, code-limit-most}
 use Rattle.rules_laws.proofs.Trees.{stmts-size}
 use Rattle.rules_laws.proofs.TreeBytes.{Fitting, tree-fits}
 use Rattle.rules_laws.proofs.ImageSizes.{image-at-most}
@@ -128,10 +128,6 @@ every-limit : (tree : List ℕ) (lent : Lent) → For-every tree lent → min (l
 unfolding code-limit
 every-limit tree lent r = omega (arith, r .code-bytes, r .span-words)
 
-most-limit : (lent : Lent) → code-limit lent ≤ max-code
-unfolding code-limit
-most-limit lent = omega arith
-
 -- Whatever room a server lends first, the header's or another: an answer that is none of 1, 30 and 31 is the one that the room for every tree file
 -- gives, with the same image. The two rooms need not be comparable, so this is no case of `more-room`.
 module _ (tree : List ℕ) (bytes : Bytes tree) (lent lent′ : Lent) (every : For-every tree lent′) where
@@ -143,7 +139,7 @@ module _ (tree : List ℕ) (bytes : Bytes tree) (lent lent′ : Lent) (every : F
         arith,
         l,
         every-limit tree lent′ every,
-        most-limit lent,
+        code-limit-most lent,
         needed-most (first-limits .funs) stmts (fits .parts),
         fits .size,
         enough .code stmts (record { started = record { table = enough .table; short = w .started .short }; next = w .next; read = w .read }),

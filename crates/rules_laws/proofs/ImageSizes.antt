@@ -8,6 +8,7 @@ use Prim.Native.Nat.{ℕ, zero, suc, _+_, _-_, _*_, _/_, _≤_}
 use native.Mathlib.Omega.{arith}
 use lib.ListN.{length, length-append, length-set}
 use lib.Dec.{T, ltb, eqb, ltb→lt, nltb→le, eqb-refl}
+use Rattle.rules.proofs.Numbers.{le-length}
 use Rattle.rules.specs.Base.{if_then_else_, position, le}
 use Rattle.rules.specs.declared.Span.{Span}
 use Rattle.rules.specs.declared.Refusal.{Refusal}
@@ -117,11 +118,6 @@ used-most (run ∷ []) span h = omega (arith, h .1)
 used-most (run ∷ next ∷ runs) span h = omega (arith, used-most (next ∷ runs) span h)
 
 -- ## What a function comes to in the image
-
-le-length : (count n : ℕ) → length (le count n) ≡ count
-unfolding le
-le-length zero n = refl
-le-length (suc count) n = ap suc (le-length count (n / 256))
 
 constant-length : (v : Constant) → length (image.constant-bytes v) ≤ 10
 unfolding image.constant-bytes

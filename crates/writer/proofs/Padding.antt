@@ -4,6 +4,7 @@ use mathlib.Core.List.{List, [], _∷_, _++_, append-assoc, append-nil}
 use Prim.Native.Nat.{ℕ, zero, suc, _+_, _-_, _*_, _/_, _%_, _^_, _≤_, _<_}
 use native.Mathlib.Omega.{arith}
 use lib.ListN.{length, length-append, length-set, set, replicate}
+use Rattle.rules.proofs.Numbers.{le-length}
 use Rattle.rules.specs.Base.{le}
 use Rattle.rules.specs.Chunk.{Run, Constant, CN, CS, CF}
 use Rattle.rules.specs.Image.{join, run-bytes, constant-bytes}
@@ -125,11 +126,6 @@ pub le-none : (left m : ℕ) → left ≡ 0 → le left m ≡ []
 unfolding le
 le-none left m e = rw e
 
-pub length-le : (count n : ℕ) → length (le count n) ≡ count
-unfolding le
-length-le zero n = refl
-length-le (suc count) n = ap suc (length-le count (n / 256))
-
 pub stretch-more : {A : Type 0} (g : ℕ → A) (from left : ℕ) → 0 < left → stretch g from left ≡ g from ∷ stretch g (from + 1) (left - 1)
 unfolding stretch
 stretch-more g from zero l = absurd (omega arith)
@@ -166,7 +162,7 @@ as-constant {out} {out′} {at} {r} {a} {b} e p = subst (λ (v : Constant). Put 
 
 -- where a number and a row of records end
 pub le-next : {out out′ : List ℕ} {at r : ℕ} (count n : ℕ) → Put out out′ at (le count n) r → r ≡ at + count
-le-next {at = at} count n p = p .next ∙ ap (λ (k : ℕ). at + k) (length-le count n)
+le-next {at = at} count n p = p .next ∙ ap (λ (k : ℕ). at + k) (le-length count n)
 
 pub constants-next : {out out′ : List ℕ} {at r : ℕ} (g : ℕ → Constant) (from count : ℕ) → Put out out′ at (join constant-bytes (stretch g from count)) r → r ≤ at + count * 10
 unfolding join stretch
