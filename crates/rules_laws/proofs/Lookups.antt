@@ -83,10 +83,10 @@ no-such-byte-exactly runs offset = (past-only runs offset, past-then runs offset
 -- ## The code of a function
 
 -- at this place, what the reader gives has `Q`
-record Makes {A : Type 0} (m : Reader A) (at : ℕ) (Q : A → ℕ → Type 0) : Type 0 where
-  run : (a : A) (next : ℕ) → m at ≡ got a next → Q a next
+pub record Makes {A : Type 0} (m : Reader A) (at : ℕ) (Q : A → ℕ → Type 0) : Type 0 where
+  pub run : (a : A) (next : ℕ) → m at ≡ got a next → Q a next
 
-first : {A B : Type 0} (m : Reader A) {at : ℕ} {f : A → Reader B} {S : B → ℕ → Type 0} → ((a : A) (i : ℕ) → m at ≡ got a i → Makes (f a) i S) →
+pub first : {A B : Type 0} (m : Reader A) {at : ℕ} {f : A → Reader B} {S : B → ℕ → Type 0} → ((a : A) (i : ℕ) → m at ≡ got a i → Makes (f a) i S) →
     Makes (r._>>=_ m f) at S
 unfolding r._>>=_ r.go-on
 first {A} {B = B} m {at = at} {f = f} {S = S} h = record { run = λ b next e. by-outcome (m at) refl b next e }
@@ -95,7 +95,7 @@ first {A} {B = B} m {at = at} {f = f} {S = S} h = record { run = λ b next e. by
     by-outcome (got a i) e b next e′ = (h a i e) .run b next e′
     by-outcome (bad fault) e b next e′ = let z : _≡_ {A = ℕ} 0 1 = cc in absurd (omega arith)
 
-next : {A B : Type 0} (m : Reader A) {at : ℕ} {n : Reader B} {S : B → ℕ → Type 0} → ((a : A) (i : ℕ) → m at ≡ got a i → Makes n i S) →
+pub next : {A B : Type 0} (m : Reader A) {at : ℕ} {n : Reader B} {S : B → ℕ → Type 0} → ((a : A) (i : ℕ) → m at ≡ got a i → Makes n i S) →
     Makes (r._>>_ m n) at S
 unfolding r._>>_ r.go-on
 next {A} {B = B} m {at = at} {n = n} {S = S} h = record { run = λ b next e. by-outcome (m at) refl b next e }
@@ -104,7 +104,7 @@ next {A} {B = B} m {at = at} {n = n} {S = S} h = record { run = λ b next e. by-
     by-outcome (got a i) e b next e′ = (h a i e) .run b next e′
     by-outcome (bad fault) e b next e′ = let z : _≡_ {A = ℕ} 0 1 = cc in absurd (omega arith)
 
-return : {A : Type 0} {at : ℕ} {Q : A → ℕ → Type 0} (a : A) → Q a at → Makes (r.return a) at Q
+pub return : {A : Type 0} {at : ℕ} {Q : A → ℕ → Type 0} (a : A) → Q a at → Makes (r.return a) at Q
 unfolding r.return
 return {A} {at = at} {Q = Q} a q = record { run = λ b next e. same b next e }
   where
@@ -120,7 +120,7 @@ record Stretch (image : List ℕ) (at : ℕ) (bs : List ℕ) (next : ℕ) : Type
   end : next ≡ at + length bs
 
 module _ (image : List ℕ) where
-  byte-at : (fault : Refusal) (at b next : ℕ) → r.u8 image fault at ≡ got b next → (at < length image) × (b ≡ getD image at 0) × (next ≡ at + 1)
+  pub byte-at : (fault : Refusal) (at b next : ℕ) → r.u8 image fault at ≡ got b next → (at < length image) × (b ≡ getD image at 0) × (next ≡ at + 1)
   unfolding r.u8
   byte-at fault at b next e = by-test (ltb at (length image)) refl e
     where
