@@ -96,7 +96,7 @@ module _ (most : ℕ) where
   abbrev Taken : {A : Type 0} → (A → Type 0) → (size at : ℕ) → A → ℕ → Type 0
   Taken P size at a next = P a × (next ≡ at + size)
 
-  getD-small : (bs : List ℕ) (at : ℕ) → Bytes bs → getD bs at 0 < 256
+  pub getD-small : (bs : List ℕ) (at : ℕ) → Bytes bs → getD bs at 0 < 256
   getD-small [] at h = omega arith
   getD-small (b ∷ bs) zero h = h .0
   getD-small (b ∷ bs) (suc at) h = getD-small bs at (h .1)

@@ -2,3 +2,4 @@
 pub mod Fits
 pub mod Texts
 pub mod Written
+pub mod Again
