@@ -417,3 +417,303 @@ module _ (tree : List ℕ) (bytes : Bytes tree) where
         first (on (span (TreeForm at)) q) (λ s j u.
         first (on (name (TreeForm at)) u) (λ n k v.
         return _ (took (record { span = u .fits; name = v .fits }, omega arith) (both (opened 0x45 0x56 s (q .was) (u .was)) (v .was)))))))
+
+    -- ## Statements
+
+    abbrev In-stmt : (depth funs : ℕ) → Stmt → Type 0
+    In-stmt depth funs e = Fits-stmt names e × (stmt-depth e ≤ depth) × (stmt-nesting e ≤ funs)
+
+    abbrev In-stmts : (depth funs : ℕ) → Stmts → Type 0
+    In-stmts depth funs ts = Fits-stmts names ts × (record-depth ts ≤ depth) × (nested-funs ts ≤ funs)
+
+    abbrev In-fun : (depth funs : ℕ) → Fun → Type 0
+    In-fun depth funs f = Fits-fun names f × (fun-depth f ≤ depth) × (fun-nesting f ≤ funs)
+
+    -- a method's record: its own `SF` counts
+    abbrev In-method : (depth funs : ℕ) → Span × Fun → Type 0
+    In-method depth funs m = Narrow (m .0) × Fits-fun names (m .1) × (suc (fun-depth (m .1)) ≤ depth) × (suc (fun-nesting (m .1)) ≤ funs)
+
+    abbrev method-bytes : Span × Fun → List ℕ
+    method-bytes m = opening 0x53 0x46 (m .0) ++ fun-bytes (m .1)
+
+    read-stmts : (count depth funs : ℕ) {one : Reader Stmt} → Takes one (In-stmt depth funs) stmt-bytes →
+        Takes (t.read-stmts count one) (λ ts. (count-stmts ts ≡ count) × In-stmts depth funs ts) stmts-bytes
+    unfolding t.read-stmts stmts-bytes count-stmts
+    read-stmts zero depth funs h at left p = return []ˢ (took (refl, (tt, omega arith, omega arith)) (nothing p))
+    read-stmts (suc count) depth funs h at left p =
+        first (h at left p) (λ e i q.
+        first (on (read-stmts count depth funs h) q) (λ ts j o.
+        return (e ∷ˢ ts)
+        (took
+        (ap suc (o .fits .0), ((q .fits .0, o .fits .1 .0), omega (arith, q .fits .1, o .fits .1 .1), omega (arith, q .fits .2, o .fits .1 .2)))
+        (both (q .was) (o .was)))))
+
+    maybe-stmt : (b : Bool) (depth funs : ℕ) {one : Reader Stmt} → Takes one (In-stmt depth funs) stmt-bytes →
+        Takes (t.maybe-stmt b one) (λ ts. (has-stmt ts ≡ b) × (count-stmts ts ≤ 1) × In-stmts depth funs ts) stmts-bytes
+    unfolding t.maybe-stmt stmts-bytes count-stmts has-stmt
+    maybe-stmt false depth funs h at left p = return []ˢ (took (refl, omega arith, (tt, omega arith, omega arith)) (nothing p))
+    maybe-stmt true depth funs h at left p =
+        first (h at left p) (λ e i q.
+        return (e ∷ˢ []ˢ)
+        (took (refl, omega arith, ((q .fits .0, tt), omega (arith, q .fits .1), omega (arith, q .fits .2)))
+        (put-as (sym (append-nil (stmt-bytes e))) (q .was))))
+
+    read-methods : (count depth funs : ℕ) {one : Reader (Span × Fun)} → Takes one (In-method depth funs) method-bytes →
+        Takes (t.read-methods count one)
+        (λ ms. (count-methods ms ≡ count) × Fits-methods names ms × (methods-depth ms ≤ depth) × (methods-nesting ms ≤ funs)) methods-bytes
+    unfolding t.read-methods methods-bytes count-methods
+    read-methods zero depth funs h at left p = return []ᵐ (took (refl, tt, omega arith, omega arith) (nothing p))
+    read-methods (suc count) depth funs h at left p =
+        first (h at left p) (λ m i q.
+        first (on (read-methods count depth funs h) q) (λ ms j o.
+        return (method (m .0) (m .1) ms)
+        (took
+        (ap suc (o .fits .0), (q .fits .0, q .fits .1, o .fits .1), omega (arith, q .fits .2, o .fits .2), omega (arith, q .fits .3, o .fits .3))
+        (both (q .was) (o .was)))))
+
+    fun-fields : (inner : Reader Stmt) (depth funs : ℕ) → Takes inner (In-stmt depth funs) stmt-bytes → (fault : Refusal) →
+        Takes (t.fun-fields tree names inner fault) (In-fun depth funs) fun-bytes
+    unfolding t.fun-fields fun-bytes
+    fun-fields inner depth funs h fault at left p =
+        first (name fault at left p) (λ m i q.
+        first (on (u16 fault) q) (λ arity j o.
+        first (on (params arity fault) o) (λ ns k u.
+        first (on (u16 fault) u) (λ count l v.
+        first (on (read-stmts count depth funs h) v) (λ body a x.
+        return (fun m ns body)
+        (took
+        ((q .fits, omega (arith, o .fits, u .fits .0), u .fits .1, omega (arith, v .fits, x .fits .0), x .fits .1 .0), x .fits .1 .1, x .fits .1 .2)
+        (both (both (both (both (q .was) (put-as (ap (le 2) (sym (u .fits .0))) (o .was))) (u .was))
+        (put-as (ap (le 2) (sym (x .fits .0))) (v .was))) (x .was))))))))
+
+    -- what reads the children, where `depth` records and `funs` functions more may be opened
+    record Take-children (read : t.Children) (depth funs : ℕ) : Type 0 where
+      expr : Takes (read .expr) (In-expr depth) expr-bytes
+      superclass : Takes (read .superclass) (λ sup. Fits-superclass names sup × (1 ≤ depth)) superclass-bytes
+      stmt : Takes (read .stmt) (In-stmt depth funs) stmt-bytes
+      inner : Takes (read .inner) (In-stmt depth (funs - 1)) stmt-bytes
+      one-method : Takes (read .one-method) (In-method depth funs) method-bytes
+
+    stmt-fields : (read : t.Children) (depth funs : ℕ) → Take-children read depth funs → (fault : Refusal) (k : t.StmtMark) → T (t.may-open k funs) →
+        (s : Span) → Narrow s → (whole left : List ℕ) (at : ℕ) (o : Was whole (opening 0x53 (stmt-letter k) s) left at) →
+        Makes (t.stmt-fields tree names read fault k s) at (Took whole (In-stmt (suc depth) funs) stmt-bytes)
+    unfolding t.stmt-fields t.block-fields t.class-fields t.expression-fields t.if-fields t.for-fields t.print-fields t.return-fields t.var-stmt-fields t.while-fields t.may-open stmt-bytes
+    stmt-fields read depth funs h fault t.SB y s n whole left at o =
+        first (u16 fault at left (o .leaves)) (λ count i p.
+        first (on (read-stmts count depth funs (h .stmt)) p) (λ ts j q.
+        return (StmtBlock s ts)
+        (took ((n, omega (arith, p .fits, q .fits .0), q .fits .1 .0), omega (arith, q .fits .1 .1), q .fits .1 .2)
+        (both (both o (put-as (ap (le 2) (sym (q .fits .0))) (p .was))) (q .was)))))
+    stmt-fields read depth funs h fault t.SC y s n whole left at o =
+        first (name fault at left (o .leaves)) (λ m i p.
+        first (on (flag fault) p) (λ has-super j q.
+        first (on (u16 fault) q) (λ count k u.
+        first (on (maybe has-super (Fits-superclass names) (λ _. 1) depth superclass-bytes (h .superclass)) u) (λ sup a v.
+        first (on (read-methods count depth funs (h .one-method)) v) (λ ms b x.
+        return (StmtClass s m sup ms)
+        (took
+        ((n, p .fits, omega (arith, u .fits, x .fits .0), v .fits .1, x .fits .1), omega (arith, v .fits .2, x .fits .2), x .fits .3)
+        (both (both (both (both (both o (p .was)) (put-as (ap (λ (b : Bool). byte (bit b)) (sym (v .fits .0))) (q .was)))
+        (put-as (ap (le 2) (sym (x .fits .0))) (u .was))) (v .was)) (x .was))))))))
+    stmt-fields read depth funs h fault t.SE y s n whole left at o =
+        first (h .expr at left (o .leaves)) (λ e i p.
+        return (StmtExpr s e) (took ((n, p .fits .0), omega (arith, p .fits .1), omega arith) (both o (p .was))))
+    stmt-fields read depth funs h fault t.SF y s n whole left at o =
+        first (fun-fields (read .inner) depth (funs - 1) (h .inner) fault at left (o .leaves)) (λ f i p.
+        return (StmtFun s f)
+        (took ((n, p .fits .0), omega (arith, p .fits .1), omega (arith, p .fits .2, ltb→lt 0 funs y)) (both o (p .was))))
+    stmt-fields read depth funs h fault t.SI y s n whole left at o =
+        first (flag fault at left (o .leaves)) (λ has-else i p.
+        first (on (h .expr) p) (λ e j q.
+        first (on (h .stmt) q) (λ a k u.
+        first (on (maybe-stmt has-else depth funs (h .stmt)) u) (λ b l v.
+        return (StmtIf s e a b)
+        (took
+        ((n, v .fits .1, q .fits .0, u .fits .0, v .fits .2 .0), omega (arith, q .fits .1, u .fits .1, v .fits .2 .1), omega (arith, u .fits .2, v .fits .2 .2))
+        (both (both (both (both o (put-as (ap (λ (b : Bool). byte (bit b)) (sym (v .fits .0))) (p .was))) (q .was)) (u .was)) (v .was)))))))
+    stmt-fields read depth funs h fault t.SO y s n whole left at o =
+        first (u8 fault at left (o .leaves)) (λ parts i p.
+        checked (ltb parts 8) fault (λ small.
+        first (on (maybe-stmt (eqb (parts % 2) 1) depth funs (h .stmt)) p) (λ a j q.
+        first (on (maybe (eqb (parts / 2 % 2) 1) (Fits-expr names) expr-depth depth expr-bytes (h .expr)) q) (λ c k u.
+        first (on (h .stmt) u) (λ b l v.
+        first (on (maybe (eqb (parts / 4) 1) (Fits-expr names) expr-depth depth expr-bytes (h .expr)) v) (λ d m x.
+        return (StmtFor s a c b d)
+        (took
+        ((n, q .fits .1, q .fits .2 .0, u .fits .1, v .fits .0, x .fits .1),
+        omega (arith, q .fits .2 .1, u .fits .2, v .fits .1, x .fits .2),
+        omega (arith, q .fits .2 .2, v .fits .2))
+        (both (both (both (both (both o
+        (put-as (ap byte (again parts (ltb→lt parts 8 small) (has-stmt a) (has c) (has d) (q .fits .0) (u .fits .0) (x .fits .0))) (p .was)))
+        (q .was)) (u .was)) (v .was)) (x .was)))))))))
+      where
+        again : (parts : ℕ) → parts < 8 → (a b c : Bool) → a ≡ eqb (parts % 2) 1 → b ≡ eqb (parts / 2 % 2) 1 → c ≡ eqb (parts / 4) 1 →
+            parts ≡ bit a + 2 * bit b + 4 * bit c
+        again parts l a b c e f g = rw (e, f, g) (sym (for-again parts l))
+    stmt-fields read depth funs h fault t.SP y s n whole left at o =
+        first (h .expr at left (o .leaves)) (λ e i p.
+        return (StmtPrint s e) (took ((n, p .fits .0), omega (arith, p .fits .1), omega arith) (both o (p .was))))
+    stmt-fields read depth funs h fault t.SR y s n whole left at o =
+        first (flag fault at left (o .leaves)) (λ has-value i p.
+        first (on (maybe has-value (Fits-expr names) expr-depth depth expr-bytes (h .expr)) p) (λ v j q.
+        return (StmtReturn s v)
+        (took ((n, q .fits .1), omega (arith, q .fits .2), omega arith)
+        (both (both o (put-as (ap (λ (b : Bool). byte (bit b)) (sym (q .fits .0))) (p .was))) (q .was)))))
+    stmt-fields read depth funs h fault t.SV y s n whole left at o =
+        first (name fault at left (o .leaves)) (λ m i p.
+        first (on (flag fault) p) (λ has-value j q.
+        first (on (maybe has-value (Fits-expr names) expr-depth depth expr-bytes (h .expr)) q) (λ v k u.
+        return (StmtVar s m v)
+        (took ((n, p .fits, u .fits .1), omega (arith, u .fits .2), omega arith)
+        (both (both (both o (p .was)) (put-as (ap (λ (b : Bool). byte (bit b)) (sym (u .fits .0))) (q .was))) (u .was))))))
+    stmt-fields read depth funs h fault t.SW y s n whole left at o =
+        first (h .expr at left (o .leaves)) (λ e i p.
+        first (on (h .stmt) p) (λ b j q.
+        return (StmtWhile s e b)
+        (took ((n, p .fits .0, q .fits .0), omega (arith, p .fits .1, q .fits .1), q .fits .2) (both (both o (p .was)) (q .was)))))
+
+    mutual
+      unfolding t.read-stmt t.stmt-mark t.stmt-record t.method-record
+
+      read-stmt : (depth funs : ℕ) → Takes (t.read-stmt tree names depth funs) (In-stmt depth funs) stmt-bytes
+      read-stmt zero funs at left p = here _ (first (marked t.stmt-marks _ stmt-rows (TreeForm at) at left p) (λ k j q. refuse _))
+      read-stmt (suc depth) funs at left p =
+          here _ (first (marked t.stmt-marks _ stmt-rows (TreeForm at) at left p) (λ k i q.
+          checked (t.may-open k funs) (TooManyOpen at) (λ y.
+          first (on (span (TreeForm at)) q) (λ s j u.
+          stmt-fields _ depth funs
+          (record {
+            expr = read-expr depth;
+            superclass = read-superclass depth;
+            stmt = λ at left p. read-stmt depth funs at left p;
+            inner = λ at left p. read-stmt depth (funs - 1) at left p;
+            one-method = λ at left p. read-method depth funs at left p;
+          })
+          (TreeForm at) k y s (u .fits) left (u .after) j (opened 0x53 (stmt-letter k) s (q .was) (u .was))))))
+
+      read-method : (depth funs : ℕ) → Takes (t.read-method tree names depth funs) (In-method depth funs) method-bytes
+      read-method zero funs at left p = here _ (next (mark-is (TreeForm at) 0x5346 at left p) (λ _ j q. refuse _))
+      read-method (suc depth) funs at left p =
+          here _ (next (mark-is (TreeForm at) 0x5346 at left p) (λ _ i q.
+          checked (ltb 0 funs) (TooManyOpen at) (λ y.
+          first (on (span (TreeForm at)) q) (λ s j u.
+          first (on (fun-fields _ depth (funs - 1) (λ at left p. read-stmt depth (funs - 1) at left p) (TreeForm at)) u) (λ f k v.
+          return (s, f)
+          (took (u .fits, v .fits .0, omega (arith, v .fits .1), omega (arith, v .fits .2, ltb→lt 0 funs y))
+          (both (opened 0x53 0x46 s (q .was) (u .was)) (v .was))))))))
+
+  -- ## Names and the whole file
+
+  text-bytes : (count : ℕ) (fault : Refusal) → Takes (r.many count (r.u8 tree fault)) (λ (bs : List ℕ). (length bs ≡ count) × Bytes bs) (λ bs. bs)
+  unfolding r.many byte
+  text-bytes zero fault at left p = return [] (took (refl, tt) (nothing p))
+  text-bytes (suc count) fault at left p =
+      first (u8 fault at left p) (λ b i q.
+      first (on (text-bytes count fault) q) (λ bs j o.
+      return (b ∷ bs) (took (ap suc (o .fits .0), (q .fits, o .fits .1)) (both (q .was) (o .was)))))
+
+  read-name : (last : Option (List ℕ)) → Takes (t.read-name tree last) (λ text. Fits-text text × Above last text) name-bytes
+  unfolding t.read-name name-bytes
+  read-name last at left p =
+      here _ (next (mark-is (TreeForm at) 0x4E4D at left p) (λ _ i q.
+      first (on (u16 (TreeForm at)) q) (λ size j o.
+      first (on (text-bytes size (TreeForm at)) o) (λ text k u.
+      checked (t.rises tree last text) (TreeForm at) (λ y.
+      checked _ (TreeForm at) (λ z.
+      return text
+      (took
+      (record { size = omega (arith, o .fits, u .fits .0); bytes = u .fits .1; own = all-differ-so tree text t.fixed-names z }, above-so tree last text y)
+      (both (both (q .was) (put-as (ap (le 2) (sym (u .fits .0))) (o .was))) (u .was)))))))))
+
+  -- the names that stand there
+  record Names (count : ℕ) (last : Option (List ℕ)) (left : List ℕ) (next : ℕ) : Type 0 where
+    texts : List (List ℕ)
+    after : List ℕ
+    count-is : length texts ≡ count
+    each : All Fits-text texts
+    rising : Rising last texts
+    was : Was left (join name-bytes texts) after next
+
+  read-names : (count : ℕ) (last : Option (List ℕ)) (at : ℕ) (left : List ℕ) → Left tree at left →
+      Makes (t.read-names tree count last) at (λ _ i. Names count last left i)
+  unfolding t.read-names join
+  read-names zero last at left p = return tt (record { texts = []; after = left; count-is = refl; each = tt; rising = tt; was = nothing p })
+  read-names (suc count) last at left p =
+      first (read-name last at left p) (λ text i q.
+      so (read-names count (some text) i (q .after) (q .was .leaves)) (λ _ j o.
+      record {
+        texts = text ∷ o .texts;
+        after = o .after;
+        count-is = ap suc (o .count-is);
+        each = (q .fits .0, o .each);
+        rising = (q .fits .1, o .rising);
+        was = both (q .was) (o .was);
+      }))
+
+-- the file is what the encoder writes for the program that it gave, with names that fit; and that program is within the limits
+pub record Encoded (tree : List ℕ) (depth funs : ℕ) (stmts : Stmts) (next : ℕ) : Type 0 where
+  pub names : List (List ℕ)
+  pub fits : Fits-file depth funs names stmts
+  pub again : encode names stmts ≡ tree
+  pub end : next ≡ length tree
+
+module _ (tree : List ℕ) (bytes : Bytes tree) where
+  read-file : (depth funs : ℕ) → Makes (t.read-file tree depth funs) 0 (Encoded tree depth funs)
+  unfolding t.read-file encode
+  read-file depth funs =
+      next (mark-is tree bytes (TreeForm 0) 0x5452 0 tree (record { passed = []; all-of = refl; place = refl })) (λ _ i p.
+      first (on tree bytes (u16 tree bytes (TreeForm 0)) p) (λ names j q.
+      first (on tree bytes (u16 tree bytes (TreeForm 0)) q) (λ count k o.
+      checked (leb names max-names) (TreeForm 0) (λ few.
+      next (read-names tree bytes names none k (o .after) (o .was .leaves)) (λ _ m u.
+      first (read-stmts tree bytes names count depth funs (read-stmt tree bytes names depth funs) m (u .after) (u .was .leaves)) (λ ts n v.
+      here _ (checked (eqb n (length tree)) (TreeForm n) (λ y.
+      return ts
+      (record {
+        names = u .texts;
+        fits =
+            record {
+              few-names = omega (arith, leb→le names max-names few, u .count-is);
+              each-name = u .each;
+              rising = u .rising;
+              count = omega (arith, o .fits, v .fits .0);
+              each-stmt = subst⁻¹ (λ (names : ℕ). Fits-stmts names ts) (u .count-is) (v .fits .1 .0);
+              within-depth = v .fits .1 .1;
+              within-funs = v .fits .1 .2;
+            };
+        again =
+            whole (u .texts) ts
+            (both tree bytes (both tree bytes (both tree bytes (both tree bytes (p .was) (put-as tree bytes (ap (le 2) (sym (u .count-is))) (q .was)))
+            (put-as tree bytes (ap (le 2) (sym (v .fits .0))) (o .was))) (u .was)) (v .was))
+            (eqb→eq n (length tree) y);
+        end = eqb→eq n (length tree) y;
+      })))))))))
+    where
+      nothing-left : (passed after : List ℕ) → length passed ≡ length (passed ++ after) → after ≡ []
+      nothing-left passed [] e = refl
+      nothing-left passed (x ∷ xs) e = absurd (omega (arith, length-append passed (x ∷ xs)))
+
+      -- nothing is left where the place is the file's end
+      whole : (names : List (List ℕ)) (ts : Stmts) {after : List ℕ} {n : ℕ} →
+          Was tree bytes tree (((((0x54 ∷ 0x52 ∷ []) ++ le 2 (length names)) ++ le 2 (count-stmts ts)) ++ join name-bytes names) ++ stmts-bytes ts) after n →
+          n ≡ length tree → encode names ts ≡ tree
+      whole names ts {after = after} {n = n} p e =
+          let l = p .leaves in
+          let z : after ≡ [] = nothing-left (l .passed) after (sym (l .place) ∙ e ∙ ap length (l .all-of)) in
+          sym (p .split ∙ ap (λ (xs : List ℕ). encode names ts ++ xs) z ∙ append-nil (encode names ts))
+
+-- every accepted file was written so
+pub encoded-again : (tree : List ℕ) → Bytes tree → (depth funs : ℕ) (stmts : Stmts) (next : ℕ) → t.read-tree tree depth funs ≡ got stmts next →
+    Encoded tree depth funs stmts next
+unfolding t.read-tree
+encoded-again tree bytes depth funs stmts next e = (read-file tree bytes depth funs) .run stmts next e
+
+-- of an accepted file no record is deeper than the limit
+pub accepted-depth : (tree : List ℕ) → Bytes tree → (depth funs : ℕ) (stmts : Stmts) (next : ℕ) → t.read-tree tree depth funs ≡ got stmts next →
+    record-depth stmts ≤ depth
+accepted-depth tree bytes depth funs stmts next e = encoded-again tree bytes depth funs stmts next e .fits .within-depth
+
+-- and no more `SF` records stand in one another
+pub accepted-nesting : (tree : List ℕ) → Bytes tree → (depth funs : ℕ) (stmts : Stmts) (next : ℕ) → t.read-tree tree depth funs ≡ got stmts next →
+    nested-funs stmts ≤ funs
+accepted-nesting tree bytes depth funs stmts next e = encoded-again tree bytes depth funs stmts next e .fits .within-funs
