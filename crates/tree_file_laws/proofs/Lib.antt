@@ -3,3 +3,4 @@ pub mod Fits
 pub mod Texts
 pub mod Written
 pub mod Again
+pub mod Opened
