@@ -4,3 +4,4 @@ pub mod Texts
 pub mod Written
 pub mod Again
 pub mod Opened
+pub mod Passing

@@ -1,0 +1,380 @@
+-- 4 and 5 come back for the first record, in reading order, that passes a limit, and 3 only where none does. Reading goes along the list of the
+-- records that the file opens: `Fate` says how far, `Agrees` says so of a reader and the records that it has to read.
+use mathlib.Core.Path.{_≡_, refl, sym, ap, _∙_, subst, subst⁻¹}
+use mathlib.Core.Logic.{_↔_}
+use mathlib.Core.Bool.{Bool, true, false}
+use mathlib.Core.Option.{Option, none, some}
+use mathlib.Core.List.{List, [], _∷_, _++_, append-assoc, append-nil, map, map-append}
+use Prim.Native.Nat.{ℕ, zero, suc, _+_, _-_, _*_, _/_, _%_, _≤_, _<_}
+use native.Mathlib.Omega.{arith}
+use lib.ListN.{length, getD, replicate}
+use lib.Dec.{T, ltb, leb, eqb, ltb→lt, lt→ltb, leb→le, le→leb, nleb→lt, nltb→le}
+use borrow.Author.Tests.{le-leb, lt-leb, le-ltb, lt-ltb}
+use Rattle.rules.specs.Base.{if_then_else_, lookup, all}
+use Rattle.rules.specs.Limits.{max-names, max-bits}
+use Rattle.rules.specs.declared.Span.{Span}
+use Rattle.rules.specs.declared.Refusal.{Refusal}
+use Rattle.rules.specs.declared.Refusal.the-variants.{TreeForm, TreeTooDeep, TooManyOpen}
+use Rattle.rules.specs.Reader as r
+use Rattle.rules.specs.Reader.{Read, Reader, got, bad}
+use Rattle.rules.specs.Tree.{Expr, Exprs, ExprAssign, ExprCall, ExprGet, ExprInfix, Literal, ExprPrefix, ExprSet, ExprSuper, ExprVar, []ᵉ, _∷ᵉ_}
+use Rattle.rules.specs.Tree.{Stmt, Stmts, StmtBlock, StmtClass, StmtExpr, StmtFor, StmtFun, StmtIf, StmtPrint, StmtReturn, StmtVar, StmtWhile, []ˢ, _∷ˢ_}
+use Rattle.rules.specs.Tree.{Superclass, Fun, fun, Methods, []ᵐ, method}
+use Rattle.rules.specs.TreeFile as t
+use Rattle.rules_laws.proofs.Facts.{All}
+use Rattle.tree_file_laws.proofs.Opened as recs
+use Rattle.tree_file_laws.proofs.Opened.{Child, Mark, Task, Opened, an-expr, a-stmt, task, nesting, if-got, optional, opened-from, opened}
+use Rattle.tree_file_laws.proofs.Opened.{passes, first-passing, refused-for}
+
+-- ## Fields refuse by 3 alone, and never go back
+
+abbrev Plainly : {A : Type 0} → (at : ℕ) → Read A → Type 0
+Plainly at (got a next) = at ≤ next
+Plainly at (bad fault) = (place : ℕ) × (fault ≡ TreeForm place)
+
+record Plain {A : Type 0} (m : Reader A) : Type 0 where
+  run : (at : ℕ) → Plainly at (m at)
+
+plain-then : {A B : Type 0} {m : Reader A} (f : A → Reader B) → Plain m → ((a : A) → Plain (f a)) → Plain (r._>>=_ m f)
+unfolding r._>>=_ r.go-on
+plain-then {A} {m = m} f hm hf = record { run = λ at. on at (m at) (hm .run at) }
+  where
+    further : {B : Type 0} (at i : ℕ) (o : Read B) → at ≤ i → Plainly i o → Plainly at o
+    further at i (got b next) l h = omega arith
+    further at i (bad fault) l h = h
+
+    on : (at : ℕ) (o : Read A) → Plainly at o → Plainly at (r.go-on o f)
+    on at (got a next) l = further at next (f a next) l ((hf a) .run next)
+    on at (bad fault) h = h
+
+plain-next : {A B : Type 0} {m : Reader A} {n : Reader B} → Plain m → Plain n → Plain (r._>>_ m n)
+unfolding r._>>_ r._>>=_
+plain-next {n = n} hm hn = plain-then (λ _. n) hm (λ _. hn)
+
+plain-return : {A : Type 0} (a : A) → Plain (r.return a)
+unfolding r.return
+plain-return a = record { run = λ at. omega arith }
+
+plain-here : Plain r.here
+unfolding r.here
+plain-here = record { run = λ at. omega arith }
+
+plain-need : (b : Bool) (place : ℕ) → Plain (r.need b (TreeForm place))
+unfolding r.need
+plain-need true place = record { run = λ at. omega arith }
+plain-need false place = record { run = λ at. (place, refl) }
+
+plain-one-of : {A : Type 0} (place : ℕ) (table : List (ℕ × A)) (n : ℕ) → Plain (r.one-of (TreeForm place) table n)
+unfolding r.one-of r.known r.refuse
+plain-one-of {A} place table n = by-row (lookup n table)
+  where
+    by-row : (o : Option A) → Plain (r.known (TreeForm place) o)
+    by-row none = record { run = λ at. (place, refl) }
+    by-row (some a) = plain-return a
+
+plain-many : {A : Type 0} (count : ℕ) {one : Reader A} → Plain one → Plain (r.many count one)
+unfolding r.many
+plain-many zero h = plain-return []
+plain-many (suc count) h = plain-then _ h (λ a. plain-then _ (plain-many count h) (λ rest. plain-return _))
+
+module _ (tree : List ℕ) where
+  plain-u8 : (place : ℕ) → Plain (r.u8 tree (TreeForm place))
+  unfolding r.u8
+  plain-u8 place = record { run = λ at. by-test at (ltb at (length tree)) }
+    where
+      by-test : (at : ℕ) (b : Bool) → Plainly at (if b then got (getD tree at 0) (at + 1) else bad (TreeForm place))
+      by-test at true = omega arith
+      by-test at false = (place, refl)
+
+  plain-u16 : (place : ℕ) → Plain (r.u16 tree (TreeForm place))
+  unfolding r.u16
+  plain-u16 place = plain-then _ (plain-u8 place) (λ a. plain-then _ (plain-u8 place) (λ b. plain-return _))
+
+  plain-u32 : (place : ℕ) → Plain (r.u32 tree (TreeForm place))
+  unfolding r.u32
+  plain-u32 place = plain-then _ (plain-u16 place) (λ a. plain-then _ (plain-u16 place) (λ b. plain-return _))
+
+  plain-u64 : (place : ℕ) → Plain (r.u64 tree (TreeForm place))
+  unfolding r.u64
+  plain-u64 place = plain-then _ (plain-u32 place) (λ a. plain-then _ (plain-u32 place) (λ b. plain-return _))
+
+  plain-span : (place : ℕ) → Plain (r.span tree (TreeForm place))
+  unfolding r.span
+  plain-span place = plain-then _ (plain-u32 place) (λ a. plain-then _ (plain-u32 place) (λ b. plain-return _))
+
+  plain-mark-is : (place m : ℕ) → Plain (r.mark-is tree (TreeForm place) m)
+  unfolding r.mark-is r.mark
+  plain-mark-is place m =
+      plain-then _ (plain-then _ (plain-u8 place) (λ a. plain-then _ (plain-u8 place) (λ b. plain-return _))) (λ n. plain-need (eqb n m) place)
+
+  plain-kind : {A : Type 0} (place : ℕ) (table : List (ℕ × A)) → Plain (r._>>=_ (r.u8 tree (TreeForm place)) (r.one-of (TreeForm place) table))
+  plain-kind place table = plain-then _ (plain-u8 place) (plain-one-of place table)
+
+  plain-flag : (place : ℕ) → Plain (t.flag tree (TreeForm place))
+  unfolding t.flag
+  plain-flag place = plain-kind place t.flags
+
+  plain-read-name : (last : Option (List ℕ)) → Plain (t.read-name tree last)
+  unfolding t.read-name
+  plain-read-name last =
+      plain-then _ plain-here (λ start.
+      plain-next (plain-mark-is start 0x4E4D)
+      (plain-then _ (plain-u16 start) (λ size.
+      plain-then _ (plain-many size (plain-u8 start)) (λ text.
+      plain-next (plain-need (t.rises tree last text) start)
+      (plain-next (plain-need (all (t.differs tree text) t.fixed-names) start) (plain-return text))))))
+
+  plain-read-names : (count : ℕ) (last : Option (List ℕ)) → Plain (t.read-names tree count last)
+  unfolding t.read-names
+  plain-read-names zero last = plain-return tt
+  plain-read-names (suc count) last = plain-then _ (plain-read-name last) (λ text. plain-read-names count (some text))
+
+  -- ## A mark is read only where bytes are left
+
+  abbrev Opening : {A : Type 0} → (at : ℕ) → Read A → Type 0
+  Opening at (got a next) = (at < next) × (at < length tree)
+  Opening at (bad fault) = (place : ℕ) × (fault ≡ TreeForm place)
+
+  record Opens {A : Type 0} (m : Reader A) : Type 0 where
+    run : (at : ℕ) → Opening at (m at)
+
+  opens-then : {A B : Type 0} {m : Reader A} (f : A → Reader B) → Opens m → ((a : A) → Plain (f a)) → Opens (r._>>=_ m f)
+  unfolding r._>>=_ r.go-on
+  opens-then {A} {B = B} {m = m} f hm hf = record { run = λ at. on at (m at) (hm .run at) }
+    where
+      further : (at i : ℕ) (o : Read B) → at < i → at < length tree → Plainly i o → Opening at o
+      further at i (got b next) l k h = (omega arith, k)
+      further at i (bad fault) l k h = h
+
+      on : (at : ℕ) (o : Read A) → Opening at o → Opening at (r.go-on o f)
+      on at (got a next) h = further at next (f a next) (h .0) (h .1) ((hf a) .run next)
+      on at (bad fault) h = h
+
+  opens-u8 : (place : ℕ) → Opens (r.u8 tree (TreeForm place))
+  unfolding r.u8
+  opens-u8 place = record { run = λ at. by-test at (ltb at (length tree)) refl }
+    where
+      by-test : (at : ℕ) (b : Bool) → ltb at (length tree) ≡ b → Opening at (if b then got (getD tree at 0) (at + 1) else bad (TreeForm place))
+      by-test at true e = (omega arith, ltb→lt at (length tree) (rw e tt))
+      by-test at false e = (place, refl)
+
+  opens-mark : (place : ℕ) → Opens (r.mark tree (TreeForm place))
+  unfolding r.mark
+  opens-mark place = opens-then _ (opens-u8 place) (λ a. plain-then _ (plain-u8 place) (λ b. plain-return _))
+
+  opens-mark-is : (place m : ℕ) → Opens (r.mark-is tree (TreeForm place) m)
+  unfolding r.mark-is
+  opens-mark-is place m = opens-then _ (opens-mark place) (λ n. plain-need (eqb n m) place)
+
+  module _ (names : ℕ) where
+    opens-expr-mark : (place : ℕ) → Opens (t.expr-mark tree names (TreeForm place))
+    unfolding t.expr-mark
+    opens-expr-mark place = opens-then _ (opens-mark place) (plain-one-of place t.expr-marks)
+
+    opens-stmt-mark : (place : ℕ) → Opens (t.stmt-mark tree names (TreeForm place))
+    unfolding t.stmt-mark
+    opens-stmt-mark place = opens-then _ (opens-mark place) (plain-one-of place t.stmt-marks)
+
+    plain-name : (place : ℕ) → Plain (t.name tree names (TreeForm place))
+    unfolding t.name
+    plain-name place = plain-then _ (plain-u16 place) (λ n. plain-next (plain-need (ltb n (4 + names)) place) (plain-return n))
+
+    plain-literal : (place : ℕ) (k : t.LiteralKind) → Plain (t.literal-of tree names (TreeForm place) k)
+    unfolding t.literal-of
+    plain-literal place t.a-false = plain-return _
+    plain-literal place t.a-true = plain-return _
+    plain-literal place t.a-nil = plain-return _
+    plain-literal place t.a-number = plain-then _ (plain-u64 place) (λ bits. plain-next (plain-need (leb bits max-bits) place) (plain-return _))
+    plain-literal place t.a-string = plain-then _ (plain-name place) (λ n. plain-return _)
+
+-- ## How far reading goes along the list
+
+module _ (tree : List ℕ) (depth funs names : ℕ) where
+  -- none of these passes a limit
+  abbrev Clear : List Opened → Type 0
+  Clear xs = All (λ (x : Opened). passes depth funs x ≡ false) xs
+
+  clear-both : (xs ys : List Opened) → Clear xs → Clear ys → Clear (xs ++ ys)
+  clear-both [] ys h k = k
+  clear-both (x ∷ xs) ys h k = (h .0, clear-both xs ys (h .1) k)
+
+  -- at `at`, with the records `rest` still to be read after it, a reader came to `outcome` where the list is `seen`
+  data Fate {A : Type 0} (outcome : Read A) (seen : List Opened) (rest : List Task) (at : ℕ) : Type 0 where
+    goes-on : (a : A) (next : ℕ) (passed : List Opened) (fuel : ℕ) → outcome ≡ got a next → Clear passed →
+        seen ≡ passed ++ opened-from tree names fuel rest next → length tree ≤ next + fuel → at ≤ next → Fate outcome seen rest at
+    no-form : (place : ℕ) → outcome ≡ bad (TreeForm place) → Clear seen → Fate outcome seen rest at
+    passing : (passed : List Opened) (x : Opened) (after : List Opened) → outcome ≡ bad (refused-for depth funs x) → Clear passed →
+        seen ≡ passed ++ (x ∷ after) → passes depth funs x ≡ true → Fate outcome seen rest at
+
+  -- after records that pass no limit
+  behind : {A : Type 0} (passed : List Opened) {outcome : Read A} {seen : List Opened} {rest : List Task} {at i : ℕ} → Clear passed → at ≤ i →
+      Fate outcome seen rest i → Fate outcome (passed ++ seen) rest at
+  behind passed h l (goes-on a next more fuel e w s f g) =
+      goes-on a next (passed ++ more) fuel e (clear-both passed more h w) (ap (λ (xs : List Opened). passed ++ xs) s ∙ sym (append-assoc passed more _)) f
+      (omega arith)
+  behind passed {seen = seen} h l (no-form place e w) = no-form place e (clear-both passed seen h w)
+  behind passed h l (passing more x after e w s b) =
+      passing (passed ++ more) x after e (clear-both passed more h w) (ap (λ (xs : List Opened). passed ++ xs) s ∙ sym (append-assoc passed more _)) b
+
+  -- a reader of the children `cs`, which stand `deep` deep and in `around` functions
+  record Agrees {A : Type 0} (deep around : ℕ) (m : Reader A) (cs : List Child) : Type 0 where
+    run : (at fuel : ℕ) (rest : List Task) → length tree ≤ at + fuel →
+        Fate (m at) (opened-from tree names fuel (map (task deep around) cs ++ rest) at) rest at
+
+  none-to-read : {A : Type 0} (deep around : ℕ) (a : A) → Agrees deep around (r.return a) []
+  unfolding r.return
+  none-to-read deep around a = record { run = λ at fuel rest l. goes-on a at [] fuel refl tt refl l (omega arith) }
+
+  -- some children, and then others
+  child : {A B : Type 0} {deep around : ℕ} {m : Reader A} (f : A → Reader B) {cs ds : List Child} → Agrees deep around m cs →
+      ((a : A) → Agrees deep around (f a) ds) → Agrees deep around (r._>>=_ m f) (cs ++ ds)
+  unfolding r._>>=_ r.go-on
+  child {A} {B = B} {deep = deep} {around = around} {m = m} f {cs = cs} {ds = ds} hm hf =
+      record {
+        run =
+            λ at fuel rest l. subst⁻¹ (λ (tasks : List Task). Fate (r.go-on (m at) f) (opened-from tree names fuel tasks at) rest at) (tasks rest)
+            (on at rest (m at) _ (hm .run at fuel (map (task deep around) ds ++ rest) l));
+      }
+    where
+      tasks : (rest : List Task) → map (task deep around) (cs ++ ds) ++ rest ≡ map (task deep around) cs ++ (map (task deep around) ds ++ rest)
+      tasks rest = ap (λ (xs : List Task). xs ++ rest) (map-append (task deep around) cs ds) ∙ append-assoc (map (task deep around) cs) (map (task deep around) ds) rest
+
+      on : (at : ℕ) (rest : List Task) (o : Read A) (seen : List Opened) → Fate o seen (map (task deep around) ds ++ rest) at → Fate (r.go-on o f) seen rest at
+      on at rest o seen (goes-on a next passed fuel e w s g l) =
+          subst⁻¹ (λ (o : Read A). Fate (r.go-on o f) seen rest at) e
+          (subst⁻¹ (λ (seen : List Opened). Fate (f a next) seen rest at) s (behind passed w l ((hf a) .run next fuel rest g)))
+      on at rest o seen (no-form place e w) = subst⁻¹ (λ (o : Read A). Fate (r.go-on o f) seen rest at) e (no-form place refl w)
+      on at rest o seen (passing passed x after e w s b) =
+          subst⁻¹ (λ (o : Read A). Fate (r.go-on o f) seen rest at) e (passing passed x after refl w s b)
+
+  -- what was read is put into something larger
+  put-in : {A B : Type 0} (g : A → B) {o : Read A} {seen : List Opened} {rest : List Task} {at : ℕ} → Fate o seen rest at →
+      Fate (r.go-on o (λ a. r.return (g a))) seen rest at
+  unfolding r.go-on r.return
+  put-in {A} g {seen = seen} {rest = rest} {at = at} (goes-on a next passed fuel e w s l k) =
+      goes-on (g a) next passed fuel (ap (λ (o : Read A). r.go-on o (λ a. r.return (g a))) e) w s l k
+  put-in {A} g (no-form place e w) = no-form place (ap (λ (o : Read A). r.go-on o (λ a. r.return (g a))) e) w
+  put-in {A} g (passing passed x after e w s b) = passing passed x after (ap (λ (o : Read A). r.go-on o (λ a. r.return (g a))) e) w s b
+
+  -- the last children of a record
+  last : {A B : Type 0} {deep around : ℕ} {m : Reader A} (g : A → B) {cs : List Child} → Agrees deep around m cs →
+      Agrees deep around (r._>>=_ m (λ a. r.return (g a))) cs
+  unfolding r._>>=_
+  last g h = record { run = λ at fuel rest l. put-in g (h .run at fuel rest l) }
+
+  -- a reader beside one that reads the same fields and gives the children; `K` is what then is opened
+  record Follows {A C : Type 0} (rest : List Task) (K : (fuel : ℕ) → C → ℕ → List Opened) (m : Reader A) (h : Reader C) : Type 0 where
+    run : (at fuel : ℕ) → length tree ≤ at + fuel → Fate (m at) (if-got (h at) (K fuel)) rest at
+
+  field : {X A C : Type 0} {rest : List Task} {K : (fuel : ℕ) → C → ℕ → List Opened} {p : Reader X} (f : X → Reader A) (g : X → Reader C) → Plain p →
+      ((x : X) → Follows rest K (f x) (g x)) → Follows rest K (r._>>=_ p f) (r._>>=_ p g)
+  unfolding r._>>=_ r.go-on
+  field {X} {rest = rest} {K = K} {p = p} f g hp h = record { run = λ at fuel l. on at fuel l (p at) (hp .run at) }
+    where
+      on : (at fuel : ℕ) → length tree ≤ at + fuel → (o : Read X) → Plainly at o → Fate (r.go-on o f) (if-got (r.go-on o g) (K fuel)) rest at
+      on at fuel l (got x next) k = behind [] tt k ((h x) .run next fuel (omega arith))
+      on at fuel l (bad fault) k = no-form (k .0) (ap bad (k .1)) tt
+
+  put-into : {A B C : Type 0} {rest : List Task} {K : (fuel : ℕ) → C → ℕ → List Opened} {m : Reader A} {h : Reader C} (g : A → B) →
+      Follows rest K m h → Follows rest K (r._>>=_ m (λ a. r.return (g a))) h
+  unfolding r._>>=_
+  put-into g k = record { run = λ at fuel l. put-in g (k .run at fuel l) }
+
+  -- the children, `deep` deep and in `around` functions, and then the rest
+  abbrev Inside : (deep around : ℕ) (rest : List Task) → (fuel : ℕ) → List Child → ℕ → List Opened
+  Inside deep around rest fuel cs i = opened-from tree names fuel (map (task deep around) cs ++ rest) i
+
+  children : {A : Type 0} {deep around : ℕ} {rest : List Task} {m : Reader A} (cs : List Child) → Agrees deep around m cs →
+      Follows rest (Inside deep around rest) m (r.return cs)
+  unfolding r.return
+  children {rest = rest} cs h = record { run = λ at fuel l. h .run at fuel rest l }
+
+  -- ## A record
+
+  a-record : {X A : Type 0} (c : Child) (deep around at : ℕ) {m : Reader X} (f : X → Mark) →
+      recs.read-mark tree names c (TreeForm at) ≡ r._>>=_ m (λ x. r.return (f x)) → Opens tree m → (body : X → Reader A) →
+      ((x : X) (i fuel : ℕ) (rest : List Task) → length tree ≤ i + fuel →
+      Fate (body x i) (record { place = at; depth = deep; nesting = nesting (f x) around } ∷
+      if-got (recs.fields tree names (f x) (TreeForm at) i) (Inside (suc deep) (nesting (f x) around) rest fuel)) rest i) →
+      (fuel : ℕ) (rest : List Task) → length tree ≤ at + fuel → Fate (r._>>=_ m body at) (opened-from tree names fuel (task deep around c ∷ rest) at) rest at
+  unfolding r._>>=_ r.go-on r.return
+  a-record {X} c deep around at {m = m} f e hm body h zero rest l = on (m at) (hm .run at)
+    where
+      on : (o : Read X) → Opening tree at o → Fate (r.go-on o body) [] rest at
+      on (got x next) k = absurd (omega (arith, k .1))
+      on (bad fault) k = no-form (k .0) (ap bad (k .1)) tt
+  a-record {X} c deep around at {m = m} f e hm body h (suc fuel) rest l =
+      subst⁻¹ (λ (marks : Reader Mark). Fate (r.go-on (m at) body) (seen (marks at)) rest at) e (on (m at) (hm .run at))
+    where
+      seen : Read Mark → List Opened
+      seen o = if-got o (λ k i. record { place = at; depth = deep; nesting = nesting k around } ∷
+          if-got (recs.fields tree names k (TreeForm at) i) (Inside (suc deep) (nesting k around) rest fuel))
+
+      on : (o : Read X) → Opening tree at o → Fate (r.go-on o body) (seen (r.go-on o (λ x. r.return (f x)))) rest at
+      on (got x next) k = behind [] tt (omega (arith, k .0)) (h x next fuel rest (omega (arith, k .0)))
+      on (bad fault) k = no-form (k .0) (ap bad (k .1)) tt
+
+  too-deep : (place deep around : ℕ) → deep ≡ suc depth → {A : Type 0} {seen : List Opened} {rest : List Task} {i : ℕ} →
+      Fate {A = A} (bad (TreeTooDeep place)) (record { place = place; depth = deep; nesting = around } ∷ seen) rest i
+  too-deep place deep around e =
+      let z : leb deep depth ≡ false = lt-leb deep depth (omega arith) in
+      passing [] (record { place = place; depth = deep; nesting = around }) _ (rw z) tt refl (rw z)
+
+  too-many : (place deep around : ℕ) → deep ≤ depth → funs < around → {A : Type 0} {seen : List Opened} {rest : List Task} {i : ℕ} →
+      Fate {A = A} (bad (TooManyOpen place)) (record { place = place; depth = deep; nesting = around } ∷ seen) rest i
+  too-many place deep around l g =
+      let z : leb deep depth ≡ true = le-leb deep depth l in
+      let y : ltb funs around ≡ true = lt-ltb funs around g in
+      passing [] (record { place = place; depth = deep; nesting = around }) _ (rw z) tt refl (rw (z, y))
+
+  within : (place deep around : ℕ) → deep ≤ depth → around ≤ funs → Clear (record { place = place; depth = deep; nesting = around } ∷ [])
+  within place deep around l g =
+      let z : leb deep depth ≡ true = le-leb deep depth l in
+      let y : ltb funs around ≡ false = le-ltb funs around g in
+      (rw (z, y), tt)
+
+  -- ## Expressions
+
+  read-exprs : (count : ℕ) {deep around : ℕ} {one : Reader Expr} → Agrees deep around one (recs.expr ∷ []) →
+      Agrees deep around (t.read-exprs count one) (replicate count recs.expr)
+  unfolding t.read-exprs
+  read-exprs zero h = none-to-read _ _ []ᵉ
+  read-exprs (suc count) h = child _ h (λ e. last _ (read-exprs count h))
+
+  maybe : {A : Type 0} (b : Bool) {deep around : ℕ} {one : Reader A} {c : Child} → Agrees deep around one (c ∷ []) →
+      Agrees deep around (t.maybe b one) (optional b c)
+  unfolding t.maybe
+  maybe false h = none-to-read _ _ none
+  maybe true h = last _ h
+
+  expr-fields : {rest : List Task} (expr : Reader Expr) (deep around : ℕ) → Agrees deep around expr (recs.expr ∷ []) → (place : ℕ) (k : t.ExprMark) (s : Span) →
+      Follows rest (Inside deep around rest) (t.expr-fields tree names expr (TreeForm place) k s) (recs.expr-children tree names (TreeForm place) k)
+  unfolding t.expr-fields t.assign-fields t.call-fields t.get-fields t.infix-fields t.literal-fields t.prefix-fields t.set-fields t.super-fields t.var-fields
+  expr-fields expr deep around h place t.EA s = field _ _ (plain-name tree names place) (λ n. children _ (last _ h))
+  expr-fields expr deep around h place t.EC s = field _ _ (plain-u16 tree place) (λ count. children _ (child _ h (λ f. last _ (read-exprs count h))))
+  expr-fields expr deep around h place t.EG s = field _ _ (plain-name tree names place) (λ n. children _ (last _ h))
+  expr-fields expr deep around h place t.EI s = field _ _ (plain-kind tree place t.infix-ops) (λ op. children _ (child _ h (λ a. last _ h)))
+  expr-fields expr deep around h place t.EL s =
+      field _ _ (plain-kind tree place t.literal-kinds) (λ k. field _ _ (plain-literal tree names place k) (λ v. children _ (none-to-read _ _ _)))
+  expr-fields expr deep around h place t.EP s = field _ _ (plain-kind tree place t.prefix-ops) (λ op. children _ (last _ h))
+  expr-fields expr deep around h place t.ES s = field _ _ (plain-name tree names place) (λ n. children _ (child _ h (λ v. last _ h)))
+  expr-fields expr deep around h place t.EU s = field _ _ (plain-name tree names place) (λ n. children _ (none-to-read _ _ _))
+  expr-fields expr deep around h place t.EV s = field _ _ (plain-name tree names place) (λ n. children _ (none-to-read _ _ _))
+
+  -- what `left` levels more may be opened below: a record that stands `deep` deep may be opened while `left` is above 0
+  read-expr : (left deep around : ℕ) → deep + left ≡ suc depth → around ≤ funs → Agrees deep around (t.read-expr tree names left) (recs.expr ∷ [])
+  unfolding t.read-expr t.expr-record r._>>=_ r.go-on r.here r.refuse
+  read-expr zero deep around e g =
+      record {
+        run =
+            λ at fuel rest l. a-record recs.expr deep around at an-expr refl (opens-expr-mark tree names at) _
+            (λ k i fuel rest l. too-deep at deep around (omega arith)) fuel rest l;
+      }
+  read-expr (suc left) deep around e g =
+      record {
+        run =
+            λ at fuel rest l. a-record recs.expr deep around at an-expr refl (opens-expr-mark tree names at) _
+            (λ k i fuel rest l. behind (record { place = at; depth = deep; nesting = around } ∷ []) (within at deep around (omega arith) g) (omega arith)
+            ((field _ _ (plain-span tree at) (λ s. expr-fields (t.read-expr tree names left) (suc deep) around
+            (read-expr left (suc deep) around (omega arith) g) at k s)) .run i fuel l)) fuel rest l;
+      }
