@@ -9,7 +9,7 @@ use Prim.Native.Nat.{ℕ, zero, suc, _+_, _-_, _*_, _/_, _%_, _≤_, _<_}
 use native.Mathlib.Omega.{arith}
 use lib.ListN.{length, getD, replicate}
 use lib.Dec.{T, ltb, leb, eqb, ltb→lt, lt→ltb, leb→le, le→leb, nleb→lt, nltb→le}
-use borrow.Author.Tests.{le-leb, lt-leb, le-ltb, lt-ltb}
+use borrow.Author.Tests.{ltb-true, ltb-false, leb-false, le-leb, lt-leb, le-ltb, lt-ltb}
 use Rattle.rules.specs.Base.{if_then_else_, lookup, all}
 use Rattle.rules.specs.Limits.{max-names, max-bits}
 use Rattle.rules.specs.declared.Span.{Span}
@@ -275,6 +275,12 @@ module _ (tree : List ℕ) (depth funs names : ℕ) where
       on at fuel l (got x next) k = behind [] tt k ((h x) .run next fuel (omega arith))
       on at fuel l (bad fault) k = no-form (k .0) (ap bad (k .1)) tt
 
+  -- the same where its value is not asked for
+  field-next : {X A C : Type 0} {rest : List Task} {K : (fuel : ℕ) → C → ℕ → List Opened} {p : Reader X} (n : Reader A) (g : Reader C) → Plain p →
+      Follows rest K n g → Follows rest K (r._>>_ p n) (r._>>=_ p (λ _. g))
+  unfolding r._>>_ r._>>=_
+  field-next n g hp h = field (λ _. n) (λ _. g) hp (λ _. h)
+
   put-into : {A B C : Type 0} {rest : List Task} {K : (fuel : ℕ) → C → ℕ → List Opened} {m : Reader A} {h : Reader C} (g : A → B) →
       Follows rest K m h → Follows rest K (r._>>=_ m (λ a. r.return (g a))) h
   unfolding r._>>=_
@@ -378,3 +384,174 @@ module _ (tree : List ℕ) (depth funs names : ℕ) where
             ((field _ _ (plain-span tree at) (λ s. expr-fields (t.read-expr tree names left) (suc deep) around
             (read-expr left (suc deep) around (omega arith) g) at k s)) .run i fuel l)) fuel rest l;
       }
+
+  read-superclass : (left deep around : ℕ) → deep + left ≡ suc depth → around ≤ funs →
+      Agrees deep around (t.read-superclass tree names left) (recs.superclass ∷ [])
+  unfolding t.read-superclass r._>>=_ r._>>_ r.go-on r.here r.refuse
+  read-superclass zero deep around e g =
+      record {
+        run =
+            λ at fuel rest l. a-record recs.superclass deep around at (λ _. an-expr t.EV) refl (opens-mark-is tree at 0x4556) _
+            (λ _ i fuel rest l. too-deep at deep around (omega arith)) fuel rest l;
+      }
+  read-superclass (suc left) deep around e g =
+      record {
+        run =
+            λ at fuel rest l. a-record recs.superclass deep around at (λ _. an-expr t.EV) refl (opens-mark-is tree at 0x4556) _
+            (λ _ i fuel rest l. behind (record { place = at; depth = deep; nesting = around } ∷ []) (within at deep around (omega arith) g) (omega arith)
+            ((field _ _ (plain-span tree at) (λ s. field _ _ (plain-name tree names at) (λ n. children {deep = suc deep} {around = around} _ (none-to-read _ _ _))))
+            .run i fuel l)) fuel rest l;
+      }
+
+  -- ## Statements
+
+  read-stmts : (count : ℕ) {deep around : ℕ} {one : Reader Stmt} → Agrees deep around one (recs.stmt ∷ []) →
+      Agrees deep around (t.read-stmts count one) (replicate count recs.stmt)
+  unfolding t.read-stmts
+  read-stmts zero h = none-to-read _ _ []ˢ
+  read-stmts (suc count) h = child _ h (λ e. last _ (read-stmts count h))
+
+  read-methods : (count : ℕ) {deep around : ℕ} {one : Reader (Span × Fun)} → Agrees deep around one (recs.method ∷ []) →
+      Agrees deep around (t.read-methods count one) (replicate count recs.method)
+  unfolding t.read-methods
+  read-methods zero h = none-to-read _ _ []ᵐ
+  read-methods (suc count) h = child _ h (λ m. last _ (read-methods count h))
+
+  maybe-stmt : (b : Bool) {deep around : ℕ} {one : Reader Stmt} → Agrees deep around one (recs.stmt ∷ []) →
+      Agrees deep around (t.maybe-stmt b one) (optional b recs.stmt)
+  unfolding t.maybe-stmt
+  maybe-stmt false h = none-to-read _ _ []ˢ
+  maybe-stmt true h = last _ h
+
+  fun-fields : {rest : List Task} (inner : Reader Stmt) (deep around : ℕ) → Agrees deep around inner (recs.stmt ∷ []) → (place : ℕ) →
+      Follows rest (Inside deep around rest) (t.fun-fields tree names inner (TreeForm place)) (recs.fun-children tree names (TreeForm place))
+  unfolding t.fun-fields
+  fun-fields inner deep around h place =
+      field _ _ (plain-name tree names place) (λ n.
+      field _ _ (plain-u16 tree place) (λ arity.
+      field _ _ (plain-many arity (plain-name tree names place)) (λ ns.
+      field _ _ (plain-u16 tree place) (λ count. children _ (last _ (read-stmts count h))))))
+
+  -- what reads the children of a record in `around` functions, itself not counted; `free` functions more may be opened
+  record Agree-children (read : t.Children) (deep around free : ℕ) : Type 0 where
+    expr : Agrees deep around (read .expr) (recs.expr ∷ [])
+    superclass : Agrees deep around (read .superclass) (recs.superclass ∷ [])
+    stmt : Agrees deep around (read .stmt) (recs.stmt ∷ [])
+    inner : 0 < free → Agrees deep (suc around) (read .inner) (recs.stmt ∷ [])
+    one-method : Agrees deep around (read .one-method) (recs.method ∷ [])
+
+  stmt-fields : {rest : List Task} (read : t.Children) (deep around free : ℕ) → Agree-children read deep around free → (place : ℕ) (k : t.StmtMark) →
+      T (t.may-open k free) → (s : Span) →
+      Follows rest (Inside deep (nesting (a-stmt k) around) rest) (t.stmt-fields tree names read (TreeForm place) k s)
+      (recs.stmt-children tree names (TreeForm place) k)
+  unfolding t.stmt-fields t.block-fields t.class-fields t.expression-fields t.if-fields t.for-fields t.print-fields t.return-fields t.var-stmt-fields t.while-fields t.may-open
+  stmt-fields read deep around free h place t.SB y s = field _ _ (plain-u16 tree place) (λ count. children _ (last _ (read-stmts count (h .stmt))))
+  stmt-fields read deep around free h place t.SC y s =
+      field _ _ (plain-name tree names place) (λ n.
+      field _ _ (plain-flag tree place) (λ has-super.
+      field _ _ (plain-u16 tree place) (λ count.
+      children _ (child _ (maybe has-super (h .superclass)) (λ sup. last _ (read-methods count (h .one-method)))))))
+  stmt-fields read deep around free h place t.SE y s = children _ (last _ (h .expr))
+  stmt-fields read deep around free h place t.SF y s = put-into _ (fun-fields (read .inner) deep (suc around) (h .inner (ltb→lt 0 free y)) place)
+  stmt-fields read deep around free h place t.SI y s =
+      field _ _ (plain-flag tree place) (λ has-else.
+      children _ (child _ (h .expr) (λ e. child _ (h .stmt) (λ a. last _ (maybe-stmt has-else (h .stmt))))))
+  stmt-fields read deep around free h place t.SO y s =
+      field _ _ (plain-u8 tree place) (λ parts.
+      field-next _ _ (plain-need (ltb parts 8) place)
+      (children _ (child _ (maybe-stmt (eqb (parts % 2) 1) (h .stmt)) (λ a.
+      child _ (maybe (eqb (parts / 2 % 2) 1) (h .expr)) (λ c.
+      child _ (h .stmt) (λ b. last _ (maybe (eqb (parts / 4) 1) (h .expr))))))))
+  stmt-fields read deep around free h place t.SP y s = children _ (last _ (h .expr))
+  stmt-fields read deep around free h place t.SR y s =
+      field _ _ (plain-flag tree place) (λ has-value. children _ (last _ (maybe has-value (h .expr))))
+  stmt-fields read deep around free h place t.SV y s =
+      field _ _ (plain-name tree names place) (λ n.
+      field _ _ (plain-flag tree place) (λ has-value. children _ (last _ (maybe has-value (h .expr)))))
+  stmt-fields read deep around free h place t.SW y s = children _ (child _ (h .expr) (λ e. last _ (h .stmt)))
+
+  -- where a record may open, it stands in no more functions than may be open; where not, it is one `SF` too many
+  free-so : (k : t.StmtMark) (around free : ℕ) → around + free ≡ funs → t.may-open k free ≡ true → nesting (a-stmt k) around ≤ funs
+  unfolding t.may-open
+  free-so t.SB around free e y = omega arith
+  free-so t.SC around free e y = omega arith
+  free-so t.SE around free e y = omega arith
+  free-so t.SF around free e y = omega (arith, ltb-true 0 free y)
+  free-so t.SI around free e y = omega arith
+  free-so t.SO around free e y = omega arith
+  free-so t.SP around free e y = omega arith
+  free-so t.SR around free e y = omega arith
+  free-so t.SV around free e y = omega arith
+  free-so t.SW around free e y = omega arith
+
+  shut-so : (k : t.StmtMark) (around free : ℕ) → around + free ≡ funs → t.may-open k free ≡ false → funs < nesting (a-stmt k) around
+  unfolding t.may-open
+  shut-so t.SB around free e y = let z : _≡_ {A = ℕ} 0 1 = cc in absurd (omega arith)
+  shut-so t.SC around free e y = let z : _≡_ {A = ℕ} 0 1 = cc in absurd (omega arith)
+  shut-so t.SE around free e y = let z : _≡_ {A = ℕ} 0 1 = cc in absurd (omega arith)
+  shut-so t.SF around free e y = omega (arith, ltb-false 0 free y)
+  shut-so t.SI around free e y = let z : _≡_ {A = ℕ} 0 1 = cc in absurd (omega arith)
+  shut-so t.SO around free e y = let z : _≡_ {A = ℕ} 0 1 = cc in absurd (omega arith)
+  shut-so t.SP around free e y = let z : _≡_ {A = ℕ} 0 1 = cc in absurd (omega arith)
+  shut-so t.SR around free e y = let z : _≡_ {A = ℕ} 0 1 = cc in absurd (omega arith)
+  shut-so t.SV around free e y = let z : _≡_ {A = ℕ} 0 1 = cc in absurd (omega arith)
+  shut-so t.SW around free e y = let z : _≡_ {A = ℕ} 0 1 = cc in absurd (omega arith)
+
+  -- a record that stands within the depth, and opens if `b`: then `n` reads its fields beside `g`
+  may-open : {A : Type 0} (b : Bool) (place deep around : ℕ) → deep ≤ depth → (b ≡ true → around ≤ funs) → (b ≡ false → funs < around) →
+      (n : Reader A) (g : Reader (List Child)) {rest : List Task} →
+      (b ≡ true → Follows rest (Inside (suc deep) around rest) n g) → (i fuel : ℕ) → length tree ≤ i + fuel →
+      Fate (r._>>_ (r.need b (TooManyOpen place)) n i)
+      (record { place = place; depth = deep; nesting = around } ∷ if-got (g i) (Inside (suc deep) around rest fuel)) rest i
+  unfolding r._>>_ r.go-on r.need
+  may-open true place deep around l f s n g h i fuel k =
+      behind (record { place = place; depth = deep; nesting = around } ∷ []) (within place deep around l (f refl)) (omega arith) ((h refl) .run i fuel k)
+  may-open false place deep around l f s n g h i fuel k = too-many place deep around l (s refl)
+
+  mutual
+    unfolding t.read-stmt t.stmt-record t.method-record r._>>=_ r._>>_ r.go-on r.here r.refuse
+
+    read-stmt : (left deep around free : ℕ) → deep + left ≡ suc depth → around + free ≡ funs →
+        Agrees deep around (t.read-stmt tree names left free) (recs.stmt ∷ [])
+    read-stmt zero deep around free e g =
+        record {
+          run =
+              λ at fuel rest l. a-record recs.stmt deep around at a-stmt refl (opens-stmt-mark tree names at) _
+              (λ k i fuel rest l. too-deep at deep (nesting (a-stmt k) around) (omega arith)) fuel rest l;
+        }
+    read-stmt (suc left) deep around free e g =
+        record {
+          run =
+              λ at fuel rest l. a-record recs.stmt deep around at a-stmt refl (opens-stmt-mark tree names at) _
+              (λ k i fuel rest l.
+              may-open (t.may-open k free) at deep (nesting (a-stmt k) around) (omega arith) (free-so k around free g) (shut-so k around free g) _ _
+              (λ y. field _ _ (plain-span tree at) (λ s.
+              stmt-fields _ (suc deep) around free
+              (record {
+                expr = read-expr left (suc deep) around (omega arith) (omega arith);
+                superclass = read-superclass left (suc deep) around (omega arith) (omega arith);
+                stmt = read-stmt left (suc deep) around free (omega arith) g;
+                inner = λ o. read-stmt left (suc deep) (suc around) (free - 1) (omega arith) (omega arith);
+                one-method = read-method left (suc deep) around free (omega arith) g;
+              })
+              at k (rw y tt) s)) i fuel l) fuel rest l;
+        }
+
+    read-method : (left deep around free : ℕ) → deep + left ≡ suc depth → around + free ≡ funs →
+        Agrees deep around (t.read-method tree names left free) (recs.method ∷ [])
+    read-method zero deep around free e g =
+        record {
+          run =
+              λ at fuel rest l. a-record recs.method deep around at (λ _. a-stmt t.SF) refl (opens-mark-is tree at 0x5346) _
+              (λ _ i fuel rest l. too-deep at deep (suc around) (omega arith)) fuel rest l;
+        }
+    read-method (suc left) deep around free e g =
+        record {
+          run =
+              λ at fuel rest l. a-record recs.method deep around at (λ _. a-stmt t.SF) refl (opens-mark-is tree at 0x5346) _
+              (λ _ i fuel rest l.
+              may-open (ltb 0 free) at deep (suc around) (omega arith) (λ y. omega (arith, ltb-true 0 free y)) (λ y. omega (arith, ltb-false 0 free y)) _ _
+              (λ y. field _ _ (plain-span tree at) (λ s.
+              put-into _ (fun-fields _ (suc deep) (suc around)
+              (read-stmt left (suc deep) (suc around) (free - 1) (omega arith) (omega (arith, ltb-true 0 free y))) at))) i fuel l) fuel rest l;
+        }
