@@ -9,7 +9,7 @@ use Prim.Native.Nat.{ℕ, zero, suc, _+_, _-_, _*_, _/_, _%_, _≤_, _<_}
 use native.Mathlib.Omega.{arith}
 use lib.ListN.{length, getD, replicate}
 use lib.Dec.{T, ltb, leb, eqb, ltb→lt, lt→ltb, leb→le, le→leb, nleb→lt, nltb→le}
-use borrow.Author.Tests.{ltb-true, ltb-false, leb-false, le-leb, lt-leb, le-ltb, lt-ltb}
+use borrow.Author.Tests.{ltb-true, ltb-false, leb-true, leb-false, le-leb, lt-leb, le-ltb, lt-ltb}
 use Rattle.rules.specs.Base.{if_then_else_, lookup, all}
 use Rattle.rules.specs.Limits.{max-names, max-bits}
 use Rattle.rules.specs.declared.Span.{Span}
@@ -189,7 +189,7 @@ module _ (tree : List ℕ) where
 
 -- ## How far reading goes along the list
 
-module _ (tree : List ℕ) (depth funs names : ℕ) where
+module _ (depth funs : ℕ) where
   -- none of these passes a limit
   abbrev Clear : List Opened → Type 0
   Clear xs = All (λ (x : Opened). passes depth funs x ≡ false) xs
@@ -198,23 +198,24 @@ module _ (tree : List ℕ) (depth funs names : ℕ) where
   clear-both [] ys h k = k
   clear-both (x ∷ xs) ys h k = (h .0, clear-both xs ys (h .1) k)
 
+module _ (tree : List ℕ) (depth funs names : ℕ) where
   -- at `at`, with the records `rest` still to be read after it, a reader came to `outcome` where the list is `seen`
   data Fate {A : Type 0} (outcome : Read A) (seen : List Opened) (rest : List Task) (at : ℕ) : Type 0 where
-    goes-on : (a : A) (next : ℕ) (passed : List Opened) (fuel : ℕ) → outcome ≡ got a next → Clear passed →
+    goes-on : (a : A) (next : ℕ) (passed : List Opened) (fuel : ℕ) → outcome ≡ got a next → Clear depth funs passed →
         seen ≡ passed ++ opened-from tree names fuel rest next → length tree ≤ next + fuel → at ≤ next → Fate outcome seen rest at
-    no-form : (place : ℕ) → outcome ≡ bad (TreeForm place) → Clear seen → Fate outcome seen rest at
-    passing : (passed : List Opened) (x : Opened) (after : List Opened) → outcome ≡ bad (refused-for depth funs x) → Clear passed →
+    no-form : (place : ℕ) → outcome ≡ bad (TreeForm place) → Clear depth funs seen → Fate outcome seen rest at
+    passing : (passed : List Opened) (x : Opened) (after : List Opened) → outcome ≡ bad (refused-for depth funs x) → Clear depth funs passed →
         seen ≡ passed ++ (x ∷ after) → passes depth funs x ≡ true → Fate outcome seen rest at
 
   -- after records that pass no limit
-  behind : {A : Type 0} (passed : List Opened) {outcome : Read A} {seen : List Opened} {rest : List Task} {at i : ℕ} → Clear passed → at ≤ i →
+  behind : {A : Type 0} (passed : List Opened) {outcome : Read A} {seen : List Opened} {rest : List Task} {at i : ℕ} → Clear depth funs passed → at ≤ i →
       Fate outcome seen rest i → Fate outcome (passed ++ seen) rest at
   behind passed h l (goes-on a next more fuel e w s f g) =
-      goes-on a next (passed ++ more) fuel e (clear-both passed more h w) (ap (λ (xs : List Opened). passed ++ xs) s ∙ sym (append-assoc passed more _)) f
+      goes-on a next (passed ++ more) fuel e (clear-both depth funs passed more h w) (ap (λ (xs : List Opened). passed ++ xs) s ∙ sym (append-assoc passed more _)) f
       (omega arith)
-  behind passed {seen = seen} h l (no-form place e w) = no-form place e (clear-both passed seen h w)
+  behind passed {seen = seen} h l (no-form place e w) = no-form place e (clear-both depth funs passed seen h w)
   behind passed h l (passing more x after e w s b) =
-      passing (passed ++ more) x after e (clear-both passed more h w) (ap (λ (xs : List Opened). passed ++ xs) s ∙ sym (append-assoc passed more _)) b
+      passing (passed ++ more) x after e (clear-both depth funs passed more h w) (ap (λ (xs : List Opened). passed ++ xs) s ∙ sym (append-assoc passed more _)) b
 
   -- a reader of the children `cs`, which stand `deep` deep and in `around` functions
   record Agrees {A : Type 0} (deep around : ℕ) (m : Reader A) (cs : List Child) : Type 0 where
@@ -333,7 +334,7 @@ module _ (tree : List ℕ) (depth funs names : ℕ) where
       let y : ltb funs around ≡ true = lt-ltb funs around g in
       passing [] (record { place = place; depth = deep; nesting = around }) _ (rw z) tt refl (rw (z, y))
 
-  within : (place deep around : ℕ) → deep ≤ depth → around ≤ funs → Clear (record { place = place; depth = deep; nesting = around } ∷ [])
+  within : (place deep around : ℕ) → deep ≤ depth → around ≤ funs → Clear depth funs (record { place = place; depth = deep; nesting = around } ∷ [])
   within place deep around l g =
       let z : leb deep depth ≡ true = le-leb deep depth l in
       let y : ltb funs around ≡ false = le-ltb funs around g in
@@ -555,3 +556,170 @@ module _ (tree : List ℕ) (depth funs names : ℕ) where
               put-into _ (fun-fields _ (suc deep) (suc around)
               (read-stmt left (suc deep) (suc around) (free - 1) (omega arith) (omega (arith, ltb-true 0 free y))) at))) i fuel l) fuel rest l;
         }
+
+-- ## The whole file
+
+nothing-opened : (tree : List ℕ) (names fuel at : ℕ) → opened-from tree names fuel [] at ≡ []
+nothing-opened tree names zero at = refl
+nothing-opened tree names (suc fuel) at = refl
+
+module _ (tree : List ℕ) (depth funs : ℕ) where
+  -- nothing is to be read after the statements, so that the number of names no longer matters
+  abbrev Ending : Read Stmts → List Opened → (at : ℕ) → Type 0
+  Ending o seen at = Fate tree depth funs 0 o seen [] at
+
+  -- the file ends where the statements do
+  abbrev to-the-end : Stmts → Reader Stmts
+  to-the-end ts = r._>>=_ r.here (λ end. r._>>_ (r.need (eqb end (length tree)) (TreeForm end)) (r.return ts))
+
+  ends : (names at : ℕ) (o : Read Stmts) (seen : List Opened) → Fate tree depth funs names o seen [] at → Ending (r.go-on o to-the-end) seen at
+  unfolding r.go-on r._>>=_ r._>>_ r.here r.need r.return
+  ends names at o seen (goes-on ts next passed fuel e w s l k) =
+      subst⁻¹ (λ (o : Read Stmts). Ending (r.go-on o to-the-end) seen at) e (by-test (eqb next (length tree)))
+    where
+      whole : seen ≡ passed
+      whole = s ∙ ap (λ (xs : List Opened). passed ++ xs) (nothing-opened tree names fuel next) ∙ append-nil passed
+
+      by-test : (b : Bool) → Ending (r.go-on (r.need b (TreeForm next) next) (λ _. r.return ts)) seen at
+      by-test true =
+          goes-on ts next passed fuel refl w
+          (whole ∙ sym (append-nil passed) ∙ ap (λ (xs : List Opened). passed ++ xs) (sym (nothing-opened tree 0 fuel next))) l k
+      by-test false = no-form next refl (subst⁻¹ (Clear depth funs) whole w)
+  ends names at o seen (no-form place e w) = subst⁻¹ (λ (o : Read Stmts). Ending (r.go-on o to-the-end) seen at) e (no-form place refl w)
+  ends names at o seen (passing passed x after e w s b) =
+      subst⁻¹ (λ (o : Read Stmts). Ending (r.go-on o to-the-end) seen at) e (passing passed x after refl w s b)
+
+  -- the statements of a file whose header says how many names and how many statements
+  abbrev In-file : (fuel : ℕ) → ℕ × ℕ → ℕ → List Opened
+  In-file fuel h i = opened-from tree (h .0) (length tree) (map (task 1 0) (replicate (h .1) recs.stmt)) i
+
+  statements : (names count : ℕ) →
+      Follows tree depth funs 0 [] In-file (r._>>=_ (t.read-stmts count (t.read-stmt tree names depth funs)) to-the-end) (r.return (names, count))
+  unfolding r._>>=_ r.return
+  statements names count =
+      record {
+        run =
+            λ at fuel l. ends names at (t.read-stmts count (t.read-stmt tree names depth funs) at) _
+            (subst (λ (tasks : List Task). Fate tree depth funs names (t.read-stmts count (t.read-stmt tree names depth funs) at)
+            (opened-from tree names (length tree) tasks at) [] at) (append-nil (map (task 1 0) (replicate count recs.stmt)))
+            ((read-stmts tree depth funs names count (read-stmt tree depth funs names depth 1 0 funs (omega arith) (omega arith)))
+            .run at (length tree) [] (omega arith)));
+      }
+
+  file : Follows tree depth funs 0 [] In-file (t.read-file tree depth funs) (recs.read-header tree)
+  unfolding t.read-file
+  file =
+      field-next tree depth funs 0 _ _ (plain-mark-is tree 0 0x5452)
+      (field tree depth funs 0 _ _ (plain-u16 tree 0) (λ names.
+      field tree depth funs 0 _ _ (plain-u16 tree 0) (λ count.
+      field-next tree depth funs 0 _ _ (plain-need (leb names max-names) 0)
+      (field-next tree depth funs 0 _ _ (plain-read-names tree names none) (statements names count)))))
+
+  fate : Ending (t.read-tree tree depth funs) (opened tree) 0
+  unfolding t.read-tree
+  fate = file .run 0 (length tree) (omega arith)
+
+  -- ## The first record that passes a limit
+
+  none-passing : (xs : List Opened) → Clear depth funs xs → first-passing depth funs xs ≡ none
+  none-passing [] h = refl
+  none-passing (x ∷ xs) h = rw (h .0) (none-passing xs (h .1))
+
+  first-is : (passed : List Opened) (x : Opened) (after : List Opened) → Clear depth funs passed → passes depth funs x ≡ true →
+      first-passing depth funs (passed ++ (x ∷ after)) ≡ some x
+  first-is [] x after h b = rw b
+  first-is (y ∷ passed) x after h b = rw (h .0) (first-is passed x after (h .1) b)
+
+  -- how reading ended, in terms of that record
+  pub data Ended : Type 0 where
+    no-limit : first-passing depth funs (opened tree) ≡ none → (ts : Stmts) (next : ℕ) → t.read-tree tree depth funs ≡ got ts next → Ended
+    no-form-first : first-passing depth funs (opened tree) ≡ none → (place : ℕ) → t.read-tree tree depth funs ≡ bad (TreeForm place) → Ended
+    at-limit : (x : Opened) → first-passing depth funs (opened tree) ≡ some x → passes depth funs x ≡ true →
+        t.read-tree tree depth funs ≡ bad (refused-for depth funs x) → Ended
+
+  pub ended : Ended
+  ended = by-fate fate
+    where
+      by-fate : Ending (t.read-tree tree depth funs) (opened tree) 0 → Ended
+      by-fate (goes-on ts next passed fuel e w s l k) =
+          no-limit
+          (none-passing (opened tree)
+          (subst⁻¹ (Clear depth funs) (s ∙ ap (λ (xs : List Opened). passed ++ xs) (nothing-opened tree 0 fuel next) ∙ append-nil passed) w)) ts next e
+      by-fate (no-form place e w) = no-form-first (none-passing (opened tree) w) place e
+      by-fate (passing passed x after e w s b) = at-limit x (ap (first-passing depth funs) s ∙ first-is passed x after w b) b e
+
+  -- 4 TreeTooDeep: the first record that passes a limit passes the depth
+  pub too-deep-exactly : (at : ℕ) → (t.read-tree tree depth funs ≡ bad (TreeTooDeep at))
+      ↔ ((x : Opened) × (first-passing depth funs (opened tree) ≡ some x) × (x .place ≡ at) × (depth < x .depth))
+  too-deep-exactly at = (λ e. only ended e, λ p. so ended (p .0) (p .1) (p .2) (p .3))
+    where
+      by-test : (x : Opened) (b : Bool) → leb (x .depth) depth ≡ b →
+          _≡_ {A = Read Stmts} (bad (if b then TooManyOpen (x .place) else TreeTooDeep (x .place))) (bad (TreeTooDeep at)) → (x .place ≡ at) × (depth < x .depth)
+      by-test x true e f = let z : _≡_ {A = ℕ} 0 1 = cc in absurd (omega arith)
+      by-test x false e f = (cc, leb-false (x .depth) depth e)
+
+      only : Ended → t.read-tree tree depth funs ≡ bad (TreeTooDeep at) →
+          (x : Opened) × (first-passing depth funs (opened tree) ≡ some x) × (x .place ≡ at) × (depth < x .depth)
+      only (no-limit n ts next e) f = let z : _≡_ {A = ℕ} 0 1 = cc in absurd (omega arith)
+      only (no-form-first n place e) f = let z : _≡_ {A = ℕ} 0 1 = cc in absurd (omega arith)
+      only (at-limit x n b e) f =
+          let p = by-test x (leb (x .depth) depth) refl (sym e ∙ f) in
+          (x, n, p .0, p .1)
+
+      so : Ended → (x : Opened) → first-passing depth funs (opened tree) ≡ some x → x .place ≡ at → depth < x .depth →
+          t.read-tree tree depth funs ≡ bad (TreeTooDeep at)
+      so (no-limit n ts next e) x f p l = let z : _≡_ {A = ℕ} 0 1 = cc in absurd (omega arith)
+      so (no-form-first n place e) x f p l = let z : _≡_ {A = ℕ} 0 1 = cc in absurd (omega arith)
+      so (at-limit y n b e) x f p l =
+          let z : y ≡ x = cc in
+          let w : leb (x .depth) depth ≡ false = lt-leb (x .depth) depth l in
+          e ∙ ap (λ (y : Opened). bad (refused-for depth funs y)) z ∙ rw (w, p)
+
+  -- 5 TooManyOpen: the first record that passes a limit is within the depth, and one function too many
+  pub too-many-exactly : (at : ℕ) → (t.read-tree tree depth funs ≡ bad (TooManyOpen at))
+      ↔ ((x : Opened) × (first-passing depth funs (opened tree) ≡ some x) × (x .place ≡ at) × (x .depth ≤ depth) × (funs < x .nesting))
+  too-many-exactly at = (λ e. only ended e, λ p. so ended (p .0) (p .1) (p .2) (p .3))
+    where
+      by-test : (x : Opened) (b : Bool) → leb (x .depth) depth ≡ b → passes depth funs x ≡ true →
+          _≡_ {A = Read Stmts} (bad (if b then TooManyOpen (x .place) else TreeTooDeep (x .place))) (bad (TooManyOpen at)) →
+          (x .place ≡ at) × (x .depth ≤ depth) × (funs < x .nesting)
+      by-test x true e g f = (cc, leb-true (x .depth) depth e, ltb-true funs (x .nesting) (rw e at g))
+      by-test x false e g f = let z : _≡_ {A = ℕ} 0 1 = cc in absurd (omega arith)
+
+      only : Ended → t.read-tree tree depth funs ≡ bad (TooManyOpen at) →
+          (x : Opened) × (first-passing depth funs (opened tree) ≡ some x) × (x .place ≡ at) × (x .depth ≤ depth) × (funs < x .nesting)
+      only (no-limit n ts next e) f = let z : _≡_ {A = ℕ} 0 1 = cc in absurd (omega arith)
+      only (no-form-first n place e) f = let z : _≡_ {A = ℕ} 0 1 = cc in absurd (omega arith)
+      only (at-limit x n b e) f =
+          let p = by-test x (leb (x .depth) depth) refl b (sym e ∙ f) in
+          (x, n, p .0, p .1, p .2)
+
+      so : Ended → (x : Opened) → first-passing depth funs (opened tree) ≡ some x → x .place ≡ at → x .depth ≤ depth →
+          t.read-tree tree depth funs ≡ bad (TooManyOpen at)
+      so (no-limit n ts next e) x f p l = let z : _≡_ {A = ℕ} 0 1 = cc in absurd (omega arith)
+      so (no-form-first n place e) x f p l = let z : _≡_ {A = ℕ} 0 1 = cc in absurd (omega arith)
+      so (at-limit y n b e) x f p l =
+          let z : y ≡ x = cc in
+          let w : leb (x .depth) depth ≡ true = le-leb (x .depth) depth l in
+          e ∙ ap (λ (y : Opened). bad (refused-for depth funs y)) z ∙ rw (w, p)
+
+  -- 3 TreeForm, and an accepted file: no record passes a limit
+  pub form-within : (at : ℕ) → t.read-tree tree depth funs ≡ bad (TreeForm at) → first-passing depth funs (opened tree) ≡ none
+  form-within at f = by-end ended
+    where
+      by-test : (x : Opened) (b : Bool) → _≡_ {A = Read Stmts} (bad (if b then TooManyOpen (x .place) else TreeTooDeep (x .place))) (bad (TreeForm at)) → ⊥
+      by-test x true e = let z : _≡_ {A = ℕ} 0 1 = cc in omega arith
+      by-test x false e = let z : _≡_ {A = ℕ} 0 1 = cc in omega arith
+
+      by-end : Ended → first-passing depth funs (opened tree) ≡ none
+      by-end (no-limit n ts next e) = n
+      by-end (no-form-first n place e) = n
+      by-end (at-limit x n b e) = absurd (by-test x (leb (x .depth) depth) (sym e ∙ f))
+
+  pub accepted-within : (ts : Stmts) (next : ℕ) → t.read-tree tree depth funs ≡ got ts next → first-passing depth funs (opened tree) ≡ none
+  accepted-within ts next f = by-end ended
+    where
+      by-end : Ended → first-passing depth funs (opened tree) ≡ none
+      by-end (no-limit n ts next e) = n
+      by-end (no-form-first n place e) = n
+      by-end (at-limit x n b e) = let z : _≡_ {A = ℕ} 0 1 = cc in absurd (omega arith)
