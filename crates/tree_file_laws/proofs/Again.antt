@@ -1,6 +1,7 @@
 -- The other way: what is read from bytes was written so. Every accepted file is the encoding of the program that it gave, with names that fit, and
 -- that program is within the limits that the reader was told. `Was` follows what is left of the bytes, field by field.
 use mathlib.Core.Path.{_≡_, refl, sym, ap, _∙_, subst, subst⁻¹}
+use mathlib.Core.Logic.{_↔_}
 use mathlib.Core.Bool.{Bool, true, false}
 use mathlib.Core.Option.{Option, none, some}
 use mathlib.Core.List.{List, [], _∷_, _++_, append-assoc, append-nil}
@@ -35,7 +36,9 @@ use Rattle.tree_file_laws.proofs.Fits.{Count, Known, Fits-literal, Fits
 use Rattle.tree_file_laws.proofs.Fits.{Fits-text, Above, Rising, Fits-file}
 use Rattle.tree_file_laws.proofs.Fits.{expr-depth, exprs-depth, stmt-depth, record-depth, fun-depth, methods-depth}
 use Rattle.tree_file_laws.proofs.Fits.{stmt-nesting, nested-funs, fun-nesting, methods-nesting}
+use Rattle.tree_file_laws.proofs.Names.{names-of}
 use Rattle.tree_file_laws.proofs.Texts.{all-differ-so, above-so}
+use Rattle.tree_file_laws.proofs.Written.{read-encoded, names-of-encoded}
 
 -- ## What a table has was put so by the encoder
 
@@ -650,15 +653,15 @@ module _ (tree : List ℕ) (bytes : Bytes tree) where
         was = both (q .was) (o .was);
       }))
 
--- the file is what the encoder writes for the program that it gave, with names that fit; and that program is within the limits
-pub record Encoded (tree : List ℕ) (depth funs : ℕ) (stmts : Stmts) (next : ℕ) : Type 0 where
-  pub names : List (List ℕ)
-  pub fits : Fits-file depth funs names stmts
-  pub again : encode names stmts ≡ tree
-  pub end : next ≡ length tree
+-- with some names, the file is what the encoder writes for the program
+record Encoded-so (tree : List ℕ) (depth funs : ℕ) (stmts : Stmts) (next : ℕ) : Type 0 where
+  names : List (List ℕ)
+  fits : Fits-file depth funs names stmts
+  again : encode names stmts ≡ tree
+  end : next ≡ length tree
 
 module _ (tree : List ℕ) (bytes : Bytes tree) where
-  read-file : (depth funs : ℕ) → Makes (t.read-file tree depth funs) 0 (Encoded tree depth funs)
+  read-file : (depth funs : ℕ) → Makes (t.read-file tree depth funs) 0 (Encoded-so tree depth funs)
   unfolding t.read-file encode
   read-file depth funs =
       next (mark-is tree bytes (TreeForm 0) 0x5452 0 tree (record { passed = []; all-of = refl; place = refl })) (λ _ i p.
@@ -702,11 +705,34 @@ module _ (tree : List ℕ) (bytes : Bytes tree) where
           let z : after ≡ [] = nothing-left (l .passed) after (sym (l .place) ∙ e ∙ ap length (l .all-of)) in
           sym (p .split ∙ ap (λ (xs : List ℕ). encode names ts ++ xs) z ∙ append-nil (encode names ts))
 
+-- the file is what the encoder writes for the program and the names that stand in the file; these fit, and are within the limits
+pub record Encoded (tree : List ℕ) (depth funs : ℕ) (stmts : Stmts) (next : ℕ) : Type 0 where
+  pub fits : Fits-file depth funs (names-of tree) stmts
+  pub again : encode (names-of tree) stmts ≡ tree
+  pub end : next ≡ length tree
+
 -- every accepted file was written so
 pub encoded-again : (tree : List ℕ) → Bytes tree → (depth funs : ℕ) (stmts : Stmts) (next : ℕ) → t.read-tree tree depth funs ≡ got stmts next →
     Encoded tree depth funs stmts next
 unfolding t.read-tree
-encoded-again tree bytes depth funs stmts next e = (read-file tree bytes depth funs) .run stmts next e
+encoded-again tree bytes depth funs stmts next e =
+    let h = (read-file tree bytes depth funs) .run stmts next e in
+    let z : names-of tree ≡ h .names = ap names-of (sym (h .again)) ∙ names-of-encoded depth funs (h .names) stmts (h .fits) in
+    record {
+      fits = subst⁻¹ (λ (names : List (List ℕ)). Fits-file depth funs names stmts) z (h .fits);
+      again = ap (λ (names : List (List ℕ)). encode names stmts) z ∙ h .again;
+      end = h .end;
+    }
+
+-- so the accepted files are the encodings of what fits, each of one program
+pub accepted-exactly : (tree : List ℕ) → Bytes tree → (depth funs : ℕ) (stmts : Stmts) (next : ℕ) →
+    (t.read-tree tree depth funs ≡ got stmts next) ↔ Encoded tree depth funs stmts next
+accepted-exactly tree bytes depth funs stmts next = (encoded-again tree bytes depth funs stmts next, λ h. read-so h)
+  where
+    read-so : Encoded tree depth funs stmts next → t.read-tree tree depth funs ≡ got stmts next
+    read-so h =
+        subst (λ (bs : List ℕ). t.read-tree bs depth funs ≡ got stmts (length bs)) (h .again) (read-encoded depth funs (names-of tree) stmts (h .fits))
+        ∙ ap (got stmts) (sym (h .end))
 
 -- of an accepted file no record is deeper than the limit
 pub accepted-depth : (tree : List ℕ) → Bytes tree → (depth funs : ℕ) (stmts : Stmts) (next : ℕ) → t.read-tree tree depth funs ≡ got stmts next →

@@ -1,5 +1,6 @@
 -- Laws of the tree file as `TreeFile` and `TreeEncode` of the crate rules define it. They add nothing to what those say. Read in this order.
 pub mod Fits
+pub mod Names
 pub mod Texts
 pub mod Written
 pub mod Again

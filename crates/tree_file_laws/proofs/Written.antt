@@ -32,6 +32,7 @@ use Rattle.tree_file_laws.proofs.Fits.{Count, Known, Fits-literal, Fits
 use Rattle.tree_file_laws.proofs.Fits.{Fits-text, Above, Rising, Fits-file}
 use Rattle.tree_file_laws.proofs.Fits.{expr-depth, exprs-depth, stmt-depth, record-depth, fun-depth, methods-depth}
 use Rattle.tree_file_laws.proofs.Fits.{stmt-nesting, nested-funs, fun-nesting, methods-nesting}
+use Rattle.tree_file_laws.proofs.Names.{read-text, read-texts, texts-of, names-of}
 use Rattle.tree_file_laws.proofs.Texts.{all-differ, above}
 
 -- ## What the tables have under the encoder's bytes
@@ -500,6 +501,23 @@ module _ (tree : List ℕ) where
       at-end : (at : ℕ) → at + 0 ≡ length tree → T (eqb at (length tree))
       at-end at e = let z : length tree ≡ at = omega arith in rw z (eqb-refl at)
 
+  -- the names alone
+  a-text : (text : List ℕ) → Fits-text text → Back (read-text tree) (name-bytes text) text
+  unfolding read-text name-bytes
+  a-text text h xs =
+      simp append-assoc
+      (_⟫_ tree (mark-is tree (TreeForm 0) 0x4E 0x4D _) (first tree _ (u16 tree (TreeForm 0) (length text) _ (h .size)) (text-bytes (TreeForm 0) text xs)))
+
+  all-texts : (depth funs : ℕ) (names : List (List ℕ)) (ts : Stmts) → Fits-file depth funs names ts →
+      Reads tree (read-texts tree) (encode names ts) (stmts-bytes ts ++ []) names
+  unfolding read-texts
+  all-texts depth funs names ts h =
+      subst⁻¹ (λ (bs : List ℕ). Reads tree (read-texts tree) bs (stmts-bytes ts ++ []) names) (fields names ts)
+      (_⟫_ tree (mark-is tree (TreeForm 0) 0x54 0x52 _)
+      (first tree _ (u16 tree (TreeForm 0) (length names) _ (omega (arith, h .few-names)))
+      (first tree _ (u16 tree (TreeForm 0) (count-stmts ts) _ (h .count))
+      (many tree (read-text tree) name-bytes names _ (all-map Fits-text _ a-text names (h .each-name))))))
+
 -- the tree file loses nothing
 pub read-encoded : (depth funs : ℕ) (names : List (List ℕ)) (stmts : Stmts) → Fits-file depth funs names stmts →
     t.read-tree (encode names stmts) depth funs ≡ got stmts (length (encode names stmts))
@@ -509,3 +527,11 @@ read-encoded depth funs names stmts h =
   where
     come : Comes (encode names stmts) (t.read-file (encode names stmts) depth funs 0) [] stmts
     come = (file (encode names stmts) depth funs names stmts h) .run 0 (record { passed = []; all-of = refl; place = refl })
+
+-- nor the names
+pub names-of-encoded : (depth funs : ℕ) (names : List (List ℕ)) (stmts : Stmts) → Fits-file depth funs names stmts → names-of (encode names stmts) ≡ names
+unfolding names-of texts-of
+names-of-encoded depth funs names stmts h = ap (texts-of (encode names stmts)) (come .gives)
+  where
+    come : Comes (encode names stmts) (read-texts (encode names stmts) 0) (stmts-bytes stmts ++ []) names
+    come = (all-texts (encode names stmts) depth funs names stmts h) .run 0 (record { passed = []; all-of = refl; place = refl })
