@@ -16,11 +16,11 @@ use Rattle.rules.specs.declared.Span.{Span}
 use Rattle.rules.specs.declared.Refusal.{Refusal}
 use Rattle.rules.specs.declared.Refusal.the-variants.{TreeForm, TooManyOpen}
 use Rattle.rules.specs.Reader as r
-use Rattle.rules.specs.Reader.{Read, Reader, got, bad}
-use Rattle.rules.specs.Tree.{Expr, Exprs, ExprAssign, ExprCall, ExprGet, ExprInfix, Literal, ExprPrefix, ExprSet, ExprSuper, ExprVar, []ᵉ, _∷ᵉ_, count-exprs}
-use Rattle.rules.specs.Tree.{OpInfix, OpPrefix, ExprLiteral, LitBool, LitNil, LitNumber, LitString, Superclass}
+use Rattle.rules.specs.Reader.{Reader, got}
+use Rattle.rules.specs.Tree.{Expr, ExprAssign, ExprCall, ExprGet, ExprInfix, Literal, ExprPrefix, ExprSet, ExprSuper, ExprVar, []ᵉ, _∷ᵉ_, count-exprs}
+use Rattle.rules.specs.Tree.{OpInfix, OpPrefix, LitNumber, LitString}
 use Rattle.rules.specs.Tree.{Stmt, Stmts, StmtBlock, StmtClass, StmtExpr, StmtFor, StmtFun, StmtIf, StmtPrint, StmtReturn, StmtVar, StmtWhile, []ˢ, _∷ˢ_}
-use Rattle.rules.specs.Tree.{Fun, fun, Methods, []ᵐ, method}
+use Rattle.rules.specs.Tree.{Fun, fun, []ᵐ, method}
 use Rattle.rules.specs.Image.{join}
 use Rattle.rules.specs.TreeFile as t
 use Rattle.rules.specs.TreeEncode as w
@@ -542,10 +542,11 @@ module _ (tree : List ℕ) (bytes : Bytes tree) where
         first (on (h .stmt) u) (λ b l v.
         first (on (maybe (eqb (parts / 4) 1) (Fits-expr names) expr-depth depth expr-bytes (h .expr)) v) (λ d m x.
         return (StmtFor s a c b d)
-        (took
-        ((n, q .fits .1, q .fits .2 .0, u .fits .1, v .fits .0, x .fits .1),
-        omega (arith, q .fits .2 .1, u .fits .2, v .fits .1, x .fits .2),
-        omega (arith, q .fits .2 .2, v .fits .2))
+        (took (
+          (n, q .fits .1, q .fits .2 .0, u .fits .1, v .fits .0, x .fits .1),
+          omega (arith, q .fits .2 .1, u .fits .2, v .fits .1, x .fits .2),
+          omega (arith, q .fits .2 .2, v .fits .2),
+        )
         (both (both (both (both (both o
         (put-as (ap byte (again parts (ltb→lt parts 8 small) (has-stmt a) (has c) (has d) (q .fits .0) (u .fits .0) (x .fits .0))) (p .was)))
         (q .was)) (u .was)) (v .was)) (x .was)))))))))
@@ -734,6 +735,38 @@ accepted-exactly tree bytes depth funs stmts next = (encoded-again tree bytes de
         subst (λ (bs : List ℕ). t.read-tree bs depth funs ≡ got stmts (length bs)) (h .again) (read-encoded depth funs (names-of tree) stmts (h .fits))
         ∙ ap (got stmts) (sym (h .end))
 
+-- ## What an encoding says
+
+-- what fits under some limits fits under others that it is within
+other-limits : (depth funs more-depth more-funs : ℕ) (names : List (List ℕ)) (stmts : Stmts) → Fits-file depth funs names stmts →
+    record-depth stmts ≤ more-depth → nested-funs stmts ≤ more-funs → Fits-file more-depth more-funs names stmts
+other-limits depth funs more-depth more-funs names stmts h l g =
+    record {
+      few-names = h .few-names;
+      each-name = h .each-name;
+      rising = h .rising;
+      count = h .count;
+      each-stmt = h .each-stmt;
+      within-depth = l;
+      within-funs = g;
+    }
+
+-- no file says two things
+pub one-meaning : (depth funs : ℕ) (names other-names : List (List ℕ)) (stmts other-stmts : Stmts) → Fits-file depth funs names stmts →
+    Fits-file depth funs other-names other-stmts → encode names stmts ≡ encode other-names other-stmts → (names ≡ other-names) × (stmts ≡ other-stmts)
+one-meaning depth funs names other-names stmts other-stmts h k e = (same-names, same-stmts)
+  where
+    same-names : names ≡ other-names
+    same-names =
+        sym (names-of-encoded depth funs names stmts h) ∙ ap names-of e ∙ names-of-encoded depth funs other-names other-stmts k
+
+    same-stmts : stmts ≡ other-stmts
+    same-stmts =
+        let p : got stmts (length (encode names stmts)) ≡ got other-stmts (length (encode other-names other-stmts)) =
+        sym (read-encoded depth funs names stmts h) ∙ ap (λ (tree : List ℕ). t.read-tree tree depth funs) e ∙
+        read-encoded depth funs other-names other-stmts k in
+        cc
+
 -- of an accepted file no record is deeper than the limit
 pub accepted-depth : (tree : List ℕ) → Bytes tree → (depth funs : ℕ) (stmts : Stmts) (next : ℕ) → t.read-tree tree depth funs ≡ got stmts next →
     record-depth stmts ≤ depth
@@ -743,3 +776,18 @@ accepted-depth tree bytes depth funs stmts next e = encoded-again tree bytes dep
 pub accepted-nesting : (tree : List ℕ) → Bytes tree → (depth funs : ℕ) (stmts : Stmts) (next : ℕ) → t.read-tree tree depth funs ≡ got stmts next →
     nested-funs stmts ≤ funs
 accepted-nesting tree bytes depth funs stmts next e = encoded-again tree bytes depth funs stmts next e .fits .within-funs
+
+-- so a file that is accepted under some limits is accepted under others exactly when its program is within those
+pub limits-exactly : (tree : List ℕ) → Bytes tree → (some-depth some-funs : ℕ) (stmts : Stmts) (next : ℕ) →
+    t.read-tree tree some-depth some-funs ≡ got stmts next → (depth funs : ℕ) →
+    (t.read-tree tree depth funs ≡ got stmts next) ↔ ((record-depth stmts ≤ depth) × (nested-funs stmts ≤ funs))
+limits-exactly tree bytes some-depth some-funs stmts next e depth funs = (only, so-accepted)
+  where
+    only : t.read-tree tree depth funs ≡ got stmts next → (record-depth stmts ≤ depth) × (nested-funs stmts ≤ funs)
+    only f = (accepted-depth tree bytes depth funs stmts next f, accepted-nesting tree bytes depth funs stmts next f)
+
+    so-accepted : (record-depth stmts ≤ depth) × (nested-funs stmts ≤ funs) → t.read-tree tree depth funs ≡ got stmts next
+    so-accepted p =
+        let h = encoded-again tree bytes some-depth some-funs stmts next e in
+        accepted-exactly tree bytes depth funs stmts next .1
+        (record { fits = other-limits some-depth some-funs depth funs (names-of tree) stmts (h .fits) (p .0) (p .1); again = h .again; end = h .end })

@@ -6,3 +6,4 @@ pub mod Written
 pub mod Again
 pub mod Opened
 pub mod Passing
+pub mod Shown

@@ -10,7 +10,7 @@ use Rattle.rules.specs.Base.{if_then_else_}
 use Rattle.rules.specs.Limits.{max-names}
 use Rattle.rules.specs.declared.Refusal.{Refusal}
 use Rattle.rules.specs.declared.Refusal.the-variants.{TreeForm, TreeTooDeep, TooManyOpen}
-use Rattle.rules.specs.Reader.{Read, Reader, got, bad, _>>=_, _>>_, return, need, one-of, u8, u16, mark-is, span, many}
+use Rattle.rules.specs.Reader.{Read, Reader, got, bad, _>>=_, return, need, one-of, u8, u16, mark-is, span, many}
 use Rattle.rules.specs.TreeFile as t
 
 -- what may stand where a record is to be read

@@ -5,21 +5,20 @@ use mathlib.Core.Logic.{_↔_}
 use mathlib.Core.Bool.{Bool, true, false}
 use mathlib.Core.Option.{Option, none, some}
 use mathlib.Core.List.{List, [], _∷_, _++_, append-assoc, append-nil, map, map-append}
-use Prim.Native.Nat.{ℕ, zero, suc, _+_, _-_, _*_, _/_, _%_, _≤_, _<_}
+use Prim.Native.Nat.{ℕ, zero, suc, _+_, _-_, _/_, _%_, _≤_, _<_}
 use native.Mathlib.Omega.{arith}
 use lib.ListN.{length, getD, replicate}
-use lib.Dec.{T, ltb, leb, eqb, ltb→lt, lt→ltb, leb→le, le→leb, nleb→lt, nltb→le}
+use lib.Dec.{T, ltb, leb, eqb, ltb→lt}
 use borrow.Author.Tests.{ltb-true, ltb-false, leb-true, leb-false, le-leb, lt-leb, le-ltb, lt-ltb}
 use Rattle.rules.specs.Base.{if_then_else_, lookup, all}
 use Rattle.rules.specs.Limits.{max-names, max-bits}
 use Rattle.rules.specs.declared.Span.{Span}
-use Rattle.rules.specs.declared.Refusal.{Refusal}
 use Rattle.rules.specs.declared.Refusal.the-variants.{TreeForm, TreeTooDeep, TooManyOpen}
 use Rattle.rules.specs.Reader as r
 use Rattle.rules.specs.Reader.{Read, Reader, got, bad}
-use Rattle.rules.specs.Tree.{Expr, Exprs, ExprAssign, ExprCall, ExprGet, ExprInfix, Literal, ExprPrefix, ExprSet, ExprSuper, ExprVar, []ᵉ, _∷ᵉ_}
-use Rattle.rules.specs.Tree.{Stmt, Stmts, StmtBlock, StmtClass, StmtExpr, StmtFor, StmtFun, StmtIf, StmtPrint, StmtReturn, StmtVar, StmtWhile, []ˢ, _∷ˢ_}
-use Rattle.rules.specs.Tree.{Superclass, Fun, fun, Methods, []ᵐ, method}
+use Rattle.rules.specs.Tree.{Expr, []ᵉ}
+use Rattle.rules.specs.Tree.{Stmt, Stmts, []ˢ}
+use Rattle.rules.specs.Tree.{Fun, []ᵐ}
 use Rattle.rules.specs.TreeFile as t
 use Rattle.rules_laws.proofs.Facts.{All}
 use Rattle.tree_file_laws.proofs.Opened as recs

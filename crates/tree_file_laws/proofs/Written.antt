@@ -8,7 +8,7 @@ use Prim.Native.Nat.{ℕ, zero, suc, _+_, _-_, _*_, _/_, _%_, _≤_, _<_}
 use native.Mathlib.Omega.{arith}
 use lib.ListN.{length}
 use lib.Dec.{T, ltb, leb, eqb, lt→ltb, le→leb, eqb-refl}
-use Rattle.rules.specs.Base.{le, lookup, all}
+use Rattle.rules.specs.Base.{le, lookup}
 use Rattle.rules.specs.Limits.{max-names, max-bits}
 use Rattle.rules.specs.declared.Span.{Span}
 use Rattle.rules.specs.declared.Refusal.{Refusal}
@@ -25,8 +25,8 @@ use Rattle.rules.specs.TreeFile as t
 use Rattle.rules.specs.TreeEncode as w
 use Rattle.rules.specs.TreeEncode.{opening, bit, has, has-stmt, count-stmts, count-methods, if-some, expr-bytes, exprs-bytes, superclass-bytes}
 use Rattle.rules.specs.TreeEncode.{stmt-bytes, stmts-bytes, fun-bytes, methods-bytes, name-bytes, encode}
-use Rattle.rules_laws.proofs.Facts.{All, all-map, Bytes}
-use Rattle.rules_laws.proofs.ReadBack.{Narrow, Reads, Comes, Left, first, _⟫_, return, need, here, byte, mark, mark-is, u16, u64, span, many}
+use Rattle.rules_laws.proofs.Facts.{All, all-map}
+use Rattle.rules_laws.proofs.ReadBack.{Narrow, Reads, Comes, first, _⟫_, return, need, here, byte, mark, mark-is, u16, u64, span, many}
 use Rattle.rules_laws.proofs.Trees.{If-some, option-size}
 use Rattle.tree_file_laws.proofs.Fits.{Count, Known, Fits-literal, Fits-expr, Fits-exprs, Fits-superclass, Fits-stmt, Fits-stmts, Fits-fun, Fits-methods}
 use Rattle.tree_file_laws.proofs.Fits.{Fits-text, Above, Rising, Fits-file}
