@@ -6,4 +6,5 @@ pub mod Written
 pub mod Again
 pub mod Opened
 pub mod Passing
+pub mod Unlimited
 pub mod Shown

@@ -27,14 +27,14 @@ use Rattle.tree_file_laws.proofs.Opened.{passes, first-passing, refused
 
 -- ## Fields refuse by 3 alone, and never go back
 
-abbrev Plainly : {A : Type 0} → (at : ℕ) → Read A → Type 0
+abbrev pub Plainly : {A : Type 0} → (at : ℕ) → Read A → Type 0
 Plainly at (got a next) = at ≤ next
 Plainly at (bad fault) = (place : ℕ) × (fault ≡ TreeForm place)
 
-record Plain {A : Type 0} (m : Reader A) : Type 0 where
-  run : (at : ℕ) → Plainly at (m at)
+pub record Plain {A : Type 0} (m : Reader A) : Type 0 where
+  pub run : (at : ℕ) → Plainly at (m at)
 
-plain-then : {A B : Type 0} {m : Reader A} (f : A → Reader B) → Plain m → ((a : A) → Plain (f a)) → Plain (r._>>=_ m f)
+pub plain-then : {A B : Type 0} {m : Reader A} (f : A → Reader B) → Plain m → ((a : A) → Plain (f a)) → Plain (r._>>=_ m f)
 unfolding r._>>=_ r.go-on
 plain-then {A} {m = m} f hm hf = record { run = λ at. on at (m at) (hm .run at) }
   where
@@ -50,7 +50,7 @@ plain-next : {A B : Type 0} {m : Reader A} {n : Reader B} → Plain m → Plain 
 unfolding r._>>_ r._>>=_
 plain-next {n = n} hm hn = plain-then (λ _. n) hm (λ _. hn)
 
-plain-return : {A : Type 0} (a : A) → Plain (r.return a)
+pub plain-return : {A : Type 0} (a : A) → Plain (r.return a)
 unfolding r.return
 plain-return a = record { run = λ at. omega arith }
 
@@ -58,7 +58,7 @@ plain-here : Plain r.here
 unfolding r.here
 plain-here = record { run = λ at. omega arith }
 
-plain-need : (b : Bool) (place : ℕ) → Plain (r.need b (TreeForm place))
+pub plain-need : (b : Bool) (place : ℕ) → Plain (r.need b (TreeForm place))
 unfolding r.need
 plain-need true place = record { run = λ at. omega arith }
 plain-need false place = record { run = λ at. (place, refl) }
@@ -71,13 +71,13 @@ plain-one-of {A} place table n = by-row (lookup n table)
     by-row none = record { run = λ at. (place, refl) }
     by-row (some a) = plain-return a
 
-plain-many : {A : Type 0} (count : ℕ) {one : Reader A} → Plain one → Plain (r.many count one)
+pub plain-many : {A : Type 0} (count : ℕ) {one : Reader A} → Plain one → Plain (r.many count one)
 unfolding r.many
 plain-many zero h = plain-return []
 plain-many (suc count) h = plain-then _ h (λ a. plain-then _ (plain-many count h) (λ rest. plain-return _))
 
 module _ (tree : List ℕ) where
-  plain-u8 : (place : ℕ) → Plain (r.u8 tree (TreeForm place))
+  pub plain-u8 : (place : ℕ) → Plain (r.u8 tree (TreeForm place))
   unfolding r.u8
   plain-u8 place = record { run = λ at. by-test at (ltb at (length tree)) }
     where
@@ -85,7 +85,7 @@ module _ (tree : List ℕ) where
       by-test at true = omega arith
       by-test at false = (place, refl)
 
-  plain-u16 : (place : ℕ) → Plain (r.u16 tree (TreeForm place))
+  pub plain-u16 : (place : ℕ) → Plain (r.u16 tree (TreeForm place))
   unfolding r.u16
   plain-u16 place = plain-then _ (plain-u8 place) (λ a. plain-then _ (plain-u8 place) (λ b. plain-return _))
 
@@ -97,19 +97,19 @@ module _ (tree : List ℕ) where
   unfolding r.u64
   plain-u64 place = plain-then _ (plain-u32 place) (λ a. plain-then _ (plain-u32 place) (λ b. plain-return _))
 
-  plain-span : (place : ℕ) → Plain (r.span tree (TreeForm place))
+  pub plain-span : (place : ℕ) → Plain (r.span tree (TreeForm place))
   unfolding r.span
   plain-span place = plain-then _ (plain-u32 place) (λ a. plain-then _ (plain-u32 place) (λ b. plain-return _))
 
-  plain-mark-is : (place m : ℕ) → Plain (r.mark-is tree (TreeForm place) m)
+  pub plain-mark-is : (place m : ℕ) → Plain (r.mark-is tree (TreeForm place) m)
   unfolding r.mark-is r.mark
   plain-mark-is place m =
       plain-then _ (plain-then _ (plain-u8 place) (λ a. plain-then _ (plain-u8 place) (λ b. plain-return _))) (λ n. plain-need (eqb n m) place)
 
-  plain-kind : {A : Type 0} (place : ℕ) (table : List (ℕ × A)) → Plain (r._>>=_ (r.u8 tree (TreeForm place)) (r.one-of (TreeForm place) table))
+  pub plain-kind : {A : Type 0} (place : ℕ) (table : List (ℕ × A)) → Plain (r._>>=_ (r.u8 tree (TreeForm place)) (r.one-of (TreeForm place) table))
   plain-kind place table = plain-then _ (plain-u8 place) (plain-one-of place table)
 
-  plain-flag : (place : ℕ) → Plain (t.flag tree (TreeForm place))
+  pub plain-flag : (place : ℕ) → Plain (t.flag tree (TreeForm place))
   unfolding t.flag
   plain-flag place = plain-kind place t.flags
 
@@ -123,21 +123,21 @@ module _ (tree : List ℕ) where
       plain-next (plain-need (t.rises tree last text) start)
       (plain-next (plain-need (all (t.differs tree text) t.fixed-names) start) (plain-return text))))))
 
-  plain-read-names : (count : ℕ) (last : Option (List ℕ)) → Plain (t.read-names tree count last)
+  pub plain-read-names : (count : ℕ) (last : Option (List ℕ)) → Plain (t.read-names tree count last)
   unfolding t.read-names
   plain-read-names zero last = plain-return tt
   plain-read-names (suc count) last = plain-then _ (plain-read-name last) (λ text. plain-read-names count (some text))
 
   -- ## A mark is read only where bytes are left
 
-  abbrev Opening : {A : Type 0} → (at : ℕ) → Read A → Type 0
+  abbrev pub Opening : {A : Type 0} → (at : ℕ) → Read A → Type 0
   Opening at (got a next) = (at < next) × (at < length tree)
   Opening at (bad fault) = (place : ℕ) × (fault ≡ TreeForm place)
 
-  record Opens {A : Type 0} (m : Reader A) : Type 0 where
-    run : (at : ℕ) → Opening at (m at)
+  pub record Opens {A : Type 0} (m : Reader A) : Type 0 where
+    pub run : (at : ℕ) → Opening at (m at)
 
-  opens-then : {A B : Type 0} {m : Reader A} (f : A → Reader B) → Opens m → ((a : A) → Plain (f a)) → Opens (r._>>=_ m f)
+  pub opens-then : {A B : Type 0} {m : Reader A} (f : A → Reader B) → Opens m → ((a : A) → Plain (f a)) → Opens (r._>>=_ m f)
   unfolding r._>>=_ r.go-on
   opens-then {A} {B = B} {m = m} f hm hf = record { run = λ at. on at (m at) (hm .run at) }
     where
@@ -161,24 +161,24 @@ module _ (tree : List ℕ) where
   unfolding r.mark
   opens-mark place = opens-then _ (opens-u8 place) (λ a. plain-then _ (plain-u8 place) (λ b. plain-return _))
 
-  opens-mark-is : (place m : ℕ) → Opens (r.mark-is tree (TreeForm place) m)
+  pub opens-mark-is : (place m : ℕ) → Opens (r.mark-is tree (TreeForm place) m)
   unfolding r.mark-is
   opens-mark-is place m = opens-then _ (opens-mark place) (λ n. plain-need (eqb n m) place)
 
   module _ (names : ℕ) where
-    opens-expr-mark : (place : ℕ) → Opens (t.expr-mark tree names (TreeForm place))
+    pub opens-expr-mark : (place : ℕ) → Opens (t.expr-mark tree names (TreeForm place))
     unfolding t.expr-mark
     opens-expr-mark place = opens-then _ (opens-mark place) (plain-one-of place t.expr-marks)
 
-    opens-stmt-mark : (place : ℕ) → Opens (t.stmt-mark tree names (TreeForm place))
+    pub opens-stmt-mark : (place : ℕ) → Opens (t.stmt-mark tree names (TreeForm place))
     unfolding t.stmt-mark
     opens-stmt-mark place = opens-then _ (opens-mark place) (plain-one-of place t.stmt-marks)
 
-    plain-name : (place : ℕ) → Plain (t.name tree names (TreeForm place))
+    pub plain-name : (place : ℕ) → Plain (t.name tree names (TreeForm place))
     unfolding t.name
     plain-name place = plain-then _ (plain-u16 place) (λ n. plain-next (plain-need (ltb n (4 + names)) place) (plain-return n))
 
-    plain-literal : (place : ℕ) (k : t.LiteralKind) → Plain (t.literal-of tree names (TreeForm place) k)
+    pub plain-literal : (place : ℕ) (k : t.LiteralKind) → Plain (t.literal-of tree names (TreeForm place) k)
     unfolding t.literal-of
     plain-literal place t.a-false = plain-return _
     plain-literal place t.a-true = plain-return _
