@@ -101,7 +101,7 @@ module _ (tree : List ℕ) where
   unfolding r.span
   plain-span place = plain-then _ (plain-u32 place) (λ a. plain-then _ (plain-u32 place) (λ b. plain-return _))
 
-  pub plain-mark-is : (place m : ℕ) → Plain (r.mark-is tree (TreeForm place) m)
+  plain-mark-is : (place m : ℕ) → Plain (r.mark-is tree (TreeForm place) m)
   unfolding r.mark-is r.mark
   plain-mark-is place m =
       plain-then _ (plain-then _ (plain-u8 place) (λ a. plain-then _ (plain-u8 place) (λ b. plain-return _))) (λ n. plain-need (eqb n m) place)

@@ -21,7 +21,7 @@ use Rattle.tree_file_laws.proofs.Opened as recs
 use Rattle.tree_file_laws.proofs.Opened.{Child, Mark, Task, Opened, an-expr, a-stmt, task, nesting, if-got, opened-from, opened}
 use Rattle.tree_file_laws.proofs.Opened.{first-passing, refused-for}
 use Rattle.tree_file_laws.proofs.Passing.{Plainly, Plain, plain-then, plain-return, plain-need, plain-many, plain-u8, plain-u16, plain-span}
-use Rattle.tree_file_laws.proofs.Passing.{plain-mark-is, plain-kind, plain-flag, plain-read-names, plain-name, plain-literal}
+use Rattle.tree_file_laws.proofs.Passing.{plain-kind, plain-flag, plain-read-names, plain-name, plain-literal}
 use Rattle.tree_file_laws.proofs.Passing.{Opening, Opens, opens-then, opens-mark-is, opens-expr-mark, opens-stmt-mark}
 use Rattle.tree_file_laws.proofs.Passing.{too-deep-exactly, too-many-exactly, Ended, no-limit, no-form-first, at-limit, ended}
 
@@ -310,3 +310,60 @@ module _ (tree : List ℕ) where
             le-ltb (length tree) (nesting m (x .around)) (omega (arith, h .0 .1, k .1, nesting-so m (x .around))) in
             rw (z, y) (by-fields m i (k .0) (recs.fields tree names m (TreeForm at) i) ((plain-fields m at) .run i) ih)
         by-mark (bad fault) k ih = refl
+
+  -- limits as wide as the file is long are none
+  pub no-limits : first-passing (length tree) (length tree) (opened tree) ≡ none
+  no-limits = by-header (recs.read-header tree 0) (header .run 0)
+    where
+      header : Opens tree (recs.read-header tree)
+      header =
+          opens-then tree _ (opens-mark-is tree 0 0x5452) (λ _.
+          plain-then _ (plain-u16 tree 0) (λ names.
+          plain-then _ (plain-u16 tree 0) (λ count.
+          plain-then _ (plain-need (leb names max-names) 0) (λ _. plain-then _ (plain-read-names tree names none) (λ _. plain-return _)))))
+
+      low : (count at : ℕ) → 0 < at → Low at (map (task 1 0) (replicate count recs.stmt))
+      low zero at l = tt
+      low (suc count) at l = ((omega arith, omega arith), low count at l)
+
+      by-header : (o : Read (ℕ × ℕ)) → Opening tree 0 o →
+          first-passing (length tree) (length tree)
+          (if-got o (λ h i. opened-from tree (h .0) (length tree) (map (task 1 0) (replicate (h .1) recs.stmt)) i)) ≡ none
+      by-header (got h i) k = none-passes (h .0) (length tree) (map (task 1 0) (replicate (h .1) recs.stmt)) i (low (h .1) i (k .0))
+      by-header (bad fault) k = refl
+
+  -- ## What the reader answers
+
+  -- where no record passes a limit, wider limits give the same
+  pub same-wider : (depth funs : ℕ) → first-passing depth funs (opened tree) ≡ none → (more-depth more-funs : ℕ) → depth ≤ more-depth → funs ≤ more-funs →
+      t.read-tree tree depth funs ≡ t.read-tree tree more-depth more-funs
+  same-wider depth funs n more-depth more-funs l g = by-case (wider tree depth more-depth funs more-funs l g)
+    where
+      neither : (x : Opened) → first-passing depth funs (opened tree) ≡ some x → ⊥
+      neither x e = let z : _≡_ {A = ℕ} 0 1 = cc in omega arith
+
+      by-case : Alike (t.read-tree tree depth funs) (t.read-tree tree more-depth more-funs) →
+          t.read-tree tree depth funs ≡ t.read-tree tree more-depth more-funs
+      by-case (the-same e) = e
+      by-case (deep place e) = let p = too-deep-exactly tree depth funs place .0 e in absurd (neither (p .0) (p .1))
+      by-case (many place e) = let p = too-many-exactly tree depth funs place .0 e in absurd (neither (p .0) (p .1))
+
+  -- the answer, given the first record that passes a limit and what reading without limits gives
+  abbrev pub told : (depth funs : ℕ) → Option Opened → Read Stmts → Read Stmts
+  told depth funs none unlimited = unlimited
+  told depth funs (some x) unlimited = bad (refused-for depth funs x)
+
+  pub limits-told : (depth funs : ℕ) →
+      t.read-tree tree depth funs ≡ told depth funs (first-passing depth funs (opened tree)) (t.read-tree tree (length tree) (length tree))
+  limits-told depth funs = by-end (ended tree depth funs)
+    where
+      wide : first-passing depth funs (opened tree) ≡ none → t.read-tree tree depth funs ≡ t.read-tree tree (length tree) (length tree)
+      wide n =
+          same-wider depth funs n (depth + length tree) (funs + length tree) (omega arith) (omega arith)
+          ∙ sym (same-wider (length tree) (length tree) no-limits (depth + length tree) (funs + length tree) (omega arith) (omega arith))
+
+      by-end : Ended tree depth funs →
+          t.read-tree tree depth funs ≡ told depth funs (first-passing depth funs (opened tree)) (t.read-tree tree (length tree) (length tree))
+      by-end (no-limit n ts next e) = rw n (wide n)
+      by-end (no-form-first n place e) = rw n (wide n)
+      by-end (at-limit x n b e) = rw n e
