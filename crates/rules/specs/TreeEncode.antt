@@ -7,7 +7,9 @@ use Prim.Native.Nat.{ℕ, suc, _+_, _*_}
 use lib.ListN.{length}
 use Rattle.rules.specs.Base.{le}
 use Rattle.rules.specs.declared.Span.{Span}
+use Rattle.rules.specs.Image as image
 use Rattle.rules.specs.Image.{join}
+use Rattle.rules.specs.Tree as tree
 use Rattle.rules.specs.Tree.{Expr, Exprs, ExprAssign, ExprCall, ExprGet, ExprInfix, Literal, ExprPrefix, ExprSet, ExprSuper, ExprVar, []ᵉ, _∷ᵉ_, count-exprs}
 use Rattle.rules.specs.Tree.{OpInfix, Add, Subtract, Multiply, Divide, Less, LessEqual, Greater, GreaterEqual, Equal, NotEqual, LogicAnd, LogicOr}
 use Rattle.rules.specs.Tree.{OpPrefix, Negate, Not, ExprLiteral, LitBool, LitNil, LitNumber, LitString, Superclass}
@@ -138,5 +140,5 @@ encode names stmts = 0x54 ∷ 0x52 ∷ le 2 (length names) ++ le 2 (count-stmts 
 
 -- who unfolds this unfolds the whole file and those that it stands on, and can compute with them
 unfoldable pub computes : Unit {0}
-unfolding Rattle.rules.specs.Base.computes Rattle.rules.specs.Tree.computes Rattle.rules.specs.Image.computes byte opening infix-byte prefix-byte bit has has-stmt count-stmts count-methods if-some literal-bytes expr-bytes superclass-bytes stmt-bytes name-bytes encode
+unfolding tree.computes image.computes byte opening infix-byte prefix-byte bit has has-stmt count-stmts count-methods if-some literal-bytes expr-bytes superclass-bytes stmt-bytes name-bytes encode
 computes = tt
