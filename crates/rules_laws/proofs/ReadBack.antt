@@ -60,7 +60,7 @@ abbrev pub base : ℕ → ℕ
 base zero = 1
 base (suc width) = 256 * base width
 
-pub base-pos : (width : ℕ) → 0 < base width
+base-pos : (width : ℕ) → 0 < base width
 base-pos zero = omega arith
 base-pos (suc width) = omega (arith, base-pos width)
 
@@ -171,7 +171,7 @@ module _ (bytes : List ℕ) where
   abbrev pub Field : Reader ℕ → (width bound : ℕ) → Type 0
   Field m width bound = (n : ℕ) (xs : List ℕ) → n < bound → Reads m (le width n ++ xs) xs n
 
-  pub u8 : (fault : Refusal) → Field (r.u8 bytes fault) 1 256
+  u8 : (fault : Refusal) → Field (r.u8 bytes fault) 1 256
   unfolding le
   u8 fault n xs l = let e : n % 256 ≡ n = omega arith in rw e (byte fault n xs)
 
@@ -206,7 +206,7 @@ module _ (bytes : List ℕ) where
   unfolding r.u16
   u16 fault = wider (r.u8 bytes fault) 1 (u8 fault)
 
-  pub u32 : (fault : Refusal) → Field (r.u32 bytes fault) 4 4_294_967_296
+  u32 : (fault : Refusal) → Field (r.u32 bytes fault) 4 4_294_967_296
   unfolding r.u32
   u32 fault = wider (r.u16 bytes fault) 2 (u16 fault)
 
