@@ -1,7 +1,7 @@
 -- Slips this trade makes, each shut out by a law or by the smallest example that shows it. P1 to P12 show some of them too: slot 0 unnamed by P5.
 use mathlib.Core.Path.{_≡_, refl, ap}
 use mathlib.Core.Bool.{Bool, true, false}
-use mathlib.Core.Option.{none}
+use mathlib.Core.Option.{none, some}
 use mathlib.Core.List.{List, [], _∷_, _++_}
 use Prim.Native.Nat.{ℕ, _+_, _-_, _/_, _%_, _≤_, _<_}
 use native.Mathlib.Omega.{arith}
@@ -15,7 +15,12 @@ use Rattle.rules.specs.declared.Refusal.the-variants.{AlreadyDefined, Ju
 use Rattle.rules.specs.declared.Refusal.the-variants.{TreeTooDeep, TooManyOpen, TreeTooLong, CodeFull, OutFull, ImageRefused}
 use Rattle.rules.specs.declared.Answer.{Answer}
 use Rattle.rules.specs.Answer.{NO-SPAN, refusal, accepted}
-use Rattle.rules.specs.Tree.{Expr, Exprs, ExprCall, count-exprs}
+use Rattle.rules.specs.Tree.{Expr, Exprs, ExprAssign, ExprCall, ExprGet, ExprInfix, Literal, ExprPrefix, ExprSet, ExprSuper, ExprVar, []ᵉ, _∷ᵉ_, count-exprs}
+use Rattle.rules.specs.Tree.{Less, Not, LitBool, LitNil, LitNumber, LitString}
+use Rattle.rules.specs.Tree.{Stmts, StmtBlock, StmtClass, StmtExpr, StmtFor, StmtIf, StmtPrint, StmtReturn, StmtVar, StmtWhile, []ˢ, _∷ˢ_, fun, []ᵐ, method}
+use Rattle.rules.specs.TreeFile.{read-tree}
+use Rattle.rules.specs.TreeEncode as tree-encode
+use Rattle.rules.specs.TreeEncode.{encode}
 use Rattle.rules.specs.Op as op
 use Rattle.rules.specs.Chunk.{Chunk, Constant, CN, CS, same-constant, Run, push-span, ObjectFunction, write-constant, written, at-place, no-room}
 use Rattle.rules.specs.Image.{image-bytes}
@@ -28,7 +33,7 @@ use Rattle.rules.specs.Entry.{Lent, Left, Compiled, functions-are, refus
 use Rattle.rules.specs.Division as d
 use Rattle.rules.specs.ImageFile as image-file
 use Rattle.rules.specs.ImageFile.{read-run}
-use Rattle.rules.specs.Reader.{got}
+use Rattle.rules.specs.Reader.{got, bad}
 use Rattle.rules.specs.Division.{division, function-fits, run-fits}
 use Rattle.rules.specs.Checker as checker
 use Rattle.rules.specs.Checker.{check, span-of}
@@ -353,3 +358,71 @@ pub record Limited : Type 0 where
 pub limited : Limited
 unfolding hex entry.computes checker.computes
 limited = record { capped = refl; summed = refl; enough = refl }
+
+-- ## The tree file written: every record once, its bytes written out from document 01
+
+-- class a < b { b(a) { return super.a; } } for (var a = 1; a < nil; a = !true) a.b("b"); if (false) {} else print a.b = nil; while (true) {}
+abbrev every-record : Stmts
+every-record =
+    StmtClass (from-to 1 2) 4 (some (record { span = from-to 3 4; name = 5 }))
+    (method (from-to 5 6) (fun 5 (4 ∷ []) (StmtReturn (from-to 7 8) (some (ExprSuper (from-to 9 10) 4)) ∷ˢ []ˢ)) []ᵐ) ∷ˢ
+    StmtFor (from-to 11 12) (StmtVar (from-to 13 14) 4 (some (Literal (from-to 15 16) (LitNumber 0x3FF0_0000_0000_0000))) ∷ˢ []ˢ)
+    (some (ExprInfix (from-to 17 18) Less (ExprVar (from-to 19 20) 4) (Literal (from-to 21 22) LitNil)))
+    (StmtExpr (from-to 23 24)
+    (ExprCall (from-to 25 26) (ExprGet (from-to 27 28) 5 (ExprVar (from-to 29 30) 4)) (Literal (from-to 31 32) (LitString 5) ∷ᵉ []ᵉ)))
+    (some (ExprAssign (from-to 33 34) 4 (ExprPrefix (from-to 35 36) Not (Literal (from-to 37 38) (LitBool true))))) ∷ˢ
+    StmtIf (from-to 39 40) (Literal (from-to 41 42) (LitBool false)) (StmtBlock (from-to 43 44) []ˢ)
+    (StmtPrint (from-to 45 46) (ExprSet (from-to 47 48) 5 (Literal (from-to 49 50) LitNil) (ExprVar (from-to 51 52) 4)) ∷ˢ []ˢ) ∷ˢ
+    StmtWhile (from-to 53 54) (Literal (from-to 55 56) (LitBool true)) (StmtBlock (from-to 57 58) []ˢ) ∷ˢ []ˢ
+
+abbrev every-tree : List ℕ
+every-tree =
+    hex 6 0x5452_0200_0400  -- TR
+    ++ hex 5 0x4E4D_0100_61  -- NM
+    ++ hex 5 0x4E4D_0100_62  -- NM
+    ++ hex 15 0x5343_01000000_02000000_0400_01_0100  -- SC
+    ++ hex 12 0x4556_03000000_04000000_0500  -- EV
+    ++ hex 18 0x5346_05000000_06000000_0500_0100_0400_0100  -- SF
+    ++ hex 11 0x5352_07000000_08000000_01  -- SR
+    ++ hex 12 0x4555_09000000_0A000000_0400  -- EU
+    ++ hex 11 0x534F_0B000000_0C000000_07  -- SO
+    ++ hex 13 0x5356_0D000000_0E000000_0400_01  -- SV
+    ++ hex 19 0x454C_0F000000_10000000_03_000000000000F03F  -- EL
+    ++ hex 11 0x4549_11000000_12000000_04  -- EI
+    ++ hex 12 0x4556_13000000_14000000_0400  -- EV
+    ++ hex 11 0x454C_15000000_16000000_02  -- EL
+    ++ hex 10 0x5345_17000000_18000000  -- SE
+    ++ hex 12 0x4543_19000000_1A000000_0100  -- EC
+    ++ hex 12 0x4547_1B000000_1C000000_0500  -- EG
+    ++ hex 12 0x4556_1D000000_1E000000_0400  -- EV
+    ++ hex 13 0x454C_1F000000_20000000_04_0500  -- EL
+    ++ hex 12 0x4541_21000000_22000000_0400  -- EA
+    ++ hex 11 0x4550_23000000_24000000_01  -- EP
+    ++ hex 11 0x454C_25000000_26000000_01  -- EL
+    ++ hex 11 0x5349_27000000_28000000_01  -- SI
+    ++ hex 11 0x454C_29000000_2A000000_00  -- EL
+    ++ hex 12 0x5342_2B000000_2C000000_0000  -- SB
+    ++ hex 10 0x5350_2D000000_2E000000  -- SP
+    ++ hex 12 0x4553_2F000000_30000000_0500  -- ES
+    ++ hex 11 0x454C_31000000_32000000_02  -- EL
+    ++ hex 12 0x4556_33000000_34000000_0400  -- EV
+    ++ hex 10 0x5357_35000000_36000000  -- SW
+    ++ hex 11 0x454C_37000000_38000000_01  -- EL
+    ++ hex 12 0x5342_39000000_3A000000_0000  -- SB
+
+pub every-record-written : encode ((0x61 ∷ []) ∷ (0x62 ∷ []) ∷ []) every-record ≡ every-tree
+unfolding hex tree-encode.computes
+every-record-written = refl
+
+-- five deep and one function; with less of either, the record that is one too many
+pub every-record-read : read-tree every-tree 5 1 ≡ got every-record (length every-tree)
+unfolding hex entry.computes
+every-record-read = refl
+
+pub one-too-deep : read-tree every-tree 4 1 ≡ bad (TreeTooDeep 195)
+unfolding hex entry.computes
+one-too-deep = refl
+
+pub one-too-many : read-tree every-tree 5 0 ≡ bad (TooManyOpen 43)
+unfolding hex entry.computes
+one-too-many = refl
