@@ -25,8 +25,8 @@ use Rattle.stmt_output_laws.specs.Output.{funs-left, stmt-at, method-at, method
 use Rattle.stmt_output_laws.specs.Parts.{open-class, close-class, compile-method}
 use Rattle.stmt_output_laws.proofs.Growing.{Run, of-gave, of-grew, run-seq, run-refused-seq, grown, reached, refused}
 use Rattle.stmt_output_laws.proofs.Growing.{stopped, conclude, ready-after, Onward, onward-start, onward-step, onward-refused, onward-done}
-use Rattle.stmt_classes.specs.Classes.{inner, opening, closing, ClassHead, InnerClass, ClassOpened, ClassClosed}
-use Rattle.stmt_classes.proofs.Cut.{class-then-pop, class-grown, closes, free-closing, some-count}
+use Rattle.stmt_heads.specs.Classes.{inner, opening, closing, ClassHead, InnerClass, ClassOpened, ClassClosed}
+use Rattle.stmt_laws.proofs.ClassCut.{class-then-pop, class-grown, closes, free-closing, some-count}
 use Rattle.stmt_laws.proofs.Calls.{same-on}
 use Rattle.stmt_laws.proofs.Cuts.{no-methods-cut, methods-cut}
 use Rattle.stmt_laws.proofs.Blocks.{by-parts}

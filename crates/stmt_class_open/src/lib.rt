@@ -1,23 +1,17 @@
-// A class around its methods: what comes before them, what after, and what a method is. The methods themselves are compiled in between, by who calls this.
-ghost use mathlib.Core.Path.{_≡_};
+// A class up to its methods: its name, its superclass, and the class itself on the stack where there are methods.
 ghost use mathlib.Core.Option.{some};
 ghost use Prim.Native.Nat.{ℕ, _+_, _*_, _≤_, _<_};
 ghost use lib.ListN.{length, getD};
-ghost use lib.Dec.{ltb};
-ghost use Rattle.rules.specs.Base.{if_then_else_};
-ghost use Rattle.rules.specs.Op as ops;
-ghost use Rattle.rules.specs.Compiler.{done, method-type, emit-op, compile-superclass};
-ghost use Rattle.fields.specs.Words.{word8, word16};
-ghost use Rattle.state.specs.Layout.{deepest, type-of, depth-place, level-words};
-ghost use Rattle.steps.specs.View.{mem, Fit, steady, deeper, Did};
-ghost use Rattle.stmt_classes.specs.Classes.{ClassHead, superclass-of, InnerClass, SuperOpened, ClassOpened, ClassClosed};
+ghost use Rattle.rules.specs.Compiler.{compile-superclass};
+ghost use Rattle.state.specs.Layout.{deepest, depth-place, level-words};
+ghost use Rattle.steps.specs.View.{mem, Fit, deeper, Did};
+ghost use Rattle.stmt_heads.specs.Classes.{ClassHead, superclass-of, SuperOpened, ClassOpened};
 use fields::span_at;
 use fields::u8_at;
 use fields::u16_at;
 use op::Op;
 use rules::Name;
 use rules::Span;
-use state::Kind;
 use step_bytes::emit_op;
 use step_bytes::emit_op_name;
 use step_names::define_name;
@@ -25,34 +19,13 @@ use step_names::get_variable;
 use step_scopes::begin_scope;
 use step_scopes::declare_local;
 use step_scopes::define_local;
-use step_scopes::end_scope;
 use steps::Class;
 use steps::Step;
 use steps::Why;
+use stmt_heads::inner_class;
 
 // A class that inherits: the innermost one where its superclass is looked up.
 const HEIR: u8 = Class::WITH_SUPER;
-
-// What a method of this name is: `init` is an initializer.
-pub fn method_kind(name: u16) -> u8
-    ensures { λ r. ⌜ (type-of r ≡ method-type name) × (0 < r) ⌝ }
-{
-    if name == Name::INIT {
-        return Kind::INITIALIZER;
-    }
-    Kind::METHOD
-}
-
-// The class that the methods are in.
-pub fn inner_class(tree: &[u8], at: usize) -> u8
-    requires { ⌜ ClassHead (now tree) at ⌝ }
-    ensures { λ r. ⌜ InnerClass (now (tree .entry)) at r ⌝ }
-{
-    if u8_at(tree, at + 12) == 1 {
-        return Class::WITH_SUPER;
-    }
-    Class::ALONE
-}
 
 // ## The superclass
 
@@ -152,58 +125,4 @@ pub fn open_class(
     }
     let class = inner_class(tree, at);
     get_variable(t, code, spans, level, limit, class, name, span, first)
-}
-
-// The class goes from the stack where it had methods.
-fn drop_class(
-    tree: &[u8],
-    at: usize,
-    t: &mut [u64],
-    code: &mut [u8],
-    spans: &mut [u32],
-    level: usize,
-    limit: usize,
-    span: Span,
-    next: usize,
-) -> Step
-    requires { ⌜ (at + 15 ≤ length (now tree)) × (Fit (mem (now t) (now code) (now spans)) level limit) ⌝ }
-    ensures { λ r. ⌜ ((class : ℕ) → Did class limit level next steady (if ltb 0 (word16 (now (tree .entry)) (at + 13)) then emit-op limit ops.POP span else done) (mem (now (t .entry)) (now (code .entry)) (now (spans .entry))) (mem (now (t .exit)) (now (code .exit)) (now (spans .exit))) r) ⌝ }
-{
-    if u16_at(tree, at + 13) == 0 {
-        return Step::Next(next);
-    }
-    emit_op(t, code, spans, level, limit, Op::POP, span, next)
-}
-
-// A class after its methods.
-pub fn close_class(
-    tree: &[u8],
-    at: usize,
-    t: &mut [u64],
-    code: &mut [u8],
-    spans: &mut [u32],
-    level: usize,
-    limit: usize,
-    span: Span,
-    next: usize,
-) -> Step
-    requires { ⌜ (ClassHead (now tree) at) × (Fit (mem (now t) (now code) (now spans)) level limit) × (word8 (now tree) (at + 12) ≡ 1 → 0 < getD (now t) (level * level-words + depth-place) 0) ⌝ }
-    ensures { λ r. ⌜ ((class : ℕ) → ClassClosed class limit level (now (tree .entry)) at next span (mem (now (t .entry)) (now (code .entry)) (now (spans .entry))) (mem (now (t .exit)) (now (code .exit)) (now (spans .exit))) r) ⌝ }
-{
-    let a = drop_class(tree, at, t, code, spans, level, limit, span, next);
-    let Step::Next(_) = a else {
-        return a;
-    };
-    if u8_at(tree, at + 12) == 1 {
-        return end_scope(
-            t,
-            code,
-            spans,
-            level,
-            limit,
-            Span { start: 0, end: 0 },
-            next,
-        );
-    }
-    Step::Next(next)
 }

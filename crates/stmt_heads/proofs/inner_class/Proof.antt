@@ -1,9 +1,9 @@
 -- The class that the methods are in, by the flag.
 use mathlib.Core.Path.{sym, _∙_}
-use Rattle.stmt_classes.proofs.Heads.{inner-with, inner-without}
+use Rattle.stmt_heads.proofs.Heads.{inner-with, inner-without}
 use borrow.Author.Needs.{needs}
-use Rattle.stmt_classes.proofs.inner_class.Statement.{statement}
-use Rattle.stmt_classes.proofs.inner_class.Tie as tie
+use Rattle.stmt_heads.proofs.inner_class.Statement.{statement}
+use Rattle.stmt_heads.proofs.inner_class.Tie as tie
 
 add-u8-at : tie.Need-add-u8-at
 add-u8-at c = search needs

@@ -20,8 +20,8 @@ use Rattle.steps.proofs.Steps.{went, stuck, refused-seq, gave-refused-seq}
 use Rattle.stmt_output_laws.specs.Parts.{open-class, close-class}
 use Rattle.stmt_output_laws.specs.Output.{Grew}
 use Rattle.stmt_output_laws.proofs.Growing.{Run, of-gave, run-seq, run-refused-seq}
-use Rattle.stmt_classes.specs.Classes.{inner, opening, closing, ClassOpened, ClassClosed}
-use Rattle.stmt_classes.proofs.Cut.{class-then-pop, closes, free-closing, class-grown, some-count}
+use Rattle.stmt_heads.specs.Classes.{inner, opening, closing, ClassOpened, ClassClosed}
+use Rattle.stmt_laws.proofs.ClassCut.{class-then-pop, closes, free-closing, class-grown, some-count}
 use Rattle.steps.specs.declared.Why.{Why}
 
 -- what comes to another step from every state

@@ -1,9 +1,9 @@
 -- The class goes from the stack where there are methods.
 use mathlib.Core.Path.{sym, _∙_}
-use Rattle.stmt_classes.proofs.Closing.{drop-none, drop-one}
+use Rattle.stmt_class_close.proofs.Closing.{drop-none, drop-one}
 use borrow.Author.Needs.{needs}
-use Rattle.stmt_classes.proofs.drop_class.Statement.{statement}
-use Rattle.stmt_classes.proofs.drop_class.Tie as tie
+use Rattle.stmt_class_close.proofs.drop_class.Statement.{statement}
+use Rattle.stmt_class_close.proofs.drop_class.Tie as tie
 
 add-u16-at : tie.Need-add-u16-at
 add-u16-at c = search needs

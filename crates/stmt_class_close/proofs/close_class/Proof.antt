@@ -2,11 +2,11 @@
 use mathlib.Core.Path.{sym, _∙_}
 use Prim.Native.Nat.{ℕ, _<_}
 use Rattle.steps.proofs.Steps.{went}
-use Rattle.stmt_classes.proofs.Opening.{depth-on}
-use Rattle.stmt_classes.proofs.Closing.{close-stop, close-with, close-without}
+use Rattle.stmt_heads.proofs.Heads.{depth-on}
+use Rattle.stmt_class_close.proofs.Closing.{close-stop, close-with, close-without}
 use borrow.Author.Needs.{needs}
-use Rattle.stmt_classes.proofs.close_class.Statement.{statement}
-use Rattle.stmt_classes.proofs.close_class.Tie as tie
+use Rattle.stmt_class_close.proofs.close_class.Statement.{statement}
+use Rattle.stmt_class_close.proofs.close_class.Tie as tie
 
 drop-class-requires : tie.Need-drop-class-requires
 drop-class-requires c κs = search needs

@@ -1,8 +1,8 @@
 -- What a method is, by its name.
 use borrow.Author.Needs.{needs}
-use Rattle.stmt_classes.proofs.Heads.{init-kind, other-kind}
-use Rattle.stmt_classes.proofs.method_kind.Statement.{statement}
-use Rattle.stmt_classes.proofs.method_kind.Tie as tie
+use Rattle.stmt_heads.proofs.Heads.{init-kind, other-kind}
+use Rattle.stmt_heads.proofs.method_kind.Statement.{statement}
+use Rattle.stmt_heads.proofs.method_kind.Tie as tie
 
 returns : tie.Need-returns
 returns c = (init-kind _ (c .if1 .taken), search needs)

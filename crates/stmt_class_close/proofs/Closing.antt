@@ -17,8 +17,8 @@ use Rattle.steps.specs.declared.Step.the-variants.{Next, Stop}
 use Rattle.steps.proofs.Steps.{went, next, halt, then-on, chosen, otherwise}
 use Rattle.steps.proofs.Monad.{nothing}
 use Rattle.stmt_output_laws.specs.Parts.{close-class}
-use Rattle.stmt_classes.specs.Classes.{closing, ClassClosed}
-use Rattle.stmt_classes.proofs.Heads.{with-super, without-super, no-count, a-count}
+use Rattle.stmt_heads.specs.Classes.{closing, ClassClosed}
+use Rattle.stmt_heads.proofs.Heads.{with-super, without-super, no-count, a-count}
 use Rattle.steps.specs.declared.Why.{Why}
 
 -- the class goes from the stack

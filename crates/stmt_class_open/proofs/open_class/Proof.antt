@@ -4,10 +4,11 @@ use Prim.Native.Nat.{ℕ, _<_}
 use native.Mathlib.Omega.{arith}
 use Rattle.state.specs.Layout.{deepest}
 use Rattle.steps.proofs.Steps.{went}
-use Rattle.stmt_classes.proofs.Opening.{class-stop, class-stop-2, class-stop-3, class-bare, class-full, opened-fit, depth-on}
+use Rattle.stmt_heads.proofs.Heads.{depth-on}
+use Rattle.stmt_class_open.proofs.Opening.{class-stop, class-stop-2, class-stop-3, class-bare, class-full, opened-fit}
 use borrow.Author.Needs.{needs}
-use Rattle.stmt_classes.proofs.open_class.Statement.{statement}
-use Rattle.stmt_classes.proofs.open_class.Tie as tie
+use Rattle.stmt_class_open.proofs.open_class.Statement.{statement}
+use Rattle.stmt_class_open.proofs.open_class.Tie as tie
 
 add-u16-at : tie.Need-add-u16-at
 add-u16-at c = search needs

@@ -1,10 +1,10 @@
 -- The superclass by the flag: there is one, or none.
 use mathlib.Core.Path.{sym, _∙_}
-use Rattle.stmt_classes.proofs.Heads.{head-room}
-use Rattle.stmt_classes.proofs.Opening.{superclass-there, superclass-none}
+use Rattle.stmt_heads.proofs.Heads.{head-room}
+use Rattle.stmt_class_open.proofs.Opening.{superclass-there, superclass-none}
 use borrow.Author.Needs.{needs}
-use Rattle.stmt_classes.proofs.superclass.Statement.{statement}
-use Rattle.stmt_classes.proofs.superclass.Tie as tie
+use Rattle.stmt_class_open.proofs.superclass.Statement.{statement}
+use Rattle.stmt_class_open.proofs.superclass.Tie as tie
 
 add-u8-at : tie.Need-add-u8-at
 add-u8-at c = search needs

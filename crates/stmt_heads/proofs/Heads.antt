@@ -1,23 +1,27 @@
--- What a class's flag says of its superclass, and so of the class that the methods are in.
+-- What a class's flag says of its superclass, and so of the class that the methods are in; what a method is; the depth that `super` needs.
 use mathlib.Core.Path.{_≡_, sym, ap, ap₂, subst, _∙_}
 use mathlib.Core.Bool.{Bool, true, false}
 use mathlib.Core.Option.{Option, none, some}
 use mathlib.Core.List.{List}
 use mathlib.Core.Logic.{⊎-elim}
-use Prim.Native.Nat.{ℕ, _+_, _-_, _≤_, _<_}
+use Prim.Native.Nat.{ℕ, _+_, _-_, _*_, _≤_, _<_}
 use native.Mathlib.Omega.{arith}
-use lib.ListN.{length}
+use lib.ListN.{length, getD}
 use lib.Dec.{ltb}
 use borrow.Author.Tests.{eq-eqb, ne-eqb, lt-ltb}
 use Rattle.rules.specs.Base.{if_then_else_, lookup}
 use Rattle.rules.specs.Tree.{init, Superclass, Stmt}
 use Rattle.rules.specs.Reader.{got}
 use Rattle.rules.specs.TreeFile.{flags, maybe, read-superclass, read-stmt}
-use Rattle.rules.specs.Compiler.{Initializer, Method, method-type, is-some}
+use Rattle.rules.specs.Compiler.{Compile, Initializer, Method, method-type, is-some}
 use Rattle.fields.specs.Words.{word8, word16, letters, span-of}
-use Rattle.state.specs.Layout.{type-of}
+use Rattle.state.specs.Layout.{type-of, depth-place, level-words}
+use Rattle.steps.specs.View.{mem, depth-at, steady, Did}
+use Rattle.steps.specs.declared.Step.{Step}
+use Rattle.steps.specs.declared.Step.the-variants.{Next}
+use Rattle.steps.proofs.Steps.{went}
 use Rattle.tree_laws.proofs.Statements.{flag-on, flag-off, flag-is, maybe-yes, maybe-no, class-at, superclass-at}
-use Rattle.stmt_classes.specs.Classes.{inner, ClassHead, superclass-of, InnerClass}
+use Rattle.stmt_heads.specs.Classes.{inner, ClassHead, superclass-of, InnerClass}
 use Rattle.fields.specs.Marks as marks
 
 -- where a class was read its head stands
@@ -105,3 +109,12 @@ init-kind name h = sym (ap (λ (b : Bool). if b then Initializer else Method) (e
 pub other-kind : (name : ℕ) → (name ≡ init → ⊥) → type-of 2 ≡ method-type name
 unfolding type-of
 other-kind name h = sym (ap (λ (b : Bool). if b then Initializer else Method) (ne-eqb name init h))
+
+-- ## The depth
+
+-- what holds of the depth holds after a step that begins and ends no scope
+pub depth-on : (P : ℕ → Type 0) {class limit l n v : ℕ} {m : Compile Unit} {t code spans t′ code′ spans′ : List ℕ} {r : Step} → Did class limit l n steady m
+    (mem t code spans) (mem t′ code′ spans′) r → r ≡ Next v
+    → P (getD t (l * level-words + depth-place) 0) → P (getD t′ (l * level-words + depth-place) 0)
+unfolding depth-at
+depth-on P d q h = subst P (sym (went d q .ahead .deep)) h

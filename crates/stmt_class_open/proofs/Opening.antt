@@ -3,8 +3,7 @@ use mathlib.Core.Path.{_≡_, refl, sym, ap, ap₂, subst, _∙_}
 use mathlib.Core.Bool.{Bool, true, false, not}
 use mathlib.Core.Option.{Option, some}
 use mathlib.Core.List.{List, _∷_}
-use Prim.Native.Nat.{ℕ, _+_, _*_}
-use lib.ListN.{getD}
+use Prim.Native.Nat.{ℕ, _+_}
 use lib.Dec.{ltb, eqb}
 use borrow.Author.Tests.{eq-eqb, ne-eqb}
 use Rattle.rules.specs.Base.{if_then_else_, lookup}
@@ -18,15 +17,14 @@ use Rattle.rules.specs.Op as op
 use Rattle.rules.specs.Chunk.{CS}
 use Rattle.rules.specs.Compiler.{ok, Compile, _>>_, done, is-some, push-class-ctx, begin-scope, declare-local, define-local, emit-op, emit-op-constant, get-variable, define-name, compile-superclass}
 use Rattle.fields.specs.Words.{word8, word16, span-of}
-use Rattle.steps.specs.View.{Mem, mem, Rest, view, top-class, Fit, depth-at, steady, deeper, Gave, Did, Changed, Tried}
+use Rattle.steps.specs.View.{Mem, mem, Rest, view, top-class, Fit, steady, deeper, Gave, Did, Changed, Tried}
 use Rattle.steps.specs.declared.Step.{Step}
 use Rattle.steps.specs.declared.Step.the-variants.{Next, Stop}
 use Rattle.steps.proofs.Steps.{went, valued, next-at, stop, halt, then-on, did-seq, refused-seq, ask-seq, passed, failed, chosen, otherwise, turn}
 use Rattle.steps.proofs.Monad.{nothing, on-to}
 use Rattle.stmt_output_laws.specs.Parts.{open-class}
-use Rattle.stmt_classes.specs.Classes.{inner, entering, scoping, opening, ClassHead, superclass-of, InnerClass, SuperOpened, ClassOpened}
-use Rattle.stmt_classes.proofs.Heads.{with-super, without-super, no-count, a-count}
-use Rattle.state.specs.Layout.{depth-place, level-words}
+use Rattle.stmt_heads.specs.Classes.{inner, entering, scoping, opening, ClassHead, superclass-of, InnerClass, SuperOpened, ClassOpened}
+use Rattle.stmt_heads.proofs.Heads.{with-super, without-super, no-count, a-count}
 use Rattle.steps.proofs.Jumps.{ahead-none}
 use Rattle.steps.specs.declared.Why.{Why}
 use Rattle.steps.specs.Why.{class-inherit-from-self, refusal-of}
@@ -168,10 +166,3 @@ module _ {class limit l : ℕ} (tree : List ℕ) (at : ℕ) (span : Span) (name 
 pub opened-fit : {limit l name v : ℕ} (tree : List ℕ) (at : ℕ) {span : Span} {before now : Mem} {r : Step} → ClassHead tree at → SuperOpened limit l name tree
     at span before now r → r ≡ Next v → Fit now l limit
 opened-fit tree at h c q = went (c .did (h .depth) (h .has) (h .super) (h .mid) (h .look) (h .one)) q .ahead .fit
-
--- what holds of the depth holds after a step that begins and ends no scope
-pub depth-on : (P : ℕ → Type 0) {class limit l n v : ℕ} {m : Compile Unit} {t code spans t′ code′ spans′ : List ℕ} {r : Step} → Did class limit l n steady m
-    (mem t code spans) (mem t′ code′ spans′) r → r ≡ Next v
-    → P (getD t (l * level-words + depth-place) 0) → P (getD t′ (l * level-words + depth-place) 0)
-unfolding depth-at
-depth-on P d q h = subst P (sym (went d q .ahead .deep)) h

@@ -2,10 +2,10 @@
 use mathlib.Core.Path.{_∙_}
 use native.Mathlib.Omega.{arith}
 use Rattle.steps.proofs.Steps.{went, halt, then-on}
-use Rattle.stmt_classes.proofs.Opening.{begun-fit, declared-fit, defined-fit, inherit-self, inherit-stop, inherit-done}
+use Rattle.stmt_class_open.proofs.Opening.{begun-fit, declared-fit, defined-fit, inherit-self, inherit-stop, inherit-done}
 use borrow.Author.Needs.{needs}
-use Rattle.stmt_classes.proofs.inherit.Statement.{statement}
-use Rattle.stmt_classes.proofs.inherit.Tie as tie
+use Rattle.stmt_class_open.proofs.inherit.Statement.{statement}
+use Rattle.stmt_class_open.proofs.inherit.Tie as tie
 
 add-u16-at : tie.Need-add-u16-at
 add-u16-at c = search needs

@@ -22,7 +22,7 @@ use Rattle.stmt_output_laws.specs.Parts.{open-class, close-class}
 use Rattle.stmt_output_laws.specs.Output.{more, Grew}
 use Rattle.stmt_output_laws.proofs.Growing.{turned, Run, Free}
 use Rattle.steps.proofs.Monad.{regroup, later}
-use Rattle.stmt_classes.specs.Classes.{entering, opening, closing}
+use Rattle.stmt_heads.specs.Classes.{entering, opening, closing}
 
 -- ## The whole
 
