@@ -19,7 +19,7 @@ use Rattle.steps.specs.View.{Mem, depth-at, steady, Refused, Did}
 use Rattle.steps.specs.declared.Step.{Step}
 use Rattle.steps.specs.declared.Step.the-variants.{Next, Stop}
 use Rattle.steps.proofs.Steps.{went, valued, stuck, refused-seq}
-use Rattle.expr_parts.specs.Exprs.{There}
+use Rattle.expr_laws.specs.Exprs.{There}
 use Rattle.steps.proofs.Monad.{on-to}
 use Rattle.stmt_output_laws.specs.Output.{funs-left, stmt-at, method-at, methods-at, Grew, Walked, Ready}
 use Rattle.stmt_output_laws.specs.Parts.{open-class, close-class, compile-method}
