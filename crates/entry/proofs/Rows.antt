@@ -11,7 +11,7 @@ use Rattle.steps.specs.Why.{refusal-of}
 use Rattle.steps.specs.declared.Why.{Why}
 use Rattle.steps.specs.declared.Step.{Step}
 use Rattle.steps.specs.declared.Step.the-variants.{Next, Stop}
-use Rattle.expr_parts.specs.Exprs.{There}
+use Rattle.expr_laws.specs.Exprs.{There}
 use Rattle.stmt_output_laws.specs.Output.{funs-left}
 use Rattle.tree.specs.Checked.{checked-file}
 use Rattle.tree.specs.declared.Checked.{Checked}

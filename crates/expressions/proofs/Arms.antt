@@ -25,11 +25,11 @@ use Rattle.steps.specs.View.{Mem, Fit, code-len, steady, Gave, Refused, Did}
 use Rattle.steps.proofs.Steps.{went, valued, still, stop, halt, then-on, did-bind, did-seq, refused-bind, refused-seq, gave-refused-seq}
 use Rattle.steps.specs.declared.Step.{Step}
 use Rattle.steps.specs.declared.Step.the-variants.{Next, Stop}
-use Rattle.expr_parts.specs.Exprs.{There, Somewhere, expr-at, Ran, PrefixOp, before-right, after-right, BegunAs, BegunBy, Begun, Closed, callee-of, parts, first-part, part-count, call-open}
-use Rattle.expr_parts.specs.Exprs.{call-close, CallOpened, CallParts, CallClosed}
+use Rattle.expr_laws.specs.Exprs.{There, Somewhere, expr-at, Ran, PrefixOp, before-right, after-right, BegunAs, BegunBy, Begun, Closed, callee-of, parts, first-part, part-count, call-open}
+use Rattle.expr_laws.specs.Exprs.{call-close, CallOpened, CallParts, CallClosed}
 use Rattle.steps.proofs.Monad.{like, on-to}
-use Rattle.expr_parts.proofs.Operators.{infix-cut}
-use Rattle.expr_parts.proofs.Calls.{call-cut, first-on, parts-read, Walk, walk-stop, walk-done}
+use Rattle.expr_laws.proofs.Operators.{infix-cut}
+use Rattle.expr_laws.proofs.Calls.{call-cut, first-on, parts-read, Walk, walk-stop, walk-done}
 use Rattle.fields.specs.Marks as marks
 use Rattle.steps.specs.declared.Why.{Why}
 

@@ -13,7 +13,7 @@ use Rattle.tree_laws.proofs.Statements.{for-at}
 use Rattle.steps.specs.View.{Mem, mem, Fit, code-len, steady, deeper, shallower, Gave, Did, Measured}
 use Rattle.steps.specs.declared.Step.{Step}
 use Rattle.steps.specs.declared.Step.the-variants.{Next, Stop}
-use Rattle.expr_parts.specs.Exprs.{There}
+use Rattle.expr_laws.specs.Exprs.{There}
 use Rattle.stmt_output_laws.specs.Output.{funs-left, stmts-at, Walked, Ready}
 use Rattle.stmt_jumps.specs.Jumps.{close-loop}
 use Rattle.stmt_loops.specs.Loops.{cond-at, incr-at, place-of, CondThere, IncrThere, Conditioned, Incremented}

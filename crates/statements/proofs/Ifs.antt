@@ -12,7 +12,7 @@ use Rattle.tree_laws.proofs.Statements.{if-at, flag-is}
 use Rattle.steps.specs.View.{Mem, Fit, code-len, steady, Did, Opened}
 use Rattle.steps.specs.declared.Step.{Step}
 use Rattle.steps.specs.declared.Step.the-variants.{Next, Stop}
-use Rattle.expr_parts.specs.Exprs.{There, Somewhere, expr-at, Ran}
+use Rattle.expr_laws.specs.Exprs.{There, Somewhere, expr-at, Ran}
 use Rattle.stmt_jumps.specs.Jumps.{open-jump, turn-jump}
 use Rattle.stmt_output_laws.specs.Output.{funs-left, stmts-at, Walked, Ready}
 use Rattle.stmt_laws.proofs.Calls as calls

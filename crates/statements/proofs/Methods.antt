@@ -16,11 +16,11 @@ use Rattle.steps.specs.View.{Mem, mem, Fit, steady, Did}
 use Rattle.steps.specs.declared.Step.{Step}
 use Rattle.steps.specs.declared.Step.the-variants.{Next, Stop}
 use Rattle.steps.proofs.Steps.{valued}
-use Rattle.expr_parts.specs.Exprs.{There}
+use Rattle.expr_laws.specs.Exprs.{There}
 use Rattle.stmt_output_laws.specs.Output.{funs-left, stmt-at, method-at, methods-at, Walked}
 use Rattle.stmt_output_laws.specs.Parts.{compile-method}
 use Rattle.stmt_output_laws.proofs.Growing.{reached}
-use Rattle.stmt_classes.specs.Classes.{ClassHead, InnerClass, ClassOpened, ClassClosed}
+use Rattle.stmt_heads.specs.Classes.{ClassHead, InnerClass, ClassOpened, ClassClosed}
 use Rattle.stmt_laws.proofs.Calls as calls
 use Rattle.stmt_laws.proofs.Classes as ways
 use Rattle.stmt_laws.proofs.Functions as functions

@@ -15,10 +15,10 @@ use Rattle.state.specs.Layout.{type-of}
 use Rattle.steps.specs.View.{Mem}
 use Rattle.steps.specs.declared.Step.{Step}
 use Rattle.steps.specs.declared.Step.the-variants.{Next, Stop}
-use Rattle.expr_parts.specs.Exprs.{There}
+use Rattle.expr_laws.specs.Exprs.{There}
 use Rattle.stmt_output_laws.specs.Output.{funs-left, stmt-at, stmts-at, fun-at, Walked, Ready}
 use Rattle.stmt_output_laws.proofs.Growing.{reached}
-use Rattle.stmt_plain.specs.Plain.{Plainly}
+use Rattle.stmt_plain_laws.specs.Plain.{Plainly}
 use Rattle.stmt_laws.proofs.Calls as calls
 use Rattle.stmt_laws.proofs.Rows as rows
 use Rattle.statements.specs.Walk.{StmtThere, StmtDone, RowThere, RowDone, FunDone}

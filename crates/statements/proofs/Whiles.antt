@@ -10,7 +10,7 @@ use Rattle.fields.specs.Words.{letters, span-of}
 use Rattle.steps.specs.View.{Mem, mem, Fit, code-len, steady, Did, Opened, Measured}
 use Rattle.steps.specs.declared.Step.{Step}
 use Rattle.steps.specs.declared.Step.the-variants.{Next, Stop}
-use Rattle.expr_parts.specs.Exprs.{Somewhere, expr-at, Ran}
+use Rattle.expr_laws.specs.Exprs.{Somewhere, expr-at, Ran}
 use Rattle.stmt_jumps.specs.Jumps.{open-jump}
 use Rattle.stmt_jumps.specs.Jumps.{close-loop}
 use Rattle.stmt_laws.proofs.Whiles as ways

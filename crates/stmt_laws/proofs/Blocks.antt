@@ -16,7 +16,7 @@ use Rattle.steps.specs.View.{Mem, Fit, steady, deeper, shallower, depth-at, Gav
 use Rattle.steps.specs.declared.Step.{Step}
 use Rattle.steps.specs.declared.Step.the-variants.{Next, Stop}
 use Rattle.steps.proofs.Steps.{refused-seq, one-up-one-down}
-use Rattle.expr_parts.specs.Exprs.{There}
+use Rattle.expr_laws.specs.Exprs.{There}
 use Rattle.steps.proofs.Monad.{on-to}
 use Rattle.stmt_output_laws.specs.Output.{funs-left, stmt-at, stmts-at, Worked, Walked, Ready}
 use Rattle.stmt_output_laws.proofs.Growing.{Run, Free, of-gave, of-grew, to-grew, run-seq, run-refused-seq, grown, reached, refused, stopped, conclude, worked-like, ready-after}

@@ -19,14 +19,14 @@ use Rattle.steps.specs.View.{Mem, depth-at, steady, Refused, Did}
 use Rattle.steps.specs.declared.Step.{Step}
 use Rattle.steps.specs.declared.Step.the-variants.{Next, Stop}
 use Rattle.steps.proofs.Steps.{went, valued, stuck, refused-seq}
-use Rattle.expr_parts.specs.Exprs.{There}
+use Rattle.expr_laws.specs.Exprs.{There}
 use Rattle.steps.proofs.Monad.{on-to}
 use Rattle.stmt_output_laws.specs.Output.{funs-left, stmt-at, method-at, methods-at, Grew, Walked, Ready}
 use Rattle.stmt_output_laws.specs.Parts.{open-class, close-class, compile-method}
 use Rattle.stmt_output_laws.proofs.Growing.{Run, of-gave, of-grew, run-seq, run-refused-seq, grown, reached, refused}
 use Rattle.stmt_output_laws.proofs.Growing.{stopped, conclude, ready-after, Onward, onward-start, onward-step, onward-refused, onward-done}
-use Rattle.stmt_classes.specs.Classes.{inner, opening, closing, ClassHead, InnerClass, ClassOpened, ClassClosed}
-use Rattle.stmt_classes.proofs.Cut.{class-then-pop, class-grown, closes, free-closing, some-count}
+use Rattle.stmt_heads.specs.Classes.{inner, opening, closing, ClassHead, InnerClass, ClassOpened, ClassClosed}
+use Rattle.stmt_laws.proofs.ClassCut.{class-then-pop, class-grown, closes, free-closing, some-count}
 use Rattle.stmt_laws.proofs.Calls.{same-on}
 use Rattle.stmt_laws.proofs.Cuts.{no-methods-cut, methods-cut}
 use Rattle.stmt_laws.proofs.Blocks.{by-parts}

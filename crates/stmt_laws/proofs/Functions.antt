@@ -23,7 +23,7 @@ use Rattle.steps.specs.View.{Mem, mem, t-of, Rest, view, Agrees, Fit, code-len,
 use Rattle.steps.specs.declared.Step.{Step}
 use Rattle.steps.specs.declared.Step.the-variants.{Next, Stop}
 use Rattle.steps.proofs.Steps.{seq-ok, seq-err, refused-seq}
-use Rattle.expr_parts.specs.Exprs.{There}
+use Rattle.expr_laws.specs.Exprs.{There}
 use Rattle.steps.proofs.Monad.{on-to}
 use Rattle.stmt_output_laws.specs.Output.{funs-left, stmt-at, stmts-at, fun-at, largest, Holds, Added, more, grow, Grew, WorkedAs, Worked, Walked, Ready}
 use Rattle.stmt_output_laws.specs.Output as output

@@ -22,7 +22,7 @@ use Rattle.steps.specs.View.{Mem, Fit, code-len, depth-at, steady, Gave, Refuse
 use Rattle.steps.specs.declared.Step.{Step}
 use Rattle.steps.specs.declared.Step.the-variants.{Next, Stop}
 use Rattle.steps.proofs.Steps.{went, still, valued, stuck, went-to, placed, stuck-to, refused-seq, refused-bind}
-use Rattle.expr_parts.specs.Exprs.{There, expr-at, Ran}
+use Rattle.expr_laws.specs.Exprs.{There, expr-at, Ran}
 use Rattle.stmt_jumps.specs.Jumps.{open-jump, turn-jump}
 use Rattle.steps.proofs.Monad.{on-to}
 use Rattle.stmt_output_laws.specs.Output.{funs-left, stmt-at, stmts-at, Grew, Worked, Walked, Ready}

@@ -14,7 +14,7 @@ use Rattle.steps.specs.View.{Mem, Fit, depth-at, Refused}
 use Rattle.steps.specs.declared.Step.{Step}
 use Rattle.steps.specs.declared.Step.the-variants.{Next, Stop}
 use Rattle.steps.proofs.Steps.{refused-seq}
-use Rattle.expr_parts.specs.Exprs.{There}
+use Rattle.expr_laws.specs.Exprs.{There}
 use Rattle.stmt_output_laws.specs.Output.{funs-left, stmt-at, stmts-at, Grew, Worked, Walked, Ready}
 use Rattle.stmt_output_laws.proofs.Growing.{of-grew, ready-after, grown, reached, refused, worked, stopped, Onward, onward-start, onward-step, onward-refused, onward-done}
 use Rattle.stmt_laws.proofs.Cuts.{none-cut, row-cut}

@@ -18,7 +18,7 @@ use Rattle.steps.specs.View.{Mem, Fit, steady, Gave, Refused, Did, Opened}
 use Rattle.steps.specs.declared.Step.{Step}
 use Rattle.steps.specs.declared.Step.the-variants.{Next, Stop}
 use Rattle.steps.proofs.Steps.{went, valued, stuck, went-to, placed, stuck-to, next-at, halt, then-on, refused-bind, refused-seq, gave-bind, gave-seq, gave-refused-seq}
-use Rattle.expr_parts.specs.Exprs.{There, Somewhere, expr-at, Ran}
+use Rattle.expr_laws.specs.Exprs.{There, Somewhere, expr-at, Ran}
 use Rattle.stmt_jumps.specs.Jumps.{open-jump}
 use Rattle.steps.proofs.Monad.{on-to, returned, nothing}
 use Rattle.stmt_jumps.proofs.Jumps.{open-cut}
