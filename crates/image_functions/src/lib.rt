@@ -11,7 +11,7 @@ ghost use Rattle.image_records.specs.Told.{code-told};
 ghost use Rattle.image_constants.specs.Words.{stamps-least};
 ghost use Rattle.image_constants.specs.Earlier.{Counts};
 ghost use Rattle.image_functions.specs.declared.Done.the-variants as done;
-ghost use Rattle.image_functions.specs.Judged.{Constants-right, code-done, Judged, Next-is, functions-done};
+ghost use Rattle.image_functions.specs.Judged.{Constants-right, code-done, Judged, Next-is, functions-done, small-size};
 use image_code::Verdict;
 use image_code::WINDOW;
 use image_records::Head;
@@ -19,7 +19,7 @@ use image_records::Header;
 use image_records::Place;
 use image_records::Summed;
 
-// An image of at most this many bytes is small.
+// An image of at most this many bytes is small: it pays for small tables only.
 const SMALL: usize = 4096;
 
 // How many instructions a function has, and where it ends.
@@ -257,17 +257,17 @@ fn small_lent(
     stamps: &mut [u32; 512],
     ring: &mut [u8; SMALL],
 ) -> Verdict
-    requires { ⌜ (count < 4294967296) × ((6 ≤ length (now s)) × (length (now s) ≤ 4096)) ⌝ }
-    requires { ⌜ (length (now stamps) ≡ 512) × (length (now ring) ≡ 4096) ⌝ }
+    requires { ⌜ (count < 4294967296) × ((6 ≤ length (now s)) × (length (now s) ≤ small-size)) ⌝ }
+    requires { ⌜ (length (now stamps) ≡ 512) × (length (now ring) ≡ small-size) ⌝ }
     ensures { λ r. ⌜ r ≡ functions-done 0 [] (length (now (s .entry))) (many count (read-function (now (s .entry))) 6) ⌝ }
 {
     judge_with(s, count, counts, stamps, ring)
 }
 
-// Tables are made of zeros, which takes a small image longer than its reading: so it gets small ones. No code of it is longer than the ring, and
-// where a table of stamps or counts has no room, another way is taken.
+// Tables are made of zeros, which takes a small image longer than its reading: so it gets small ones. No code of it is longer than its ring, and
+// with 19 bytes and more to each it has less than 256 functions.
 fn judge_small(s: &[u8], count: usize) -> Verdict
-    requires { ⌜ (count < 4294967296) × ((6 ≤ length (now s)) × (length (now s) ≤ 4096)) ⌝ }
+    requires { ⌜ (count < 4294967296) × ((6 ≤ length (now s)) × (length (now s) ≤ small-size)) ⌝ }
     ensures { λ r. ⌜ r ≡ functions-done 0 [] (length (now (s .entry))) (many count (read-function (now (s .entry))) 6) ⌝ }
 {
     let mut counts = [0u16; 256];

@@ -4,6 +4,7 @@ use native.Mathlib.Omega.{arith}
 use mathlib.Core.Path.{_≡_, _∙_}
 use lib.ListN.{length}
 use Rattle.image_functions.proofs.One.{blank-size}
+use Rattle.image_functions.specs.Judged.{small-size}
 use borrow.Author.Needs.{needs}
 use Rattle.image_functions.proofs.judge_small.Statement.{statement}
 use Rattle.image_functions.proofs.judge_small.Tie as tie
@@ -19,7 +20,7 @@ start-of-ring c = start-of-shared-slice-known (c .before .before .before)
 -- ## Needs
 
 small-lent-requires : tie.Need-small-lent-requires
-small-lent-requires c κs = (start-of-ring c .pre, (blank-size 512, blank-size 4096))
+small-lent-requires c κs = (start-of-ring c .pre, (blank-size 512, blank-size small-size))
 
 returns : tie.Need-returns
 returns c = c .small-lent .ensures
