@@ -1,5 +1,5 @@
-/* Puffbramble's functions for C, in the archive libc_entry.a (x86-64 Linux; `rt staticlib c_entry` writes it). What they answer is proved
- * in crates/c_entry for all bytes and numbers: none is refused a call. What the caller owes is what C asks of any pointer.
+/* Puffbramble's functions for C, in the archive libpuffbramble.a (x86-64 Linux; `rt staticlib puffbramble` writes it). What they answer is proved
+ * in crates/puffbramble for all bytes and numbers: none is refused a call. What the caller owes is what C asks of any pointer.
  *
  * Lent memory. A pointer stands with the number of elements behind it (of bytes for uint8_t, of words of four bytes for uint32_t, of eight for
  * uint64_t); the memory must be readable for the whole call, and writable where the pointer is not to const; nobody else may use it meanwhile, no
@@ -79,8 +79,9 @@ enum pb_number {
  *   spans, spans_words  a work area for their span runs: PB_SPAN_WORDS(tree_len) is enough
  *
  * Every lent byte is cleared, so a smaller room takes less time. The sizes named PB_FIRST_.. are enough for ordinary scripts: lend them first,
- * and where the answer is 30 or 31 call again with the sizes that are enough for every file. That gives what one call with these would have
- * given: a larger room changes no answer but 1, 30 and 31 (proved, docs/PROMISES.md).
+ * and where the answer is 30 or 31 call again with the sizes that are enough for every file. That gives what one call with the latter would have
+ * given: two rooms that both answer none of 1, 30 and 31 give the same answer and image, whichever has more of what, and the room for every file
+ * answers so where any room does (proved, docs/PROMISES.md). For a file of fewer than 95 bytes the first room has more code bytes than the other.
  *
  * What the areas hold before the call does not matter. Answers, in this order:
  *   1            the table is too short

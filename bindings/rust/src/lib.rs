@@ -71,8 +71,8 @@ impl Areas {
     }
 }
 
-/// Compiles a tree file to an image, in memory of its own: in the first room, and where that is too small in one that is enough. A larger room
-/// changes no answer but a shortage.
+/// Compiles a tree file to an image, in memory of its own: in the first room, and where that is too small in one that is enough. Where
+/// the first is enough, the other gives the same.
 pub fn compile(tree: &[u8]) -> Result<Vec<u8>, Refusal> {
     match compile_with(tree, Sizes::first(tree.len())) {
         Err(Refusal::CodeFull | Refusal::OutFull { .. }) => compile_with(tree, Sizes::enough(tree.len())),

@@ -128,7 +128,7 @@ fn agrees(
     code: &mut [u8],
     spans: &mut [u32],
 ) -> bool {
-    let a = c_entry::puffbramble_compile(tree, out, table, code, spans);
+    let a = entry::compile(tree, out, table, code, spans);
     if !same_answer(a, told) {
         return false;
     }

@@ -5,7 +5,6 @@ use Prim.Native.Nat.{ℕ, _+_, _*_, _/_, _≤_, min}
 use native.Mathlib.Omega.{arith}
 use native.Mathlib.Nat.{le-refl, min-le-left, min-le-right}
 use lib.ListN.{length, getD, replicate, length-append}
-use Rattle.rules.specs.declared.Refusal.{Refusal}
 use Rattle.rules.specs.Limits.{max-tree, max-code}
 use Rattle.rules.specs.Tree.{Stmts}
 use Rattle.rules.specs.Reader.{got}
@@ -15,6 +14,8 @@ use Rattle.rules.specs.Compiler.{Compiler, new, Outcome, ok, Compile, the, fini
 use Rattle.rules.specs.Entry.{Compiled, functions-are, refused, from-outcome}
 use Rattle.state.specs.Layout.{image-at, ctxAt}
 use Rattle.steps.specs.View.{mem, Rest, view, Agrees, Fit, depth-at, Turn, steady, _⨾_, Gave, Refused, Did, Started}
+use Rattle.steps.specs.Why.{refusal-of}
+use Rattle.steps.specs.declared.Why.{Why}
 use Rattle.steps.specs.declared.Step.{Step}
 use Rattle.steps.specs.declared.Step.the-variants.{Next, Stop}
 use Rattle.steps.proofs.Steps.{went, stuck, refused-seq, gave-seq, gave-refused-seq, seq-ok, seq-err}
@@ -73,7 +74,7 @@ module _ {t code spans out : List ℕ} {limit : ℕ} (clean : Clean t code spans
   from-new m {o} e = subst (λ (s : Compiler). m s ≡ o) (clean .started .is code spans) e
 
   module _ (stmts : Stmts) where
-    refused-script : {x : Refusal} → Refused 0 0 (compile-script limit stmts) (mem t code spans) x → from-outcome (compile-functions limit stmts) ≡ refused x
+    refused-script : {x : Why} → Refused 0 0 (compile-script limit stmts) (mem t code spans) x → from-outcome (compile-functions limit stmts) ≡ refused (refusal-of x)
     unfolding compile-functions from-outcome
     refused-script h = ap from-outcome (seq-err (compile-script limit stmts) new _ (from-new (compile-script limit stmts) (h .refuses none-yet first-agrees)))
 
@@ -89,7 +90,7 @@ module _ {t code spans out : List ℕ} {limit : ℕ} (clean : Clean t code spans
     -- ## By its parts
 
     module _ {at n : ℕ} {t₁ code₁ spans₁ out₁ : List ℕ} {a : Step} (w : Worked 0 limit 0 at n (compile-stmts limit stmts) (mem t code spans) out (mem t₁ code₁ spans₁) out₁ a) where
-      script-first : {x : Refusal} → a ≡ Stop x → from-outcome (compile-functions limit stmts) ≡ refused x
+      script-first : {x : Why} → a ≡ Stop x → from-outcome (compile-functions limit stmts) ≡ refused (refusal-of x)
       unfolding compile-script
       script-first q = refused-script (refused-seq (growing.refused w q) _)
 
@@ -101,7 +102,7 @@ module _ {t code spans out : List ℕ} {limit : ℕ} (clean : Clean t code spans
         fit-then = grew .gave .ahead .fit
 
         module _ {k : ℕ} {t₂ code₂ spans₂ : List ℕ} {b : Step} (d : Did 0 limit 0 k steady (script-end limit) (mem t₁ code₁ spans₁) (mem t₂ code₂ spans₂) b) where
-          script-second : {x : Refusal} → b ≡ Stop x → from-outcome (compile-functions limit stmts) ≡ refused x
+          script-second : {x : Why} → b ≡ Stop x → from-outcome (compile-functions limit stmts) ≡ refused (refusal-of x)
           unfolding compile-script
           script-second p = refused-script (gave-refused-seq (grew .gave) _ (stuck d p))
 
@@ -148,7 +149,7 @@ module _ {tree t code spans out : List ℕ} {count at limit : ℕ} (rows : Rows 
   by-rows : (stmts : Stmts) → rows-at tree count at ≡ got stmts (length tree) → Worked 0 limit 0 at (length tree) (compile-stmts limit stmts) (mem t code spans) out (mem t₁ code₁ spans₁) out₁ a
   by-rows stmts e = w .did stmts (length tree) e
 
-  pub stopped-first : {x : Refusal} → a ≡ Stop x → Scripted limit (rows-at tree count at) (length tree) t₁ out₁ a
+  pub stopped-first : {x : Why} → a ≡ Stop x → Scripted limit (rows-at tree count at) (length tree) t₁ out₁ a
   stopped-first q = record { did = λ stmts e. subst (ScriptedAs (from-outcome (compile-functions limit stmts)) t₁ out₁) (sym q) (script-first clean stmts (by-rows stmts e) q) }
 
   module _ {v : ℕ} (q : a ≡ Next v) where
@@ -156,7 +157,7 @@ module _ {tree t code spans out : List ℕ} {count at limit : ℕ} (rows : Rows 
     fit-between = fit-then clean (rows .stmts) (by-rows (rows .stmts) (rows .is)) q
 
     module _ {k : ℕ} {t₂ code₂ spans₂ : List ℕ} {b : Step} (d : Did 0 limit 0 k steady (script-end limit) (mem t₁ code₁ spans₁) (mem t₂ code₂ spans₂) b) where
-      pub stopped-second : {x : Refusal} → b ≡ Stop x → Scripted limit (rows-at tree count at) (length tree) t₂ out₁ b
+      pub stopped-second : {x : Why} → b ≡ Stop x → Scripted limit (rows-at tree count at) (length tree) t₂ out₁ b
       stopped-second p = record { did = λ stmts e. subst (ScriptedAs (from-outcome (compile-functions limit stmts)) t₂ out₁) (sym p) (script-second clean stmts (by-rows stmts e) q d p) }
 
       module _ {u : ℕ} (p : b ≡ Next u) where

@@ -5,8 +5,7 @@ use Prim.Native.Nat.{ℕ, _+_, _*_, _/_, _≤_, min}
 use lib.ListN.{length, getD, replicate}
 use Rattle.rules.specs.Base.{le}
 use Rattle.rules.specs.Limits.{first-limits, max-tree, max-code}
-use Rattle.rules.specs.Answer.{NO-SPAN, refusal, accepted}
-use Rattle.rules.specs.declared.Answer.{Answer}
+use Rattle.rules.specs.Answer.{NO-SPAN}
 use Rattle.rules.specs.Tree.{Stmts}
 use Rattle.rules.specs.Reader.{Read, got}
 use Rattle.rules.specs.Chunk.{ObjectFunction}
@@ -15,21 +14,14 @@ use Rattle.rules.specs.Compiler.{Compile, _>>_, emit-op, compile-functions}
 use Rattle.rules.specs.Entry.{Lent, Compiled, functions-are, refused, from-outcome, leaves, write-out}
 use Rattle.state.specs.Layout.{image-at}
 use Rattle.steps.specs.View.{Started}
+use Rattle.steps.specs.Why.{refusal-of}
 use Rattle.steps.specs.declared.Step.{Step}
 use Rattle.steps.specs.declared.Step.the-variants.{Next, Stop}
-use Rattle.writer.specs.Put.{padded}
+use Rattle.entry_parts.specs.Ends.{answer-of, output-of}
+use Rattle.entry_parts.specs.declared.Made.{Made}
 use Rattle.stmt_output_laws.specs.Output.{stmts-at, Holds}
 
 -- ## What is lent
-
-abbrev pub lent-of : (table code spans out : List ℕ) → Lent
-lent-of table code spans out =
-    record {
-      table-words = length table;
-      code-bytes = length code;
-      span-words = length spans;
-      output-bytes = length out;
-    }
 
 -- the least of the code bytes, a third of the span words, and 262,144
 abbrev pub limit-of : (code spans : List ℕ) → ℕ
@@ -68,20 +60,12 @@ pub record Recorded (made : Compiled) (t out : List ℕ) (n : ℕ) : Type 0 wher
 
 abbrev pub ScriptedAs : Compiled → (t out : List ℕ) → Step → Type 0
 ScriptedAs made t out (Next n) = Recorded made t out n
-ScriptedAs made t out (Stop x) = made ≡ refused x
+ScriptedAs made t out (Stop x) = made ≡ refused (refusal-of x)
 
 pub record Scripted (limit : ℕ) (rows : Read Stmts) (end : ℕ) (t out : List ℕ) (r : Step) : Type 0 where
   pub did : (stmts : Stmts) → rows ≡ got stmts end → ScriptedAs (from-outcome (compile-functions limit stmts)) t out r
 
 -- ## What is answered, and what the output holds in the end: after a refusal it is still to be cleared
 
-abbrev pub answer-of : Step → Answer
-answer-of (Next n) = accepted n
-answer-of (Stop x) = refusal x
-
-abbrev pub output-of : (out : List ℕ) → Step → List ℕ
-output-of out (Next n) = out
-output-of out (Stop x) = replicate (length out) 0
-
-pub record Written (made : Compiled) (out : List ℕ) (r : Step) : Type 0 where
+pub record Written (made : Compiled) (out : List ℕ) (r : Made) : Type 0 where
   pub is : (lent : Lent) → lent .output-bytes ≡ length out → write-out lent made ≡ leaves lent (answer-of r) (output-of out r)

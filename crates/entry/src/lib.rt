@@ -1,7 +1,6 @@
 // The whole: from a tree file to its image or a refusal, over areas that the caller lends. What the output holds in the end is the image and then
 // zeros, or after a refusal only zeros; the work areas end all zero.
 ghost use mathlib.Core.Path.{_≡_};
-ghost use Prim.Native.Nat.{_≤_, min};
 ghost use lib.ListN.{length};
 ghost use Rattle.rules.specs.Limits.{first-limits};
 ghost use Rattle.rules.specs.Entry as rules;
@@ -9,12 +8,15 @@ ghost use Rattle.tree.specs.Checked.{checked-file};
 ghost use Rattle.tree.specs.declared.Checked as checks;
 ghost use Rattle.state.specs.Layout.{table-words};
 ghost use Rattle.steps.specs.View.{mem, Fit, steady, Did};
-ghost use Rattle.entry.specs.Whole.{lent-of, limit-of, rows-at, Rows, Clean, script-end, Scripted, Written};
-use answers::accepted;
-use answers::refused;
+ghost use Rattle.entry_parts.specs.Ends.{lent-of};
+ghost use Rattle.entry.specs.Whole.{limit-of, rows-at, Rows, Clean, script-end, Scripted, Written};
+use entry_parts::Made;
+use entry_parts::code_limit;
+use entry_parts::end_call;
+use entry_parts::finish_image;
+use entry_parts::refusal_of;
 use op::Op;
 use rules::Answer;
-use rules::Limit;
 use rules::Refusal;
 use rules::Span;
 use state::Table;
@@ -25,16 +27,6 @@ use steps::Step;
 use stmt_functions::finish;
 use tree::Checked;
 use tree::Script;
-use writer::put_header;
-
-fn least(a: usize, b: usize) -> usize
-    ensures { λ r. ⌜ r ≡ min a b ⌝ }
-{
-    if a < b {
-        return a;
-    }
-    b
-}
 
 // ## The script
 
@@ -79,7 +71,7 @@ fn compile_script(
 
 // ## The image
 
-// A sound file, with as much of the table as the compiler needs. 31 comes after all else.
+// A sound file, with as much of the table as the compiler needs.
 fn compile_sound(
     tree: &[u8],
     script: Script,
@@ -87,11 +79,11 @@ fn compile_sound(
     t: &mut [u64],
     code: &mut [u8],
     spans: &mut [u32],
-) -> Step
+) -> Made
     requires { ⌜ (checked-file (now tree) ≡ checks.Checked.Sound script) × (length (now t) ≡ table-words) ⌝ }
     ensures { λ r. ⌜ Written (rules.compile-tree first-limits (now (tree .entry)) (limit-of (now (code .entry)) (now (spans .entry)))) (now (out .exit)) r ⌝ }
 {
-    let limit = least(least(code.len(), spans.len() / 3), Limit::CODE_BYTES);
+    let limit = code_limit(code.len(), spans.len());
     areas::clear8(out);
     step_returns::begin_script(t);
     let r = compile_script(
@@ -104,14 +96,10 @@ fn compile_sound(
         out,
         limit,
     );
-    let Step::Next(n) = r else {
-        return r;
-    };
-    if out.len() < n {
-        return Step::Stop(Refusal::OutFull(n));
+    match r {
+        Step::Next(n) => finish_image(out, n, t[Table::FUNCTIONS]),
+        Step::Stop(why) => Made::Refused(refusal_of(why)),
     }
-    put_header(out, t[Table::FUNCTIONS]);
-    Step::Next(n)
 }
 
 // 1, then 2 to 5 over the whole file, and then what a sound file comes to.
@@ -121,14 +109,14 @@ fn compile_lent(
     table: &mut [u64],
     code: &mut [u8],
     spans: &mut [u32],
-) -> Step
+) -> Made
     ensures { λ r. ⌜ Written (rules.compile-lent first-limits (now (tree .entry)) (lent-of (now (table .entry)) (now (code .entry)) (now (spans .entry)) (now (out .entry)))) (now (out .exit)) r ⌝ }
 {
     if table.len() < Table::WORDS {
-        return Step::Stop(Refusal::WorkShort);
+        return Made::Refused(Refusal::WorkShort);
     }
     match tree::read(tree) {
-        Checked::Bad(x) => Step::Stop(x),
+        Checked::Bad(x) => Made::Refused(x),
         Checked::Sound(script) => {
             compile_sound(tree, script, out, &mut table[..Table::WORDS], code, spans)
         }
@@ -146,14 +134,5 @@ pub fn compile(
     ensures { λ r. ⌜ record { answer = r; output = now (out .exit); table = now (table .exit); code = now (code .exit); spans = now (spans .exit) } ≡ rules.compile (now (tree .entry)) (record { table-words = length (now (table .entry)); code-bytes = length (now (code .entry)); span-words = length (now (spans .entry)); output-bytes = length (now (out .entry)) }) ⌝ }
 {
     let made = compile_lent(tree, out, table, code, spans);
-    areas::clear64(table);
-    areas::clear8(code);
-    areas::clear32(spans);
-    match made {
-        Step::Next(n) => accepted(n),
-        Step::Stop(x) => {
-            areas::clear8(out);
-            refused(x)
-        }
-    }
+    end_call(made, out, table, code, spans)
 }

@@ -10,7 +10,6 @@ use borrow.Author.Tests.{lt-ltb}
 use Rattle.rules.specs.Base.{lookup}
 use Rattle.rules.specs.Limits.{max-bits}
 use Rattle.rules.specs.declared.Span.{Span}
-use Rattle.rules.specs.declared.Refusal.{Refusal}
 use Rattle.rules.specs.Tree.{Expr, Exprs, ExprAssign, ExprCall, ExprGet, ExprInfix, Literal, ExprPrefix, ExprSet, ExprSuper, ExprVar, ExprLiteral, LitBool, LitNil, LitNumber, LitString, OpInfix}
 use Rattle.rules.specs.Reader.{Read, got}
 use Rattle.rules.specs.TreeFile.{read-exprs, infix-ops, prefix-ops}
@@ -26,18 +25,19 @@ use Rattle.steps.specs.View.{Mem, Fit, code-len, steady, Gave, Refused, Did}
 use Rattle.steps.proofs.Steps.{went, valued, still, stop, halt, then-on, did-bind, did-seq, refused-bind, refused-seq, gave-refused-seq}
 use Rattle.steps.specs.declared.Step.{Step}
 use Rattle.steps.specs.declared.Step.the-variants.{Next, Stop}
-use Rattle.expr_parts.specs.Exprs.{There, Somewhere, expr-at, Ran, PrefixOp, before-right, after-right, BegunAs, BegunBy, Begun, Closed, callee-of, parts, first-part, part-count, call-open}
-use Rattle.expr_parts.specs.Exprs.{call-close, CallOpened, CallParts, CallClosed}
+use Rattle.expr_laws.specs.Exprs.{There, Somewhere, expr-at, Ran, PrefixOp, before-right, after-right, BegunAs, BegunBy, Begun, Closed, callee-of, parts, first-part, part-count, call-open}
+use Rattle.expr_laws.specs.Exprs.{call-close, CallOpened, CallParts, CallClosed}
 use Rattle.steps.proofs.Monad.{like, on-to}
-use Rattle.expr_parts.proofs.Operators.{infix-cut}
-use Rattle.expr_parts.proofs.Calls.{call-cut, first-on, parts-read, Walk, walk-stop, walk-done}
+use Rattle.expr_laws.proofs.Operators.{infix-cut}
+use Rattle.expr_laws.proofs.Calls.{call-cut, first-on, parts-read, Walk, walk-stop, walk-done}
 use Rattle.fields.specs.Marks as marks
+use Rattle.steps.specs.declared.Why.{Why}
 
 -- a number's word is the number
 number-word : (n : ℕ) → n ≤ max-bits → constantOf n ≡ CN n
 number-word n h = let b : n < 2 ^ 63 = omega arith in rw (lt-ltb n (2 ^ 63) b)
 
-same-stop : {class limit l n : ℕ} {m : Compile Unit} {before now : Mem} {r : Step} {x : Refusal} → r ≡ Stop x → Refused class l m before x → Did class limit l n steady m before now r
+same-stop : {class limit l n : ℕ} {m : Compile Unit} {before now : Mem} {r : Step} {x : Why} → r ≡ Stop x → Refused class l m before x → Did class limit l n steady m before now r
 same-stop {class} {limit} {l} {n} {m} {before} {now} q h = subst (λ (s : Step). Did class limit l n steady m before now s) (sym q) (stop now h)
 
 module _ {class limit l : ℕ} {before : Mem} where
@@ -91,7 +91,8 @@ module _ {class limit l : ℕ} {before : Mem} where
   -- ## Names
 
   module _ (tree : List ℕ) (d at : ℕ) (sp : Span) (s : sp ≡ span-of tree (at + 2)) (name : ℕ) (p : name ≡ word16 tree (at + 10)) where
-    pub var-done : {now : Mem} {r : Step} → letters tree at ≡ marks.EV → Did class limit l (at + 12) steady (get-variable limit name sp) before now r → Ran class limit l (expr-at tree d at) before now r
+    pub var-done : {now : Mem} {r : Step} → letters tree at ≡ marks.EV → Did class limit l (at + 12) steady (get-variable limit name sp) before now r → Ran
+        class limit l (expr-at tree d at) before now r
     unfolding compile-expr
     var-done m x = record {
       did = λ e n z.
@@ -144,17 +145,17 @@ module _ {class limit l : ℕ} {before : Mem} where
 
   module _ (tree : List ℕ) (d at : ℕ) where
     -- the first child stopped
-    pub assign-stop : {now : Mem} {r : Step} {x : Refusal} → letters tree at ≡ marks.EA → Ran class limit l (expr-at tree (d - 1) (at + 12)) before now r → r ≡ Stop x
+    pub assign-stop : {now : Mem} {r : Step} {x : Why} → letters tree at ≡ marks.EA → Ran class limit l (expr-at tree (d - 1) (at + 12)) before now r → r ≡ Stop x
         → Ran class limit l (expr-at tree d at) before now r
     unfolding compile-expr
     assign-stop m a q = record { did = λ e n z. let i = assign-at tree (word16 tree 2) d at m z in by (i .is) (halt _ (a .did (i .value) n (i .one)) q) }
 
-    pub get-stop : {now : Mem} {r : Step} {x : Refusal} → letters tree at ≡ marks.EG → Ran class limit l (expr-at tree (d - 1) (at + 12)) before now r → r ≡ Stop x
+    pub get-stop : {now : Mem} {r : Step} {x : Why} → letters tree at ≡ marks.EG → Ran class limit l (expr-at tree (d - 1) (at + 12)) before now r → r ≡ Stop x
         → Ran class limit l (expr-at tree d at) before now r
     unfolding compile-expr
     get-stop m a q = record { did = λ e n z. let i = get-at tree (word16 tree 2) d at m z in by (i .is) (halt _ (a .did (i .object) n (i .one)) q) }
 
-    pub set-stop : {now : Mem} {r : Step} {x : Refusal} → letters tree at ≡ marks.ES → Ran class limit l (expr-at tree (d - 1) (at + 12)) before now r → r ≡ Stop x
+    pub set-stop : {now : Mem} {r : Step} {x : Why} → letters tree at ≡ marks.ES → Ran class limit l (expr-at tree (d - 1) (at + 12)) before now r → r ≡ Stop x
         → Ran class limit l (expr-at tree d at) before now r
     unfolding compile-expr
     set-stop m a q = record { did = λ e n z. let i = set-at tree (word16 tree 2) d at m z in by (i .is) (halt _ (a .did (i .value) (i .mid) (i .one)) q) }
@@ -165,7 +166,7 @@ module _ {class limit l : ℕ} {before : Mem} where
         let i = set-at tree (word16 tree 2) d at m z in
         record { thing = i .object; next = _; is = ap (expr-at tree (d - 1)) (valued (a .did (i .value) (i .mid) (i .one)) q) ∙ i .two }
 
-    pub set-stop-2 : {mid now : Mem} {r r′ : Step} {v : ℕ} {x : Refusal} → letters tree at ≡ marks.ES → Ran class limit l (expr-at tree (d - 1) (at + 12)) before mid r → r ≡ Next v
+    pub set-stop-2 : {mid now : Mem} {r r′ : Step} {v : ℕ} {x : Why} → letters tree at ≡ marks.ES → Ran class limit l (expr-at tree (d - 1) (at + 12)) before mid r → r ≡ Next v
         → Ran class limit l (expr-at tree (d - 1) v) mid now r′ → r′ ≡ Stop x → Ran class limit l (expr-at tree d at) before now r′
     unfolding compile-expr
     set-stop-2 m a q b q′ = record {
@@ -178,7 +179,7 @@ module _ {class limit l : ℕ} {before : Mem} where
 
     -- ## Operators
 
-    pub prefix-stop : {now : Mem} {r : Step} {x : Refusal} → letters tree at ≡ marks.EP → Ran class limit l (expr-at tree (d - 1) (at + 11)) before now r → r ≡ Stop x
+    pub prefix-stop : {now : Mem} {r : Step} {x : Why} → letters tree at ≡ marks.EP → Ran class limit l (expr-at tree (d - 1) (at + 11)) before now r → r ≡ Stop x
         → Ran class limit l (expr-at tree d at) before now r
     unfolding compile-expr
     prefix-stop m a q = record { did = λ e n z. let i = prefix-at tree (word16 tree 2) d at m z in by (i .is) (halt _ (a .did (i .rt) n (i .one)) q) }
@@ -197,7 +198,7 @@ module _ {class limit l : ℕ} {before : Mem} where
           (then-on _ c q (on-to (valued c q) (subst (λ (k : ℕ). Did class limit l v steady (emit-op limit k sp) mid now r′) y b)));
     }
 
-    pub infix-stop : {now : Mem} {r : Step} {x : Refusal} → letters tree at ≡ marks.EI → Ran class limit l (expr-at tree (d - 1) (at + 11)) before now r → r ≡ Stop x
+    pub infix-stop : {now : Mem} {r : Step} {x : Why} → letters tree at ≡ marks.EI → Ran class limit l (expr-at tree (d - 1) (at + 11)) before now r → r ≡ Stop x
         → Ran class limit l (expr-at tree d at) before now r
     unfolding compile-expr
     infix-stop m a q = record { did = λ e n z. let i = infix-at tree (word16 tree 2) d at m z in by (i .is) (halt _ (a .did (i .lt) (i .mid) (i .one)) q) }
@@ -212,7 +213,7 @@ module _ {class limit l : ℕ} {before : Mem} where
   begun-gave : {n v : ℕ} {m : Compile ℕ} {now : Mem} {r : Step} → BegunBy class limit l n m before now r → r ≡ Next v → Gave class limit l steady m v before now × (10 ≤ n → v + 2 ≤ code-len now l)
   begun-gave {n} {m = m} {now = now} d q = subst (λ (s : Step). BegunAs class limit l n m before now s) q (d .does)
 
-  begun-refused : {n : ℕ} {m : Compile ℕ} {now : Mem} {r : Step} {x : Refusal} → BegunBy class limit l n m before now r → r ≡ Stop x → Refused class l m before x
+  begun-refused : {n : ℕ} {m : Compile ℕ} {now : Mem} {r : Step} {x : Why} → BegunBy class limit l n m before now r → r ≡ Stop x → Refused class l m before x
   begun-refused {n} {m} {now} d q = subst (λ (s : Step). BegunAs class limit l n m before now s) q (d .does)
 
 module _ {class limit l : ℕ} {before mid : Mem} (tree : List ℕ) (d at operator : ℕ) (sp : Span) (s : sp ≡ span-of tree (at + 2)) (w : operator ≡ word8 tree (at + 10)) (m : letters tree at ≡ marks.EI)
@@ -230,10 +231,10 @@ module _ {class limit l : ℕ} {before mid : Mem} (tree : List ℕ) (d at operat
         (f (i .op) (i .rt) n (ap (λ (k : ℕ). lookup k infix-ops) w ∙ i .look) (ap (expr-at tree (d - 1)) (valued c q) ∙ i .two))));
   }
 
-  pub infix-stop-2 : {now : Mem} {r′ : Step} {x : Refusal} → Begun class limit l operator sp mid now r′ → r′ ≡ Stop x → Ran class limit l (expr-at tree d at) before now r′
+  pub infix-stop-2 : {now : Mem} {r′ : Step} {x : Why} → Begun class limit l operator sp mid now r′ → r′ ≡ Stop x → Ran class limit l (expr-at tree d at) before now r′
   infix-stop-2 b q′ = infix-by (λ o rt n h z. same-stop q′ (refused-bind (begun-refused (b .did o h) q′) _))
 
-  pub infix-stop-3 : {late now : Mem} {r′ r″ : Step} {place : ℕ} {x : Refusal} → Begun class limit l operator sp mid late r′ → r′ ≡ Next place
+  pub infix-stop-3 : {late now : Mem} {r′ r″ : Step} {place : ℕ} {x : Why} → Begun class limit l operator sp mid late r′ → r′ ≡ Next place
       → Ran class limit l (expr-at tree (d - 1) v) late now r″ → r″ ≡ Stop x → Ran class limit l (expr-at tree d at) before now r″
   infix-stop-3 b q′ f q″ = infix-by (λ o rt n h z. did-bind (begun-gave (b .did o h) q′ .0) _ (halt _ (f .did rt n z) q″))
 
@@ -242,7 +243,8 @@ module _ {class limit l : ℕ} {before mid : Mem} (tree : List ℕ) (d at operat
   infix-done b q′ f q″ g = infix-by (λ o rt n h z. let c = f .did rt n z in did-bind (begun-gave (b .did o h) q′ .0) _ (then-on _ c q″ (on-to (valued c q″) (g .did o h))))
 
 -- what the steps after the left side need
-pub begun-fit : {class limit l operator place : ℕ} (tree : List ℕ) (d at : ℕ) {sp : Span} {e : Expr} {n : ℕ} {before now : Mem} {r : Step} → operator ≡ word8 tree (at + 10) → letters tree at ≡ marks.EI
+pub begun-fit : {class limit l operator place : ℕ} (tree : List ℕ) (d at : ℕ) {sp : Span} {e : Expr} {n : ℕ} {before now : Mem} {r : Step} → operator ≡ word8
+    tree (at + 10) → letters tree at ≡ marks.EI
     → expr-at tree d at ≡ got e n
     → Begun class limit l operator sp before now r → r ≡ Next place → Fit now l limit × (10 ≤ operator → place + 2 ≤ code-len now l)
 begun-fit tree d at w m z b q =
@@ -275,7 +277,7 @@ module _ {class limit l : ℕ} {before : Mem} (tree : List ℕ) (d at : ℕ) (sp
         (sym c) x));
   }
 
-  pub call-stop : {now : Mem} {r : Step} {x : Refusal} → CallOpened class limit l tree at sp before now r → r ≡ Stop x → Ran class limit l (expr-at tree d at) before now r
+  pub call-stop : {now : Mem} {r : Step} {x : Why} → CallOpened class limit l tree at sp before now r → r ≡ Stop x → Ran class limit l (expr-at tree d at) before now r
   call-stop o q = call-by (λ callee args mid n z y. halt _ (o .did (d - 1) callee mid z) q)
 
   module _ {mid : Mem} {r : Step} {from count : ℕ} (o : CallOpened class limit l tree at sp before mid r) (q : r ≡ Next from) (c : CallParts tree at count) where
@@ -300,7 +302,7 @@ module _ {class limit l : ℕ} {before : Mem} (tree : List ℕ) (d at : ℕ) (sp
         omega (arith, v, h)
 
     module _ {late : Mem} {next left : ℕ} (w : Walk class limit l (expr-at tree (d - 1)) count from mid late next left) where
-      pub part-stop : {now : Mem} {r′ : Step} {x : Refusal} → 0 < left → Ran class limit l (expr-at tree (d - 1) next) late now r′ → r′ ≡ Stop x → Ran class limit l (expr-at tree d at) before now r′
+      pub part-stop : {now : Mem} {r′ : Step} {x : Why} → 0 < left → Ran class limit l (expr-at tree (d - 1) next) late now r′ → r′ ≡ Stop x → Ran class limit l (expr-at tree d at) before now r′
       part-stop h b q′ = call-by (λ callee args k n z y.
           let g = went (o .did (d - 1) callee k z) q in
           same-stop q′ (gave-refused-seq g _ (refused-seq (walk-stop w (parts-at callee args z y) h b q′) _)))

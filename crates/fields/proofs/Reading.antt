@@ -32,7 +32,7 @@ pub then-bad : {A B : Type 0} {r : Read A} (f : A → Reader B) {x : Refusal} �
 unfolding go-on
 then-bad f e = ap (λ y. go-on y f) e
 
-moved : {A : Type 0} {a : A} {m n : ℕ} → m ≡ n → got a m ≡ got a n
+pub moved : {A : Type 0} {a : A} {m n : ℕ} → m ≡ n → got a m ≡ got a n
 moved {a = a} e = ap (got a) e
 
 module _ (bytes : List ℕ) where

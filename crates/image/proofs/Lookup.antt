@@ -15,7 +15,7 @@ use Rattle.rules.specs.Answer.{refusal, accepted, at-place}
 use Rattle.rules.specs.Reader.{Read, got, bad, go-on, _>>_, many}
 use Rattle.rules.specs.Chunk.{ObjectFunction}
 use Rattle.rules.specs.ImageFile.{read-function}
-use Rattle.rules.specs.Checker.{sound, image-of, function-numbered, code-in, code-of, code-before, code-start, code-verdict, code-answer}
+use Rattle.rules.specs.Checker.{sound, image-of, function-numbered, code-in, code-of, code-before, place-in, code-place, code-verdict, code-answer}
 use Rattle.image_code.specs.declared.Verdict.{Verdict}
 use Rattle.image_code.specs.declared.Verdict.the-variants as verdict
 use Rattle.fields.specs.Words.{word32, letters}
@@ -26,7 +26,7 @@ use Rattle.image_records.specs.declared.Header.{Header}
 use Rattle.image_records.specs.Told.{place-told, head-at, code-told}
 use Rattle.image_records.proofs.Many.{got-bad, same-got, many-length, Nth, nth-of, place-bad, place-at}
 use Rattle.image_records.proofs.Records.{Headed, headed, head-fails, Body, body-of, Coded, coded, at-code, whole-function, made}
-use Rattle.image.specs.Counted.{counted-in, place-in, code-place, code-part, Lies}
+use Rattle.image.specs.Counted.{counted-in, code-part, Lies}
 use Rattle.image.proofs.Sound.{elem-none}
 use Rattle.image.proofs.Whole.{after, image-is, no-room, no-mark, no-functions}
 
@@ -88,9 +88,13 @@ none-by none e = refl
 none-by (some fs) e = absurd (let y : _≡_ {A = ℕ} 0 1 = cc in omega arith)
 
 module _ (s : List ℕ) (k : ℕ) where
+  -- where the code of a checked image begins
+  abbrev begins : ℕ
+  begins = code-before ((many k (read-function s) >> read-function s) 6)
+
   refused-by : function-numbered k (image-of s) ≡ none → Refused s k
   unfolding code-of code-in code-place place-in
-  refused-by e = record { content = sym (ap code-in e); place = sym (ap (λ (o : Option ObjectFunction). place-in o (code-start s k)) e) }
+  refused-by e = record { content = sym (ap code-in e); place = sym (ap (λ (o : Option ObjectFunction). place-in o begins) e) }
 
   pub no-image : verdict.No ≡ counted-in (image-of s) → Refused s k
   unfolding function-numbered
@@ -172,8 +176,8 @@ module _ (s : List ℕ) (k : ℕ) where
           pub code-fits-in : hd .code ≤ next
           code-fits-in = omega (arith, c .ends)
 
-          start-is : code-start s k ≡ next - length (nth .value .chunk .ops)
-          unfolding code-start code-before go-on _>>_
+          start-is : begins ≡ next - length (nth .value .chunk .ops)
+          unfolding code-before go-on _>>_
           start-is =
               ap (λ (r : Read (List ObjectFunction)). code-before (go-on r (λ _. read-function s))) (nth .before) ∙
               ap code-before (nth .is) ∙ ap (λ (m : ℕ). m - length (nth .value .chunk .ops)) next-is
@@ -189,7 +193,7 @@ module _ (s : List ℕ) (k : ℕ) where
               record {
                 within = omega arith;
                 content = rw (q, p) (sym (ap code-in f ∙ c .ops));
-                place = sym (ap (λ (x : Option ObjectFunction). place-in x (code-start s k)) f ∙ start-is ∙ rw (l, ← q, ← r) refl);
+                place = sym (ap (λ (x : Option ObjectFunction). place-in x begins) f ∙ start-is ∙ rw (l, ← q, ← r) refl);
                 number = answer-there h;
               }
 

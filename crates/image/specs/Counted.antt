@@ -1,26 +1,18 @@
--- What the code passes on: the number of instructions of an image's functions, and where the code of one of them stands.
+-- What the code passes on: the number of instructions of an image's functions, and what is told of where the code of one of them stands.
 use mathlib.Core.Path.{_≡_}
 use mathlib.Core.Option.{Option, none, some}
-use mathlib.Core.List.{List, [], _∷_}
+use mathlib.Core.List.{List}
 use Prim.Native.Nat.{ℕ, _+_, _≤_}
 use lib.ListN.{length, take, drop}
 use Rattle.rules.specs.Chunk.{ObjectFunction}
 use Rattle.rules.specs.declared.Answer.{Answer}
-use Rattle.rules.specs.Checker.{instruction-count, image-of, function-numbered, code-of, code-start, code-answer}
+use Rattle.rules.specs.Checker.{instruction-count, code-of, code-place, code-answer}
 use Rattle.image_code.specs.declared.Verdict.{Verdict}
 use Rattle.image_code.specs.declared.Verdict.the-variants.{Yes, No}
 
 unfoldable pub counted-in : Option (List ObjectFunction) → Verdict
 counted-in none = No
 counted-in (some functions) = Yes (instruction-count functions functions)
-
-unfoldable pub place-in : Option ObjectFunction → (start : ℕ) → ℕ
-place-in none start = 0
-place-in (some f) start = start
-
--- where the code of function `k` begins; a refused lookup's empty part stands at the image's begin
-unfoldable pub code-place : (image : List ℕ) → (k : ℕ) → ℕ
-code-place image k = place-in (function-numbered k (image-of image)) (code-start image k)
 
 -- what is told of the lookup: its number, and the place, the end and the length of the code
 unfoldable pub code-part : (image : List ℕ) → (k : ℕ) → Answer

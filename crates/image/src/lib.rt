@@ -2,9 +2,9 @@
 
 ghost use mathlib.Core.Path.{_≡_};
 ghost use Prim.Native.Nat.{_+_};
-ghost use Rattle.rules.specs.Checker.{image-of, code-answer};
+ghost use Rattle.rules.specs.Checker.{image-of, code-place, code-answer};
 ghost use Rattle.rules.specs.Checker as Checker;
-ghost use Rattle.image.specs.Counted.{counted-in, code-place, code-part, Lies};
+ghost use Rattle.image.specs.Counted.{counted-in, code-part, Lies};
 use answers::accepted;
 use answers::refused;
 use fields::Mark;

@@ -17,7 +17,7 @@ use Rattle.rules.specs.Op as Op
 use Rattle.image_code.specs.Forms.{computes, operands-by, form, form-of, width, width-by}
 use Rattle.image_code.proofs.Forms.{ahead-only, back-only, ahead-form, back-form}
 use Rattle.rules.specs.Base.{all}
-use Rattle.image_code.specs.Table.{instruction-at, from, instructions, is-some, bit, start-at, Filled, Near, all-land}
+use Rattle.image_code.specs.Table.{instruction-at, from, instructions, is-some, bit, start-at, window-size, Filled, Near, all-land}
 use Rattle.image_code.proofs.Steps.{passed, here, ended, within-code, onto-other, none-start, divide-none, divide-op, no-true}
 
 word-is : (l : List ℕ) → word (take 2 l) ≡ word l
@@ -134,7 +134,7 @@ module _ (kind : ℕ → Kind) where
             sym (ahead-is (ahead-at l u) ∙ rw (← is-far, ne-eqb _ _ n, no-start (at + 3 + d) (omega arith)) refl)
 
         pub ahead-near : (ring : List ℕ) → Near kind code ring at → d ≤ 65535 → Op.JUMP ≤ op → op < Op.LOOP → at + 3 + d < length code
-            → eqb (getD ring ((at + 3 + d) % 131072) 0) 1 ≡ verdict
+            → eqb (getD ring ((at + 3 + d) % window-size) 0) 1 ≡ verdict
         ahead-near ring near small l u h =
             let n : at + 3 + d ≡ length code → ⊥ = λ q. omega arith in
             sym (ahead-is (ahead-at l u) ∙ rw (← is-far, ne-eqb _ _ n, near .near (at + 3 + d) h (omega arith) (omega arith), bit-is) (or-false (start-at kind code (at + 3 + d))))
@@ -146,6 +146,6 @@ module _ (kind : ℕ → Kind) where
         back-past e l h = sym (back-is (back-at e) ∙ rw (← is-far, le-leb _ _ l, no-start (at + 3 - d) h) refl)
 
         pub back-near : (ring : List ℕ) → Near kind code ring at → d ≤ 65535 → op ≡ Op.LOOP → d ≤ at + 3 → at + 3 - d < length code
-            → eqb (getD ring ((at + 3 - d) % 131072) 0) 1 ≡ verdict
+            → eqb (getD ring ((at + 3 - d) % window-size) 0) 1 ≡ verdict
         back-near ring near small e l h =
             sym (back-is (back-at e) ∙ rw (← is-far, le-leb _ _ l, near .near (at + 3 - d) h (omega arith) (omega arith), bit-is) refl)

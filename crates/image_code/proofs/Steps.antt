@@ -17,7 +17,7 @@ use Rattle.rules.specs.Op.{Operands, operands-of}
 use Rattle.image_code.specs.Forms.{computes, form, form-of, operands-by, with-opcode, width-with, width-by, width}
 use Rattle.image_code.proofs.Forms.{by-form-is}
 use Rattle.rules.specs.Base.{all}
-use Rattle.image_code.specs.Table.{kind-of, kinds-in, instruction-at, from, instructions, is-some, judged, bit, start-at, Filled}
+use Rattle.image_code.specs.Table.{kind-of, kinds-in, instruction-at, from, instructions, is-some, judged, bit, start-at, window-size, Wide, Filled}
 
 pub rest : (code : List ℕ) (at : ℕ) → at < length code → drop at code ≡ getD code at 0 ∷ drop (at + 1) code
 rest code at h = rw (add-one, drop-cons code at 0 h) refl
@@ -174,45 +174,49 @@ module _ (kind : ℕ → Kind) where
     -- ## The ring
 
     module _ (ring : List ℕ) where
-      window-more : length ring ≡ 131072 → (at : ℕ) (v : ℕ) → bit (start-at kind code at) ≡ v
-          → ((p : ℕ) → p < at → at ≤ p + 131072 → getD ring (p % 131072) 0 ≡ bit (start-at kind code p))
-          → (p : ℕ) → p < at + 1 → at + 1 ≤ p + 131072 → getD (set ring (at % 131072) v) (p % 131072) 0 ≡ bit (start-at kind code p)
-      window-more size at v e window p l u =
-          ⊎-elim (λ (q : p ≡ at). rw (q, getD-set-same ring (at % 131072) v 0 (omega arith)) (sym e))
-          (λ (q : p < at). getD-set-other ring (at % 131072) (p % 131072) v 0 (λ m. omega arith) ∙ window p q (omega arith))
+      window-more : (at : ℕ) (v : ℕ) → at % window-size < length ring → bit (start-at kind code at) ≡ v
+          → ((p : ℕ) → p < at → at ≤ p + window-size → getD ring (p % window-size) 0 ≡ bit (start-at kind code p))
+          → (p : ℕ) → p < at + 1 → at + 1 ≤ p + window-size → getD (set ring (at % window-size) v) (p % window-size) 0 ≡ bit (start-at kind code p)
+      window-more at v inside e window p l u =
+          ⊎-elim (λ (q : p ≡ at). rw (q, getD-set-same ring (at % window-size) v 0 inside) (sym e))
+          (λ (q : p < at). getD-set-other ring (at % window-size) (p % window-size) v 0 (λ m. omega arith) ∙ window p q (omega arith))
           (eq-or-lt-of-le (omega arith))
 
+      set-room : (at v : ℕ) → Wide (length code) (length ring) → Wide (length code) (length (set ring (at % window-size) v))
+      set-room at v room p h = rw (length-set ring (at % window-size) v) (room p h)
+
       pub fill-skip : (at skip s : ℕ) → Filled kind code ring at skip → at < length code → skip ≡ suc s
-          → Filled kind code (set ring (at % 131072) 0) (at + 1) s
+          → Filled kind code (set ring (at % window-size) 0) (at + 1) s
       unfolding bit
       fill-skip at skip s f h e =
           let same = passed at skip s h e in
           record {
-            size = length-set ring (at % 131072) _ ∙ f .size;
+            room = set-room at _ (f .room);
             divides = rw same at (f .divides);
             ahead = λ p l. f .ahead p (omega arith) ∙ ap (λ (r : Option (List Instruction)). is-start (instructions r) p) same;
-            window = window-more (f .size) at 0 (ap bit (f .ahead at (omega arith) ∙ fresh-from at skip at (omega arith))) (f .window);
+            window = window-more at 0 (f .room at h) (ap bit (f .ahead at (omega arith) ∙ fresh-from at skip at (omega arith))) (f .window);
             within = omega (arith, f .within);
           }
 
       fill-start-0 : (at size : ℕ) → Filled kind code ring at 0 → at < length code
           → width kind (getD code at 0) (drop (at + 1) code) ≡ suc size
-          → Filled kind code (set ring (at % 131072) 1) (at + 1) size
+          → Filled kind code (set ring (at % window-size) 1) (at + 1) size
       unfolding bit
       fill-start-0 at size f h e =
           let same = here at size h e in
           let some-rest : is-some (from kind code (at + 1) size) ≡ true = sym (onto-some _ _) ∙ ap is-some (sym same) ∙ f .divides in
           record {
-            size = length-set ring (at % 131072) _ ∙ f .size;
+            room = set-room at _ (f .room);
             divides = some-rest;
             ahead = λ p l. f .ahead p (omega arith) ∙ ap (λ (r : Option (List Instruction)). is-start (instructions r) p) same ∙ onto-other _ _ p (λ q. omega arith);
-            window = window-more (f .size) at 1 (ap bit (f .ahead at (omega arith) ∙ ap (λ (r : Option (List Instruction)). is-start (instructions r) at) same ∙ onto-start _ _ some-rest)) (f .window);
+            window = window-more at 1 (f .room at h) (ap bit
+                (f .ahead at (omega arith) ∙ ap (λ (r : Option (List Instruction)). is-start (instructions r) at) same ∙ onto-start _ _ some-rest)) (f .window);
             within = within-code (at + 1) size (omega arith) some-rest;
           }
 
       pub fill-start : (at skip w size : ℕ) → skip ≡ 0 → Filled kind code ring at skip → at < length code
           → w ≡ width kind (getD code at 0) (drop (at + 1) code) → w ≡ suc size
-          → Filled kind code (set ring (at % 131072) 1) (at + 1) size
+          → Filled kind code (set ring (at % window-size) 1) (at + 1) size
       fill-start at skip w size z f h e s = fill-start-0 at size (rw z at f) h (sym e ∙ s)
 
       pub fill-width : (at skip w : ℕ) → skip ≡ 0 → Filled kind code ring at skip → at < length code

@@ -10,7 +10,7 @@ use Rattle.rules.specs.Division.{Kind, Instruction, followed-by, is-start, land
 use Rattle.rules.specs.Op.{Operands}
 use Rattle.image_code.specs.Forms.{operands-by, form-of, width}
 use Rattle.rules.specs.Base.{if_then_else_, all}
-use Rattle.image_code.specs.Table.{instruction-at, from, instructions, is-some, start-at, Filled, Near, all-land, Jumping}
+use Rattle.image_code.specs.Table.{instruction-at, from, instructions, is-some, start-at, Wide, Filled, Near, all-land, Jumping}
 use Rattle.image_code.proofs.Steps.{passed, here, at-size, ended, within-code, has-width, onto-some, no-true}
 
 pub all-onto : (p : Instruction → Bool) (i : Instruction) (r : Option (List Instruction)) → is-some r ≡ true
@@ -59,14 +59,14 @@ module _ (kind : ℕ → Kind) (code : List ℕ) where
       → ((p : ℕ) → p < length code → p < at + 65539 → p < lead) → Near kind code ring at
   near-of ring at lead s f h least = record { near = λ p l u v. f .window p (least p l (omega arith)) (omega arith) }
 
-  pub jump-begin : (ring : List ℕ) → length ring ≡ 131072 → is-some (from kind code 0 0) ≡ true → Jumping kind code ring 0 0 0 0
+  pub jump-begin : (ring : List ℕ) → Wide (length code) (length ring) → is-some (from kind code 0 0) ≡ true → Jumping kind code ring 0 0 0 0
   jump-begin ring l d =
       record {
         within = omega arith;
         divides = d;
         left = refl;
         filled =
-            record { size = l; divides = d; ahead = λ p h. refl; window = λ p h. absurd (omega arith); within = omega arith };
+            record { room = l; divides = d; ahead = λ p h. refl; window = λ p h. absurd (omega arith); within = omega arith };
         lead-within = omega arith;
         lead-near = omega arith;
       }

@@ -60,17 +60,25 @@ bit true = 1
 abbrev pub start-at : (ℕ → Kind) → List ℕ → ℕ → Bool
 start-at kind code p = is-start (instructions (from kind code 0 0)) p
 
--- the ring holds the starts of the last 131,072 bytes before `at`
+-- places that are less than this apart have slots of their own in a ring
+abbrev pub window-size : ℕ
+window-size = 131072
+
+-- a ring of `room` slots has one for each place of a code of `size` bytes
+abbrev pub Wide : (size room : ℕ) → Type 0
+Wide size room = (p : ℕ) → p < size → p % window-size < room
+
+-- the ring holds the starts of the last bytes before `at`
 pub record Filled (kind : ℕ → Kind) (code ring : List ℕ) (at skip : ℕ) : Type 0 where
-  pub size : length ring ≡ 131072
+  pub room : Wide (length code) (length ring)
   pub divides : is-some (from kind code at skip) ≡ true
   pub ahead : (p : ℕ) → at ≤ p → start-at kind code p ≡ is-start (instructions (from kind code at skip)) p
-  pub window : (p : ℕ) → p < at → at ≤ p + 131072 → getD ring (p % 131072) 0 ≡ bit (start-at kind code p)
+  pub window : (p : ℕ) → p < at → at ≤ p + window-size → getD ring (p % window-size) 0 ≡ bit (start-at kind code p)
   pub within : at + skip ≤ length code
 
 -- the ring tells the starts that a jump at `at` can reach
 pub record Near (kind : ℕ → Kind) (code ring : List ℕ) (at : ℕ) : Type 0 where
-  pub near : (p : ℕ) → p < length code → at ≤ p + 65532 → p ≤ at + 65538 → getD ring (p % 131072) 0 ≡ bit (start-at kind code p)
+  pub near : (p : ℕ) → p < length code → at ≤ p + 65532 → p ≤ at + 65538 → getD ring (p % window-size) 0 ≡ bit (start-at kind code p)
 
 abbrev pub all-land : (ℕ → Kind) → List ℕ → List Instruction → Bool
 all-land kind code is = all (lands (instructions (from kind code 0 0)) (length code)) is

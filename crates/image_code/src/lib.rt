@@ -11,8 +11,15 @@ ghost use Rattle.rules.specs.Division.{pairs-fit, operands-fit, is-function};
 ghost use Rattle.rules.specs.Division as Division;
 ghost use Rattle.image_code.specs.Forms.{form-of};
 ghost use Rattle.image_code.specs.Forms as Forms;
-ghost use Rattle.image_code.specs.Table.{kind-of, kinds-in, division, instruction-at, from, instructions, is-some, judged, Filled, Near, start-at, all-land, Closing, Counted, judged-code};
+ghost use Rattle.image_code.specs.Table.{kind-of, kinds-in, division, instruction-at, from, instructions, is-some, judged, Filled, Near, start-at, all-land, Wide, Closing, Counted, judged-code};
 use op::Op;
+
+// How far ahead of a jump the ring is filled: an instruction of three bytes and the largest distance, and one more.
+const AHEAD: usize = 65539;
+
+// Places of a code that are less than this apart have slots of their own in the ring: a jump's targets are all within such a window. A code that
+// is no longer has a slot for each place, so its ring need not be longer than it.
+pub const WINDOW: usize = 131072;
 
 pub enum Verdict {
     Yes(usize),
@@ -253,7 +260,7 @@ pub struct Lead {
 }
 
 // Marks in the ring, for each byte up to `want`, whether an instruction starts there.
-fn fill(code: &[u8], kinds: &[u32; 256], ring: &mut [u8; 131072], begin: Lead, want: usize) -> Lead
+fn fill(code: &[u8], kinds: &[u32; 256], ring: &mut [u8], begin: Lead, want: usize) -> Lead
     requires { ⌜ Filled (kinds-in (now kinds)) (now code) (now ring) (begin .at) (begin .skip) ⌝ }
     requires { ⌜ (begin .at ≤ want) × (want ≤ length (now code)) ⌝ }
     ensures { λ r. ⌜ (r .at ≡ want) × Filled (kinds-in (now (kinds .entry))) (now (code .entry)) (now (ring .exit)) want (r .skip) ⌝ }
@@ -261,7 +268,7 @@ fn fill(code: &[u8], kinds: &[u32; 256], ring: &mut [u8; 131072], begin: Lead, w
     let mut at = begin.at;
     let mut skip = begin.skip;
     while at < want {
-        let slot = at % 131072;
+        let slot = at % WINDOW;
         if skip > 0 {
             ring[slot] = 0;
             skip -= 1;
@@ -276,10 +283,10 @@ fn fill(code: &[u8], kinds: &[u32; 256], ring: &mut [u8; 131072], begin: Lead, w
 }
 
 // Whether the instruction at `at` is no jump, or lands where it may.
-fn lands(code: &[u8], at: usize, kinds: &[u32; 256], ring: &[u8; 131072]) -> bool
+fn lands(code: &[u8], at: usize, kinds: &[u32; 256], ring: &[u8]) -> bool
     requires { ⌜ at < length (now code) ⌝ }
     requires { ⌜ at + Forms.width (kinds-in (now kinds)) (getD (now code) at 0) (drop (at + 1) (now code)) ≤ length (now code) ⌝ }
-    requires { ⌜ Near (kinds-in (now kinds)) (now code) (now ring) at ⌝ }
+    requires { ⌜ Near (kinds-in (now kinds)) (now code) (now ring) at × Wide (length (now code)) (length (now ring)) ⌝ }
     ensures { λ r. ⌜ r ≡ Division.lands (instructions (from (kinds-in (now (kinds .entry))) (now (code .entry)) 0 0)) (length (now (code .entry))) (instruction-at (kinds-in (now (kinds .entry))) (now (code .entry)) at) ⌝ }
 {
     let op = code[at];
@@ -299,7 +306,7 @@ fn lands(code: &[u8], at: usize, kinds: &[u32; 256], ring: &[u8; 131072]) -> boo
         if to > code.len() {
             return false;
         }
-        return ring[to % 131072] == 1;
+        return ring[to % WINDOW] == 1;
     }
     if far > next {
         return false;
@@ -308,13 +315,13 @@ fn lands(code: &[u8], at: usize, kinds: &[u32; 256], ring: &[u8; 131072]) -> boo
     if to >= code.len() {
         return false;
     }
-    ring[to % 131072] == 1
+    ring[to % WINDOW] == 1
 }
 
 // Whether every jump lands where it may, in a code that divides.
-fn jumps(code: &[u8], kinds: &[u32; 256], ring: &mut [u8; 131072]) -> bool
-    requires { ⌜ (is-some (from (kinds-in (now kinds)) (now code) 0 0) ≡ true) × (length (now ring) ≡ 131072) ⌝ }
-    ensures { λ r. ⌜ (r ≡ all-land (kinds-in (now (kinds .entry))) (now (code .entry)) (instructions (from (kinds-in (now (kinds .entry))) (now (code .entry)) 0 0))) × (length (now (ring .exit)) ≡ 131072) ⌝ }
+fn jumps(code: &[u8], kinds: &[u32; 256], ring: &mut [u8]) -> bool
+    requires { ⌜ (is-some (from (kinds-in (now kinds)) (now code) 0 0) ≡ true) × Wide (length (now code)) (length (now ring)) ⌝ }
+    ensures { λ r. ⌜ r ≡ all-land (kinds-in (now (kinds .entry))) (now (code .entry)) (instructions (from (kinds-in (now (kinds .entry))) (now (code .entry)) 0 0)) ⌝ }
 {
     let mut at: usize = 0;
     let mut skip: usize = 0;
@@ -329,7 +336,7 @@ fn jumps(code: &[u8], kinds: &[u32; 256], ring: &mut [u8; 131072]) -> bool
                 kinds,
                 ring,
                 lead,
-                fields::least(code.len(), at + 65539),
+                fields::least(code.len(), at + AHEAD),
             );
             if !lands(code, at, kinds, ring) {
                 return false;
@@ -389,14 +396,9 @@ fn all_once(kinds: &[u32; 256], named: &[u64; 256]) -> bool
 }
 
 // The code of a function whose constants are in the table.
-pub fn code_fits(
-    code: &[u8],
-    kinds: &[u32; 256],
-    upvalues: usize,
-    ring: &mut [u8; 131072],
-) -> Verdict
-    requires { ⌜ length (now ring) ≡ 131072 ⌝ }
-    ensures { λ r. ⌜ (r ≡ judged-code (kinds-in (now (kinds .entry))) upvalues (length (now (code .entry))) (division (kinds-in (now (kinds .entry))) (now (code .entry)))) × (length (now (ring .exit)) ≡ 131072) ⌝ }
+pub fn code_fits(code: &[u8], kinds: &[u32; 256], upvalues: usize, ring: &mut [u8]) -> Verdict
+    requires { ⌜ Wide (length (now code)) (length (now ring)) ⌝ }
+    ensures { λ r. ⌜ r ≡ judged-code (kinds-in (now (kinds .entry))) upvalues (length (now (code .entry))) (division (kinds-in (now (kinds .entry))) (now (code .entry))) ⌝ }
 {
     let Verdict::Yes(n) = walk(code, kinds, upvalues) else {
         return Verdict::No;

@@ -58,15 +58,22 @@ distinct-no (x ∷ l) (suc i) (suc j) a b e =
 -- ## Where a stamp stands
 
 module _ (size word : ℕ) where
-  pub slot-low : size < 65536 → word % 4093 ≡ slot-in size word
+  pub slot-least : size < 4096 → word % 509 ≡ slot-in size word
   unfolding slot-in
-  slot-low h = rw (lt-ltb size 65536 h) refl
+  slot-least h = rw (lt-ltb size 4096 h) refl
+
+  pub slot-low : 4096 ≤ size → size < 65536 → word % 4093 ≡ slot-in size word
+  unfolding slot-in
+  slot-low l h = rw (le-ltb size 4096 l, lt-ltb size 65536 h) refl
 
   pub slot-high : 65536 ≤ size → word % 65521 ≡ slot-in size word
   unfolding slot-in
-  slot-high h = rw (le-ltb size 65536 h) refl
+  slot-high h = rw (le-ltb size 4096 (omega arith), le-ltb size 65536 h) refl
 
-  pub below-low : 4093 ≤ size → word % 4093 < size
+  pub below-least : 509 ≤ size → word % 509 < size
+  below-least h = omega arith
+
+  pub below-low : 4096 ≤ size → word % 4093 < size
   below-low h = omega arith
 
   pub below-high : 65536 ≤ size → word % 65521 < size

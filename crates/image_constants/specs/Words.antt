@@ -25,9 +25,13 @@ pub record Gathered (image : List ℕ) (begin n : ℕ) (r : Place) (words : List
   pub told : r ≡ place-told (many n (read-constant image) begin)
   pub are : (next : ℕ) → r ≡ At next → many n (read-constant image) begin ≡ got (constants-of n words) next
 
+-- how many stamps there are at least: the least of the primes that words are divided by
+abbrev pub stamps-least : ℕ
+stamps-least = 509
+
 -- where the stamp of a word stands among `size` stamps
 unfoldable pub slot-in : (size word : ℕ) → ℕ
-slot-in size word = if ltb size 65536 then word % 4093 else word % 65521
+slot-in size word = if ltb size 4096 then word % stamps-least else if ltb size 65536 then word % 4093 else word % 65521
 
 -- the first place below `n` that has the word, or `n`
 pub record Place-of (words : List ℕ) (n word r : ℕ) : Type 0 where

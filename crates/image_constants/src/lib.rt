@@ -8,7 +8,7 @@ ghost use Rattle.rules.specs.Reader.{got, many};
 ghost use Rattle.rules.specs.ImageFile.{read-function};
 ghost use Rattle.rules.specs.Chunk.{ObjectFunction};
 ghost use Rattle.rules.specs.Checker.{distinct};
-ghost use Rattle.image_constants.specs.Words.{constant-of, constants-of, Gathered, slot-in, Place-of};
+ghost use Rattle.image_constants.specs.Words.{constant-of, constants-of, Gathered, stamps-least, slot-in, Place-of};
 ghost use Rattle.image_constants.specs.Earlier.{earlier, is-got, upvalues-at, Counts, kind-word, Kinds};
 use image_code::Kind;
 use image_records::Head;
@@ -50,9 +50,12 @@ fn find(words: &[u64], n: usize, word: u64) -> usize
 
 // Where a word's stamp stands among `size` stamps. By primes that are written out: to divide by the size itself would cost more.
 fn slot_of(word: u64, size: usize) -> usize
-    requires { ⌜ 4093 ≤ size ⌝ }
+    requires { ⌜ stamps-least ≤ size ⌝ }
     ensures { λ r. ⌜ (r ≡ slot-in size word) × (r < size) ⌝ }
 {
+    if size < 4096 {
+        return (word % 509) as usize;
+    }
     if size < 65536 {
         return (word % 4093) as usize;
     }
@@ -62,7 +65,7 @@ fn slot_of(word: u64, size: usize) -> usize
 // Whether no two of the first `n` constants are equal. A word whose slot has not this function's mark is new; the others are looked for
 // among the words before. A mark that was left there by another function costs time and nothing else, so nobody clears the stamps.
 pub fn all_new(words: &[u64], n: usize, mark: u32, stamps: &mut [u32]) -> bool
-    requires { ⌜ (n ≤ length (now words)) × (4093 ≤ length (now stamps)) ⌝ }
+    requires { ⌜ (n ≤ length (now words)) × (stamps-least ≤ length (now stamps)) ⌝ }
     ensures { λ r. ⌜ r ≡ distinct (constants-of n (now (words .entry))) ⌝ }
 {
     let mut i: usize = 0;

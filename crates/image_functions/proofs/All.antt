@@ -116,17 +116,17 @@ module _ (s : List ℕ) (k at : ℕ) (counts : List ℕ) (c : Counts s k counts)
 
 -- ## The loop
 
-pub record Going (s : List ℕ) (count room : ℕ) (counts words stamps ring : List ℕ) (at k total : ℕ) : Type 0 where
+pub record Going (s : List ℕ) (count counts-room stamps-room ring-room : ℕ) (counts words stamps ring : List ℕ) (at k total : ℕ) : Type 0 where
   pub within : k ≤ count
   pub counts-are : Counts s k counts
   pub place : many k (read-function s) 6 ≡ got (earlier s k) at
   pub low : total ≤ at
   pub inside : at ≤ length s
   pub left : functions-done 0 [] (length s) (many count (read-function s) 6) ≡ functions-done total (earlier s k) (length s) (many (count - k) (read-function s) at)
-  pub counts-size : length counts ≡ room
+  pub counts-size : length counts ≡ counts-room
   pub words-size : length words ≡ 256
-  pub stamps-size : length stamps ≡ 4096
-  pub ring-size : length ring ≡ 131072
+  pub stamps-size : length stamps ≡ stamps-room
+  pub ring-size : length ring ≡ ring-room
 
 module _ (n : ℕ) (before : List ObjectFunction) (size : ℕ) (f : ObjectFunction) where
   wrong-on : (r : Read (List ObjectFunction)) → right before f ≡ false → functions-done n before size (onto f r) ≡ verdict.No
@@ -162,10 +162,10 @@ done-is before (got f m) n next e = by (right before f) refl e
     by false g e = absurd (let z : _≡_ {A = ℕ} 0 1 = cc in omega arith)
 
 module _ (s : List ℕ) (count : ℕ) where
-  pub going-begin : (counts words stamps ring : List ℕ) → 6 ≤ length s → length words ≡ 256 → length stamps ≡ 4096 → length ring ≡ 131072
-      → Going s count (length counts) counts words stamps ring 6 0 0
+  pub going-begin : (counts words stamps ring : List ℕ) → 6 ≤ length s → length words ≡ 256
+      → Going s count (length counts) (length stamps) (length ring) counts words stamps ring 6 0 0
   unfolding earlier functions-in is-got
-  going-begin counts words stamps ring room w t g =
+  going-begin counts words stamps ring room w =
       let z = many-none (read-function s) 0 6 refl in
       let e : earlier s 0 ≡ [] = ap functions-in z in
       record {
@@ -179,11 +179,12 @@ module _ (s : List ℕ) (count : ℕ) where
             ap (λ (l : List ObjectFunction). functions-done 0 l (length s) (many (count - 0) (read-function s) 6)) (sym e);
         counts-size = refl;
         words-size = w;
-        stamps-size = t;
-        ring-size = g;
+        stamps-size = refl;
+        ring-size = refl;
       }
 
-  module _ (size : ℕ) (counts words stamps ring : List ℕ) (at k total : ℕ) (g : Going s count size counts words stamps ring at k total) where
+  module _ (size stamps-room ring-room : ℕ) (counts words stamps ring : List ℕ) (at k total : ℕ)
+      (g : Going s count size stamps-room ring-room counts words stamps ring at k total) where
     stop-by : k < count → (r : Read ObjectFunction) → read-function s at ≡ r → done.Bad ≡ function-done (earlier s k) r
         → functions-done total (earlier s k) (length s) (many (count - k) (read-function s) at) ≡ verdict.No
     unfolding function-done functions-done
@@ -209,7 +210,8 @@ module _ (s : List ℕ) (count : ℕ) where
       next-is = record { place = g .place; there = ap is-got (d .is) }
 
       pub going-on : k < count → (at + n ≤ next) × (next ≤ length s) → (counts′ words′ stamps′ ring′ : List ℕ) → Counts s (k + 1) counts′
-          → length counts′ ≡ size → length words′ ≡ 256 → length stamps′ ≡ 4096 → length ring′ ≡ 131072 → Going s count size counts′ words′ stamps′ ring′ next (k + 1) (total + n)
+          → length counts′ ≡ size → length words′ ≡ 256 → length stamps′ ≡ stamps-room → length ring′ ≡ ring-room
+          → Going s count size stamps-room ring-room counts′ words′ stamps′ ring′ next (k + 1) (total + n)
       going-on h grows counts′ words′ stamps′ ring′ c z w t o =
           let m = earlier-more s k at next (d .value) (g .place) (d .is) in
           record {

@@ -17,7 +17,7 @@ use Rattle.rules.specs.Division.{Kind, Instruction, divide, division, kind-at, 
 use Rattle.rules.specs.ImageFile.{read-constant, read-run, read-function}
 use Rattle.rules.specs.Checker.{runs-apart, distinct}
 use Rattle.rules.specs.Checker as Checker
-use Rattle.image_code.specs.Table.{code-right, judged-code, kinds-in}
+use Rattle.image_code.specs.Table.{code-right, judged-code, kinds-in, Wide}
 use Rattle.image_code.specs.Table as Table
 use Rattle.image_code.specs.declared.Verdict.{Verdict}
 use Rattle.image_code.specs.declared.Verdict.the-variants as verdict
@@ -116,6 +116,12 @@ part-is s first size end e = let m : end - first ≡ size = omega arith in rw m 
 
 part-length : (s : List ℕ) (first size : ℕ) → first + size ≤ length s → length (take size (drop first s)) ≡ size
 part-length s first size h = simp (length-take, length-drop) (omega arith)
+
+-- a ring that has a slot for each place of an image has one for each place of a part of it
+pub part-wide : (s : List ℕ) (first size room : ℕ) → Wide (length s) room → Wide (length (take size (drop first s))) room
+part-wide s first size room w p h =
+    let shorter : length (take size (drop first s)) ≤ length s = simp (length-take, length-drop) (omega arith) in
+    w p (omega arith)
 
 module _ (s : List ℕ) (kind : ℕ → Kind) (u sum size at : ℕ) where
   abbrev told : Done

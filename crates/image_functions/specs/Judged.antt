@@ -21,6 +21,10 @@ use Rattle.image_constants.specs.Earlier.{is-got, kinds-right, earlier}
 use Rattle.image_functions.specs.declared.Done.{Done}
 use Rattle.image_functions.specs.declared.Done.the-variants as done
 
+-- an image of at most this many bytes is judged with small tables
+abbrev pub small-size : ℕ
+small-size = 4096
+
 -- ## The constants
 
 unfoldable pub constants-fine : (k : ℕ) → List Constant → Bool

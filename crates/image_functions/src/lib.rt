@@ -6,16 +6,21 @@ ghost use Prim.Native.Nat.{ℕ, _+_, _<_, _≤_};
 ghost use lib.ListN.{length, getD};
 ghost use Rattle.rules.specs.Reader.{many};
 ghost use Rattle.rules.specs.ImageFile.{read-function};
-ghost use Rattle.image_code.specs.Table.{kinds-in};
+ghost use Rattle.image_code.specs.Table.{kinds-in, window-size, Wide};
 ghost use Rattle.image_records.specs.Told.{code-told};
+ghost use Rattle.image_constants.specs.Words.{stamps-least};
 ghost use Rattle.image_constants.specs.Earlier.{Counts};
 ghost use Rattle.image_functions.specs.declared.Done.the-variants as done;
-ghost use Rattle.image_functions.specs.Judged.{Constants-right, code-done, Judged, Next-is, functions-done};
+ghost use Rattle.image_functions.specs.Judged.{Constants-right, code-done, Judged, Next-is, functions-done, small-size};
 use image_code::Verdict;
+use image_code::WINDOW;
 use image_records::Head;
 use image_records::Header;
 use image_records::Place;
 use image_records::Summed;
+
+// An image of at most this many bytes is small: it pays for small tables only.
+const SMALL: usize = 4096;
 
 // How many instructions a function has, and where it ends.
 pub enum Done {
@@ -35,7 +40,7 @@ fn constants_in(
     kinds: &mut [u32; 256],
 ) -> Place
     requires { ⌜ (k < 4294967295) × Counts (now s) k (now counts) ⌝ }
-    requires { ⌜ (n ≤ length (now words)) × (4093 ≤ length (now stamps)) ⌝ }
+    requires { ⌜ (n ≤ length (now words)) × (stamps-least ≤ length (now stamps)) ⌝ }
     requires { ⌜ (length (now kinds) ≡ 256) × ((p : ℕ) → getD (now kinds) p 0 ≡ 0) ⌝ }
     ensures { λ r. ⌜ Constants-right (now (s .entry)) k at n r (now (kinds .exit)) ⌝ }
 {
@@ -97,14 +102,14 @@ fn constants_right(
     k: usize,
     counts: &[u16],
     words: &mut [u64; 256],
-    stamps: &mut [u32; 4096],
+    stamps: &mut [u32],
     kinds: &mut [u32; 256],
 ) -> Place
     requires { ⌜ (n < 65536) × ((k < 4294967295) × Counts (now s) k (now counts)) ⌝ }
-    requires { ⌜ (length (now words) ≡ 256) × (length (now stamps) ≡ 4096) ⌝ }
+    requires { ⌜ (length (now words) ≡ 256) × (stamps-least ≤ length (now stamps)) ⌝ }
     requires { ⌜ (length (now kinds) ≡ 256) × ((p : ℕ) → getD (now kinds) p 0 ≡ 0) ⌝ }
     ensures { λ r. ⌜ Constants-right (now (s .entry)) k at n r (now (kinds .exit)) ⌝ }
-    ensures { λ r. ⌜ (length (now (words .exit)) ≡ 256) × (length (now (stamps .exit)) ≡ 4096) ⌝ }
+    ensures { λ r. ⌜ length (now (words .exit)) ≡ 256 ⌝ }
 {
     if n <= 256 {
         return constants_in(s, at, n, k, counts, words, stamps, kinds);
@@ -120,11 +125,11 @@ fn code_right(
     sum: u64,
     upvalues: usize,
     kinds: &[u32; 256],
-    ring: &mut [u8; 131072],
+    ring: &mut [u8],
 ) -> Done
-    requires { ⌜ length (now ring) ≡ 131072 ⌝ }
+    requires { ⌜ Wide (length (now s)) (length (now ring)) ⌝ }
     ensures { λ r. ⌜ r ≡ code-done (kinds-in (now (kinds .entry))) upvalues sum size (now (s .entry)) (code-told (now (s .entry)) size at) ⌝ }
-    ensures { λ r. ⌜ ((n next : ℕ) → r ≡ done.Is n next → (at + n ≤ next) × (next ≤ length (now (s .entry)))) × (length (now (ring .exit)) ≡ 131072) ⌝ }
+    ensures { λ r. ⌜ ((n next : ℕ) → r ≡ done.Is n next → (at + n ≤ next) × (next ≤ length (now (s .entry)))) ⌝ }
 {
     let Place::At(first) = image_records::code_at(s, at, size) else {
         return Done::Bad;
@@ -146,13 +151,13 @@ fn function(
     k: usize,
     counts: &[u16],
     words: &mut [u64; 256],
-    stamps: &mut [u32; 4096],
-    ring: &mut [u8; 131072],
+    stamps: &mut [u32],
+    ring: &mut [u8],
 ) -> Done
     requires { ⌜ (k < 4294967295) × Counts (now s) k (now counts) ⌝ }
-    requires { ⌜ (length (now words) ≡ 256) × ((length (now stamps) ≡ 4096) × (length (now ring) ≡ 131072)) ⌝ }
+    requires { ⌜ (length (now words) ≡ 256) × ((stamps-least ≤ length (now stamps)) × Wide (length (now s)) (length (now ring))) ⌝ }
     ensures { λ r. ⌜ Judged (now (s .entry)) k at r ⌝ }
-    ensures { λ r. ⌜ (length (now (words .exit)) ≡ 256) × ((length (now (stamps .exit)) ≡ 4096) × (length (now (ring .exit)) ≡ 131072)) ⌝ }
+    ensures { λ r. ⌜ length (now (words .exit)) ≡ 256 ⌝ }
 {
     let Head::Is(h) = image_records::head_of(s, at) else {
         return Done::Bad;
@@ -204,11 +209,11 @@ fn judge_all(
     count: usize,
     counts: &mut [u16],
     words: &mut [u64; 256],
-    stamps: &mut [u32; 4096],
-    ring: &mut [u8; 131072],
+    stamps: &mut [u32],
+    ring: &mut [u8],
 ) -> Verdict
     requires { ⌜ (count < 4294967296) × (6 ≤ length (now s)) ⌝ }
-    requires { ⌜ (length (now words) ≡ 256) × ((length (now stamps) ≡ 4096) × (length (now ring) ≡ 131072)) ⌝ }
+    requires { ⌜ (length (now words) ≡ 256) × ((stamps-least ≤ length (now stamps)) × Wide (length (now s)) (length (now ring))) ⌝ }
     ensures { λ r. ⌜ r ≡ functions-done 0 [] (length (now (s .entry))) (many count (read-function (now (s .entry))) 6) ⌝ }
 {
     let mut at: usize = Header::FIRST;
@@ -229,38 +234,85 @@ fn judge_all(
     Verdict::No
 }
 
-// The same with tables for functions of up to 256 constants. They are lent to each function, and none is cleared between two.
-fn judge_with(s: &[u8], count: usize, counts: &mut [u16]) -> Verdict
+// The same with words for functions of up to 256 constants. All tables are lent to each function, and none is cleared between two.
+fn judge_with(
+    s: &[u8],
+    count: usize,
+    counts: &mut [u16],
+    stamps: &mut [u32],
+    ring: &mut [u8],
+) -> Verdict
     requires { ⌜ (count < 4294967296) × (6 ≤ length (now s)) ⌝ }
+    requires { ⌜ (stamps-least ≤ length (now stamps)) × Wide (length (now s)) (length (now ring)) ⌝ }
     ensures { λ r. ⌜ r ≡ functions-done 0 [] (length (now (s .entry))) (many count (read-function (now (s .entry))) 6) ⌝ }
 {
     let mut words = [0u64; 256];
-    let mut stamps = [0u32; 4096];
-    let mut ring = [0u8; 131072];
-    judge_all(s, count, counts, &mut words, &mut stamps, &mut ring)
+    judge_all(s, count, counts, &mut words, stamps, ring)
 }
 
-fn few_lent(s: &[u8], count: usize, counts: &mut [u16; 2048]) -> Verdict
-    requires { ⌜ (count < 4294967296) × ((6 ≤ length (now s)) × (length (now counts) ≡ 2048)) ⌝ }
+fn small_lent(
+    s: &[u8],
+    count: usize,
+    counts: &mut [u16; 256],
+    stamps: &mut [u32; 512],
+    ring: &mut [u8; SMALL],
+) -> Verdict
+    requires { ⌜ (count < 4294967296) × ((6 ≤ length (now s)) × (length (now s) ≤ small-size)) ⌝ }
+    requires { ⌜ (length (now stamps) ≡ 512) × (length (now ring) ≡ small-size) ⌝ }
     ensures { λ r. ⌜ r ≡ functions-done 0 [] (length (now (s .entry))) (many count (read-function (now (s .entry))) 6) ⌝ }
 {
-    judge_with(s, count, counts)
+    judge_with(s, count, counts, stamps, ring)
 }
 
-// Tables are made of zeros, which takes a small image as long as its reading: so few functions get a small one.
+// Tables are made of zeros, which takes a small image longer than its reading: so it gets small ones. No code of it is longer than its ring, and
+// with 19 bytes and more to each it has less than 256 functions.
+fn judge_small(s: &[u8], count: usize) -> Verdict
+    requires { ⌜ (count < 4294967296) × ((6 ≤ length (now s)) × (length (now s) ≤ small-size)) ⌝ }
+    ensures { λ r. ⌜ r ≡ functions-done 0 [] (length (now (s .entry))) (many count (read-function (now (s .entry))) 6) ⌝ }
+{
+    let mut counts = [0u16; 256];
+    let mut stamps = [0u32; 512];
+    let mut ring = [0u8; SMALL];
+    small_lent(s, count, &mut counts, &mut stamps, &mut ring)
+}
+
+fn few_lent(
+    s: &[u8],
+    count: usize,
+    counts: &mut [u16; 2048],
+    stamps: &mut [u32; 4096],
+    ring: &mut [u8; WINDOW],
+) -> Verdict
+    requires { ⌜ (count < 4294967296) × (6 ≤ length (now s)) ⌝ }
+    requires { ⌜ (length (now stamps) ≡ 4096) × (length (now ring) ≡ window-size) ⌝ }
+    ensures { λ r. ⌜ r ≡ functions-done 0 [] (length (now (s .entry))) (many count (read-function (now (s .entry))) 6) ⌝ }
+{
+    judge_with(s, count, counts, stamps, ring)
+}
+
+// Few functions get a small table of counts.
 fn judge_few(s: &[u8], count: usize) -> Verdict
     requires { ⌜ (count < 4294967296) × (6 ≤ length (now s)) ⌝ }
     ensures { λ r. ⌜ r ≡ functions-done 0 [] (length (now (s .entry))) (many count (read-function (now (s .entry))) 6) ⌝ }
 {
     let mut counts = [0u16; 2048];
-    few_lent(s, count, &mut counts)
+    let mut stamps = [0u32; 4096];
+    let mut ring = [0u8; WINDOW];
+    few_lent(s, count, &mut counts, &mut stamps, &mut ring)
 }
 
-fn many_lent(s: &[u8], count: usize, counts: &mut [u16; 65536]) -> Verdict
-    requires { ⌜ (count < 4294967296) × ((6 ≤ length (now s)) × (length (now counts) ≡ 65536)) ⌝ }
+fn many_lent(
+    s: &[u8],
+    count: usize,
+    counts: &mut [u16; 65536],
+    stamps: &mut [u32; 4096],
+    ring: &mut [u8; WINDOW],
+) -> Verdict
+    requires { ⌜ (count < 4294967296) × (6 ≤ length (now s)) ⌝ }
+    requires { ⌜ (length (now stamps) ≡ 4096) × (length (now ring) ≡ window-size) ⌝ }
     ensures { λ r. ⌜ r ≡ functions-done 0 [] (length (now (s .entry))) (many count (read-function (now (s .entry))) 6) ⌝ }
 {
-    judge_with(s, count, counts)
+    judge_with(s, count, counts, stamps, ring)
 }
 
 fn judge_many(s: &[u8], count: usize) -> Verdict
@@ -268,7 +320,9 @@ fn judge_many(s: &[u8], count: usize) -> Verdict
     ensures { λ r. ⌜ r ≡ functions-done 0 [] (length (now (s .entry))) (many count (read-function (now (s .entry))) 6) ⌝ }
 {
     let mut counts = [0u16; 65536];
-    many_lent(s, count, &mut counts)
+    let mut stamps = [0u32; 4096];
+    let mut ring = [0u8; WINDOW];
+    many_lent(s, count, &mut counts, &mut stamps, &mut ring)
 }
 
 // All `count` functions of an image.
@@ -276,6 +330,9 @@ pub fn judge(s: &[u8], count: usize) -> Verdict
     requires { ⌜ (count < 4294967296) × (6 ≤ length (now s)) ⌝ }
     ensures { λ r. ⌜ r ≡ functions-done 0 [] (length (now (s .entry))) (many count (read-function (now (s .entry))) 6) ⌝ }
 {
+    if s.len() <= SMALL {
+        return judge_small(s, count);
+    }
     if count <= 2048 {
         return judge_few(s, count);
     }

@@ -18,7 +18,7 @@ use Rattle.rules.specs.Entry.{Lent, Left, Compiled, functions-are, refus
 use Rattle.rules.specs.Image.{image-bytes}
 use Rattle.rules.specs.Division.{Instruction, division, word}
 use Rattle.rules.specs.Checker as checker
-use Rattle.rules.specs.Checker.{check, code-of, code-start, code-answer}
+use Rattle.rules.specs.Checker.{check, code-of, code-place, code-answer}
 
 -- the bytes whose digits, two to a byte, are those of `n`
 unfoldable pub hex : (count n : ℕ) → List ℕ
@@ -226,7 +226,7 @@ pub record P1-to-P12 : Type 0 where
   pub P11-lands-on-end : first-targets (compile-tree first-limits P11-tree max-code) ≡ 12 ∷ 15 ∷ []
   -- the lookups in P2's image: its code is the last five bytes
   pub P2-code : code-of P2-image 0 ≡ hex 5 0x00_00_1B_01_24
-  pub P2-code-start : code-start P2-image 0 ≡ 68
+  pub P2-code-place : code-place P2-image 0 ≡ 68
   pub P2-no-function : code-answer P2-image 1 ≡ record { number = 41; at = 0; end = 0; name = 0; length = 0 }
 
 pub holds : P1-to-P12
@@ -244,6 +244,6 @@ holds =
       P2-work-short = refl;
       P11-lands-on-end = refl;
       P2-code = refl;
-      P2-code-start = refl;
+      P2-code-place = refl;
       P2-no-function = refl;
     }

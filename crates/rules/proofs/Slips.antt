@@ -1,36 +1,43 @@
 -- Slips this trade makes, each shut out by a law or by the smallest example that shows it. P1 to P12 show some of them too: slot 0 unnamed by P5.
 use mathlib.Core.Path.{_≡_, refl, ap}
 use mathlib.Core.Bool.{Bool, true, false}
-use mathlib.Core.Option.{none}
+use mathlib.Core.Option.{none, some}
 use mathlib.Core.List.{List, [], _∷_, _++_}
-use Prim.Native.Nat.{ℕ, _-_, _≤_, _<_}
+use Prim.Native.Nat.{ℕ, _+_, _-_, _/_, _%_, _≤_, _<_}
 use native.Mathlib.Omega.{arith}
 use lib.ListN.{length, replicate}
 use lib.Dec.{leb, eqb}
-use borrow.Author.Tests.{le-leb, lt-leb, le-ltb}
+use borrow.Author.Tests.{le-leb, lt-leb, lt-ltb, le-ltb}
 use Rattle.rules.specs.Base.{if_then_else_, position}
 use Rattle.rules.specs.declared.Span.{Span}
 use Rattle.rules.specs.declared.Refusal.{Refusal}
-use Rattle.rules.specs.declared.Refusal.the-variants.{TooManyArgs, TooManyParams, TooManyLocals, TooManyUpvalues, TreeTooDeep, TooManyOpen, TreeTooLong, CodeFull, OutFull}
+use Rattle.rules.specs.declared.Refusal.the-variants.{AlreadyDefined, JumpTooLarge, TooManyArgs, TooManyParams, TooManyLocals, TooManyUpvalues}
+use Rattle.rules.specs.declared.Refusal.the-variants.{TreeTooDeep, TooManyOpen, TreeTooLong, CodeFull, OutFull, ImageRefused}
 use Rattle.rules.specs.declared.Answer.{Answer}
 use Rattle.rules.specs.Answer.{NO-SPAN, refusal, accepted}
-use Rattle.rules.specs.Tree.{Expr, Exprs, ExprCall, count-exprs}
+use Rattle.rules.specs.Tree.{Expr, Exprs, ExprAssign, ExprCall, ExprGet, ExprInfix, Literal, ExprPrefix, ExprSet, ExprSuper, ExprVar, []ᵉ, _∷ᵉ_, count-exprs}
+use Rattle.rules.specs.Tree.{Less, Not, LitBool, LitNil, LitNumber, LitString}
+use Rattle.rules.specs.Tree.{Stmts, StmtBlock, StmtClass, StmtExpr, StmtFor, StmtIf, StmtPrint, StmtReturn, StmtVar, StmtWhile, []ˢ, _∷ˢ_, fun, []ᵐ, method}
+use Rattle.rules.specs.TreeFile.{read-tree}
+use Rattle.rules.specs.TreeEncode as tree-encode
+use Rattle.rules.specs.TreeEncode.{encode}
 use Rattle.rules.specs.Op as op
 use Rattle.rules.specs.Chunk.{Chunk, Constant, CN, CS, same-constant, Run, push-span, ObjectFunction, write-constant, written, at-place, no-room}
 use Rattle.rules.specs.Image.{image-bytes}
 use Rattle.rules.specs.Compiler as c
-use Rattle.rules.specs.Compiler.{Compiler, CompilerCtx, FunctionType, Upvalue, err, ends-in-return, same-upvalue, add-upvalue, added, captured, failed, with-upvalues, declared}
+use Rattle.rules.specs.Compiler.{Compiler, CompilerCtx, FunctionType, Upvalue, ok, err, with-ctx, with-chunk, with-locals, with-upvalues}
+use Rattle.rules.specs.Compiler.{ends-in-return, same-upvalue, add-upvalue, added, captured, failed, declared, set-u16}
 use Rattle.rules.specs.Limits.{Limits, first-limits, max-tree, max-code}
 use Rattle.rules.specs.Entry as entry
 use Rattle.rules.specs.Entry.{Lent, Left, Compiled, functions-are, refused, compile-tree, compile-lent, compile-within}
 use Rattle.rules.specs.Division as d
 use Rattle.rules.specs.ImageFile as image-file
 use Rattle.rules.specs.ImageFile.{read-run}
-use Rattle.rules.specs.Reader.{got}
+use Rattle.rules.specs.Reader.{got, bad}
 use Rattle.rules.specs.Division.{division, function-fits, run-fits}
 use Rattle.rules.specs.Checker as checker
-use Rattle.rules.specs.Checker.{span-of}
-use Rattle.rules.proofs.Examples.{hex, P2-tree, P12-tree, from-to, lent, given, codes}
+use Rattle.rules.specs.Checker.{check, span-of}
+use Rattle.rules.proofs.Examples.{hex, P2-tree, P2-image, P12-tree, from-to, lent, given, codes}
 
 -- ## "256 arguments", and `super` before the count
 
@@ -52,6 +59,16 @@ pub too-many-params : (limit : ℕ) (type : FunctionType) (name : ℕ) (params :
     c.compile-function-with limit type name params body span s ≡ err (TooManyParams span)
 unfolding c.compile-function-with c._>>_ c.go-on c.need
 too-many-params limit type name params body span s l = rw (lt-leb (length params) 255 (omega arith))
+
+pub enough-params : (limit : ℕ) (type : FunctionType) (name : ℕ) (params : List ℕ) (body : c.Compile Unit) (span : Span) (s : Compiler) →
+    length params ≤ 255 → c.compile-function-with limit type name params body span s ≡ c._>>=_ (c.the (λ s. s .ctx .scope-depth))
+    (λ depth. c._>>_ (c.begin-ctx (c.new-ctx name (length params) type (depth + 1)))
+    (c._>>_ (c.declare-local (c.slot-zero type name) span)
+    (c._>>_ c.define-local
+    (c._>>_ (c.declare-params params span)
+    (c._>>_ body (c._>>_ (c.implicit-return limit) (c.end-function limit span))))))) s
+unfolding c.compile-function-with c._>>=_ c._>>_ c.go-on c.need
+enough-params limit type name params body span s l = rw (le-leb (length params) 255 l)
 
 -- ## 256 constants, captured variables and locals: one more is refused
 
@@ -79,6 +96,52 @@ pub too-many-locals : (name : ℕ) (span : Span) (s : Compiler) → declared (s 
     c.declare-local name span s ≡ err (TooManyLocals span)
 unfolding c.declare-local c._>>=_ c._>>_ c.go-on c.need c.the
 too-many-locals name span s e l = rw (e, le-ltb (length (s .ctx .locals)) 256 l)
+
+abbrev pub with-local : Compiler → (name : ℕ) → Compiler
+with-local s name =
+    with-ctx s (with-locals (s .ctx)
+    (record { name = name; depth = s .ctx .scope-depth; is-initialized = false; is-captured = false } ∷ s .ctx .locals))
+
+pub enough-locals : (name : ℕ) (span : Span) (s : Compiler) → declared (s .ctx .scope-depth) name (s .ctx .locals) ≡ false → length (s .ctx .locals) < 256 →
+    c.declare-local name span s ≡ ok tt (with-local s name)
+unfolding c.declare-local c._>>=_ c._>>_ c.go-on c.need c.the c.update-ctx
+enough-locals name span s e l = rw (e, lt-ltb (length (s .ctx .locals)) 256 l)
+
+-- a name that its scope has already is 10, however many there are
+pub already-declared : (name : ℕ) (span : Span) (s : Compiler) → declared (s .ctx .scope-depth) name (s .ctx .locals) ≡ true →
+    c.declare-local name span s ≡ err (AlreadyDefined span name)
+unfolding c.declare-local c._>>=_ c._>>_ c.go-on c.need c.the
+already-declared name span s e = rw e
+
+-- ## A jump goes 65,535 bytes and no further
+
+-- the operand at this place holds how far it goes
+abbrev pub with-operand : Compiler → (at distance : ℕ) → Compiler
+with-operand s at distance =
+    with-ctx s (with-chunk (s .ctx)
+    (record { ops = set-u16 (s .ctx .chunk .ops) at distance; constants = s .ctx .chunk .constants; spans = s .ctx .chunk .spans }))
+
+pub near-ahead : (at : ℕ) (span : Span) (s : Compiler) → length (s .ctx .chunk .ops) - 2 - at ≤ 65_535 →
+    c.patch-jump at span s ≡ ok tt (with-operand s at (length (s .ctx .chunk .ops) - 2 - at))
+unfolding c.patch-jump c.code-length c._>>=_ c._>>_ c.go-on c.need c.the c.update-ctx
+near-ahead at span s l = rw (le-leb (length (s .ctx .chunk .ops) - 2 - at) 65_535 l)
+
+pub too-far-ahead : (at : ℕ) (span : Span) (s : Compiler) → 65_535 < length (s .ctx .chunk .ops) - 2 - at →
+    c.patch-jump at span s ≡ err (JumpTooLarge span)
+unfolding c.patch-jump c.code-length c._>>=_ c._>>_ c.go-on c.need c.the
+too-far-ahead at span s l = rw (lt-leb (length (s .ctx .chunk .ops) - 2 - at) 65_535 l)
+
+pub near-back : (limit start : ℕ) (span : Span) (s : Compiler) → length (s .ctx .chunk .ops) + 3 - start ≤ 65_535 →
+    c.emit-loop limit start span s ≡ c._>>_ (c.emit-u8 limit op.LOOP span)
+    (c._>>_ (c.emit-u8 limit ((length (s .ctx .chunk .ops) + 3 - start) % 256) span)
+    (c.emit-u8 limit ((length (s .ctx .chunk .ops) + 3 - start) / 256) span)) s
+unfolding c.emit-loop c.code-length c._>>=_ c._>>_ c.go-on c.need c.the
+near-back limit start span s l = rw (le-leb (length (s .ctx .chunk .ops) + 3 - start) 65_535 l)
+
+pub too-far-back : (limit start : ℕ) (span : Span) (s : Compiler) → 65_535 < length (s .ctx .chunk .ops) + 3 - start →
+    c.emit-loop limit start span s ≡ err (JumpTooLarge span)
+unfolding c.emit-loop c.code-length c._>>=_ c._>>_ c.go-on c.need c.the
+too-far-back limit start span s l = rw (lt-leb (length (s .ctx .chunk .ops) + 3 - start) 65_535 l)
 
 -- ## The last byte and not the last instruction
 
@@ -226,6 +289,17 @@ pub read-runs : Read-runs
 unfolding hex d.computes image-file.computes
 read-runs = record { longest = refl; too-long-a-run = refl; as-written = refl }
 
+-- ## An image has one form: to the last byte, and with a function
+
+pub record One-form : Type 0 where
+  pub as-written : check P2-image ≡ accepted 4
+  pub one-byte-more : check (P2-image ++ 0 ∷ []) ≡ refusal ImageRefused
+  pub no-functions : check (hex 6 0x494D_0000_0000) ≡ refusal ImageRefused
+
+pub one-form : One-form
+unfolding hex checker.computes
+one-form = record { as-written = refl; one-byte-more = refl; no-functions = refl }
+
 -- ## INVOKE has its count, METHOD takes a string
 
 -- nil.m();
@@ -284,3 +358,71 @@ pub record Limited : Type 0 where
 pub limited : Limited
 unfolding hex entry.computes checker.computes
 limited = record { capped = refl; summed = refl; enough = refl }
+
+-- ## The tree file written: every record once, its bytes written out from document 01
+
+-- class a < b { b(a) { return super.a; } } for (var a = 1; a < nil; a = !true) a.b("b"); if (false) {} else print a.b = nil; while (true) {}
+abbrev every-record : Stmts
+every-record =
+    StmtClass (from-to 1 2) 4 (some (record { span = from-to 3 4; name = 5 }))
+    (method (from-to 5 6) (fun 5 (4 ∷ []) (StmtReturn (from-to 7 8) (some (ExprSuper (from-to 9 10) 4)) ∷ˢ []ˢ)) []ᵐ) ∷ˢ
+    StmtFor (from-to 11 12) (StmtVar (from-to 13 14) 4 (some (Literal (from-to 15 16) (LitNumber 0x3FF0_0000_0000_0000))) ∷ˢ []ˢ)
+    (some (ExprInfix (from-to 17 18) Less (ExprVar (from-to 19 20) 4) (Literal (from-to 21 22) LitNil)))
+    (StmtExpr (from-to 23 24)
+    (ExprCall (from-to 25 26) (ExprGet (from-to 27 28) 5 (ExprVar (from-to 29 30) 4)) (Literal (from-to 31 32) (LitString 5) ∷ᵉ []ᵉ)))
+    (some (ExprAssign (from-to 33 34) 4 (ExprPrefix (from-to 35 36) Not (Literal (from-to 37 38) (LitBool true))))) ∷ˢ
+    StmtIf (from-to 39 40) (Literal (from-to 41 42) (LitBool false)) (StmtBlock (from-to 43 44) []ˢ)
+    (StmtPrint (from-to 45 46) (ExprSet (from-to 47 48) 5 (Literal (from-to 49 50) LitNil) (ExprVar (from-to 51 52) 4)) ∷ˢ []ˢ) ∷ˢ
+    StmtWhile (from-to 53 54) (Literal (from-to 55 56) (LitBool true)) (StmtBlock (from-to 57 58) []ˢ) ∷ˢ []ˢ
+
+abbrev every-tree : List ℕ
+every-tree =
+    hex 6 0x5452_0200_0400  -- TR
+    ++ hex 5 0x4E4D_0100_61  -- NM
+    ++ hex 5 0x4E4D_0100_62  -- NM
+    ++ hex 15 0x5343_01000000_02000000_0400_01_0100  -- SC
+    ++ hex 12 0x4556_03000000_04000000_0500  -- EV
+    ++ hex 18 0x5346_05000000_06000000_0500_0100_0400_0100  -- SF
+    ++ hex 11 0x5352_07000000_08000000_01  -- SR
+    ++ hex 12 0x4555_09000000_0A000000_0400  -- EU
+    ++ hex 11 0x534F_0B000000_0C000000_07  -- SO
+    ++ hex 13 0x5356_0D000000_0E000000_0400_01  -- SV
+    ++ hex 19 0x454C_0F000000_10000000_03_000000000000F03F  -- EL
+    ++ hex 11 0x4549_11000000_12000000_04  -- EI
+    ++ hex 12 0x4556_13000000_14000000_0400  -- EV
+    ++ hex 11 0x454C_15000000_16000000_02  -- EL
+    ++ hex 10 0x5345_17000000_18000000  -- SE
+    ++ hex 12 0x4543_19000000_1A000000_0100  -- EC
+    ++ hex 12 0x4547_1B000000_1C000000_0500  -- EG
+    ++ hex 12 0x4556_1D000000_1E000000_0400  -- EV
+    ++ hex 13 0x454C_1F000000_20000000_04_0500  -- EL
+    ++ hex 12 0x4541_21000000_22000000_0400  -- EA
+    ++ hex 11 0x4550_23000000_24000000_01  -- EP
+    ++ hex 11 0x454C_25000000_26000000_01  -- EL
+    ++ hex 11 0x5349_27000000_28000000_01  -- SI
+    ++ hex 11 0x454C_29000000_2A000000_00  -- EL
+    ++ hex 12 0x5342_2B000000_2C000000_0000  -- SB
+    ++ hex 10 0x5350_2D000000_2E000000  -- SP
+    ++ hex 12 0x4553_2F000000_30000000_0500  -- ES
+    ++ hex 11 0x454C_31000000_32000000_02  -- EL
+    ++ hex 12 0x4556_33000000_34000000_0400  -- EV
+    ++ hex 10 0x5357_35000000_36000000  -- SW
+    ++ hex 11 0x454C_37000000_38000000_01  -- EL
+    ++ hex 12 0x5342_39000000_3A000000_0000  -- SB
+
+pub every-record-written : encode ((0x61 ∷ []) ∷ (0x62 ∷ []) ∷ []) every-record ≡ every-tree
+unfolding hex tree-encode.computes
+every-record-written = refl
+
+-- five deep and one function; with less of either, the record that is one too many
+pub every-record-read : read-tree every-tree 5 1 ≡ got every-record (length every-tree)
+unfolding hex entry.computes
+every-record-read = refl
+
+pub one-too-deep : read-tree every-tree 4 1 ≡ bad (TreeTooDeep 195)
+unfolding hex entry.computes
+one-too-deep = refl
+
+pub one-too-many : read-tree every-tree 5 0 ≡ bad (TooManyOpen 43)
+unfolding hex entry.computes
+one-too-many = refl

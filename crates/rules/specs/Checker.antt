@@ -141,9 +141,15 @@ unfoldable pub code-before : Read ObjectFunction → ℕ
 code-before (bad _) = 0
 code-before (got f next) = next - length (f .chunk .ops)
 
--- its place in the image: a function's code is its record's end, and the functions begin behind the image's mark and count
-unfoldable pub code-start : (image : List ℕ) → (k : ℕ) → ℕ
-code-start image k = code-before ((many k (read-function image) >> read-function image) 6)
+unfoldable pub place-in : Option ObjectFunction → (start : ℕ) → ℕ
+place-in none start = 0
+place-in (some f) start = start
+
+-- its place in the image, of a checked image: a function's code is its record's end, and the functions begin behind the image's mark and count.
+-- A refused lookup's empty code stands at the image's begin
+unfoldable pub code-place : (image : List ℕ) → (k : ℕ) → ℕ
+code-place image k =
+    place-in (function-numbered k (image-of image)) (code-before ((many k (read-function image) >> read-function image) 6))
 
 unfoldable pub code-verdict : (k : ℕ) → Option (List ObjectFunction) → Answer
 code-verdict k none = refusal ImageRefused
@@ -162,5 +168,5 @@ span-of (run ∷ runs) offset = if ltb offset (run .count) then at-span 0 (run .
 
 -- who unfolds this unfolds the whole file and those that it stands on, and can compute with them
 unfoldable pub computes : Unit {0}
-unfolding Rattle.rules.specs.Answer.computes Rattle.rules.specs.Division.computes Rattle.rules.specs.ImageFile.computes runs-apart distinct names-earlier all-earlier names names-in-all named-once closes closures closed-at closed-in closed-once facts sound instructions instruction-count checked image-of verdict check function-numbered code-in code-of code-before code-start code-verdict code-answer span-of
+unfolding Rattle.rules.specs.Answer.computes Rattle.rules.specs.Division.computes Rattle.rules.specs.ImageFile.computes runs-apart distinct names-earlier all-earlier names names-in-all named-once closes closures closed-at closed-in closed-once facts sound instructions instruction-count checked image-of verdict check function-numbered code-in code-of code-before place-in code-place code-verdict code-answer span-of
 computes = tt

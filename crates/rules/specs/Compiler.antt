@@ -1,4 +1,5 @@
--- src/vm/compiler.rs: contexts, scopes, names, statements, expressions. A definition for each function of the Rust, under its name with `-` for `_`.
+-- src/vm/compiler.rs: contexts, scopes, names, statements, expressions. A definition for each function of the Rust, under its name with `-` for `_`;
+-- `resolve_local` is three: `find-local` and `capture`, which it does of one list of locals, and `resolved`, what its caller makes of the answer.
 -- antt wants a definition above its use, so the file goes from the Rust's end to its start: the structs, `impl CompilerCtx`, the small functions
 -- of `impl Compiler`, then `compile_expr`, `compile_function`, `compile_stmt`, `compile`. The arms of each `match` stand in the Rust's order.
 -- A list of locals, of contexts or of classes has the newest first; code, constants, captured variables and finished functions stand in order.

@@ -73,8 +73,8 @@ module _ (kind : (place : ℕ) → Kind) where
   unfoldable pub instruction : (at op : ℕ) → (rest : List ℕ) → Option Instruction
   instruction at op rest = known at op rest (operands-of op)
 
-  -- from `at` on, where `skip` bytes still belong to the instruction before; none where the code has no such division: an unknown opcode, or
-  -- a last instruction that is cut
+  -- from `at` on, where `skip` bytes still belong to the instruction before; none where the code has no such division: an unknown opcode, a
+  -- last instruction that is cut, or a CLOSURE whose operand finds no function, so that its length is not known
   unfoldable pub divide : (at skip : ℕ) → List ℕ → Option (List Instruction)
   divide at zero [] = some []
   divide at (suc skip) [] = none

@@ -23,7 +23,7 @@ pub record Lent : Type 0 where
   pub span-words : ℕ  -- of four bytes
   pub output-bytes : ℕ
 
--- what a call leaves; the tree is as it was
+-- what a call leaves. That the tree is as it was is said by the code's type, which only lends it to read
 pub record Left : Type 0 where
   pub answer : Answer
   pub output : List ℕ

@@ -10,6 +10,7 @@ pub mod Op
 pub mod Chunk
 pub mod Compiler
 pub mod Image
+pub mod TreeEncode
 pub mod Entry
 pub mod Division
 pub mod ImageFile

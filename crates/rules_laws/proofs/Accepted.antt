@@ -2,7 +2,6 @@
 -- checker answers 0 for the image's bytes, with the number of instructions in the division of all its code.
 use mathlib.Core.Path.{_≡_, refl, subst}
 use mathlib.Core.Bool.{Bool, true, false}
-use mathlib.Core.Option.{none, some}
 use mathlib.Core.List.{List, [], _∷_, _++_}
 use Prim.Native.Nat.{ℕ, _+_, _-_, _≤_, _<_}
 use native.Mathlib.Omega.{arith}
@@ -30,7 +29,7 @@ use Rattle.rules_laws.proofs.Facts.{All, all-map, Bytes}
 use Rattle.rules_laws.proofs.Runs.{Counts, Counted, counted}
 use Rattle.rules_laws.proofs.CodeBytes.{AllSound, Sound}
 use Rattle.rules_laws.proofs.Checks.{from-ok, from-lent, lent-checked, lent-sound, refusal-number}
-use Rattle.rules_laws.proofs.ReadBack.{Fits-run, Fits-constant, Fits-form, Fits-image, read-back}
+use Rattle.rules_laws.proofs.ReadBack.{Fits-run, Fits-constant, Fits-form, Fits-image, read-back, sound-accepted}
 use Rattle.rules_laws.proofs.Trees.{stmts-size}
 use Rattle.rules_laws.proofs.TreeBytes.{Fitting, tree-fits}
 use Rattle.rules_laws.proofs.Widths.{Small-constant, Small-run, Wide-function, Widths, widths}
@@ -153,7 +152,7 @@ forms limit bound l b [] w s r e = tt
 forms limit bound l b (f ∷ fs) w s r e =
     (form limit bound l b f (w .0) (s .0 .1) (r .0 .1) (e .0), forms limit bound l b fs (w .1) (s .1) (r .1) (e .1))
 
-code-limit-most : (lent : Lent) → code-limit lent ≤ max-code
+pub code-limit-most : (lent : Lent) → code-limit lent ≤ max-code
 unfolding code-limit
 code-limit-most lent = omega arith
 
@@ -193,12 +192,7 @@ module _ (limits : Limits) (tree : List ℕ) (bytes : Bytes tree) (lent : Lent) 
 
   -- what the compiler writes, the checker accepts, and counts the instructions of the division
   pub image-accepted : check (image-bytes fs) ≡ accepted (instruction-count fs fs)
-  unfolding check checker.image-of checker.checked checker.verdict
-  image-accepted = rw image-read-back (by-test (sound fs) (lent-checked limits tree lent fs e))
-    where
-      by-test : (b : Bool) → T b → checker.verdict (if b then some fs else none) ≡ accepted (instruction-count fs fs)
-      by-test true t = refl
-      by-test false t = absurd t
+  image-accepted = sound-accepted fs image-fits (lent-checked limits tree lent fs e)
 
 -- ## The same of what a call leaves
 

@@ -3,7 +3,7 @@
 use mathlib.Core.Path.{_≡_}
 use mathlib.Core.Logic.{_≢_}
 use mathlib.Core.List.{List}
-use Prim.Native.Nat.{ℕ, _+_, _*_, _≤_}
+use Prim.Native.Nat.{ℕ, _+_, _*_, _≤_, min}
 use native.Mathlib.Omega.{arith}
 use lib.ListN.{length}
 use Rattle.rules.specs.Limits.{Limits, first-limits, max-code}
@@ -13,12 +13,13 @@ use Rattle.rules.specs.Image.{image-bytes}
 use Rattle.rules.specs.Entry.{Lent, code-limit, functions-are, compile-lent, compile-within, compile}
 use Rattle.rules_laws.proofs.Facts.{Bytes}
 use Rattle.rules_laws.proofs.Checks.{from-ok, from-lent}
-use Rattle.rules_laws.proofs.Accepted.{From, from-tree}
+use Rattle.rules_laws.proofs.Accepted.{From, from-tree, code-limit-most}
 use Rattle.rules_laws.proofs.Trees.{stmts-size}
 use Rattle.rules_laws.proofs.TreeBytes.{Fitting, tree-fits}
 use Rattle.rules_laws.proofs.ImageSizes.{image-at-most}
+use Rattle.rules_laws.proofs.Room.{Enough, Alike, enough-in-both}
 use Rattle.rules_laws.proofs.CodeNeed.{needed-most}
-use Rattle.rules_laws.proofs.Exactly.{work-short-exactly, code-full-exactly, out-full-only, compiled-functions}
+use Rattle.rules_laws.proofs.Exactly.{work-short-exactly, code-full-exactly, out-full-only, compiled-functions, Room-enough, room-enough-exactly}
 
 -- ## By the tree file's length
 
@@ -56,7 +57,8 @@ module _ (limits : Limits) (nested : limits .funs ≤ 16) (tree : List ℕ) (byt
   pub ample-30 : Ample → compile-within limits tree lent .answer .number ≢ 30
   ample-30 a e =
       let (stmts, w, l) = code-full-exactly limits tree bytes lent .0 e in
-      omega (arith, l, ample-limit a, needed-most stmts, tree-fits tree bytes (limits .depth) (limits .funs) stmts (w .next) (w .read) .size)
+      let fits : Fitting tree (limits .funs) stmts = tree-fits tree bytes (limits .depth) (limits .funs) stmts (w .next) (w .read) in
+      omega (arith, l, ample-limit a, needed-most (limits .funs) stmts (fits .parts), fits .size)
 
   pub ample-31 : Ample → compile-within limits tree lent .answer .number ≢ 31
   ample-31 a e =
@@ -112,3 +114,50 @@ module _ (tree : List ℕ) (bytes : Bytes tree) (lent : Lent) (largest : Largest
         record { started = record { table = omega arith; short = w .started .short }; next = w .next; read = w .read },
         omega (arith, l, largest-limit tree lent lent′ largest),
       )
+
+-- ## The room for every tree file
+
+-- PB_OUTPUT_BYTES, PB_CODE_BYTES and PB_SPAN_WORDS of include/puffbramble.h, or more
+pub record For-every (tree : List ℕ) (lent : Lent) : Type 0 where
+  pub table-words : 17_412 ≤ lent .table-words
+  pub code-bytes : min (length tree) max-code ≤ lent .code-bytes
+  pub span-words : 3 * min (length tree) max-code ≤ lent .span-words
+  pub output-bytes : 17 * length tree ≤ lent .output-bytes
+
+every-limit : (tree : List ℕ) (lent : Lent) → For-every tree lent → min (length tree) max-code ≤ code-limit lent
+unfolding code-limit
+every-limit tree lent r = omega (arith, r .code-bytes, r .span-words)
+
+-- Whatever room a server lends first, the header's or another: an answer that is none of 1, 30 and 31 is the one that the room for every tree file
+-- gives, with the same image. The two rooms need not be comparable, so this is no case of `more-room`.
+module _ (tree : List ℕ) (bytes : Bytes tree) (lent lent′ : Lent) (every : For-every tree lent′) where
+  every-30 : Enough (compile tree lent .answer) → compile tree lent′ .answer .number ≢ 30
+  every-30 n e =
+      let (stmts, w, l) = code-full-exactly first-limits tree bytes lent′ .0 e in
+      let fits : Fitting tree (first-limits .funs) stmts = tree-fits tree bytes (first-limits .depth) (first-limits .funs) stmts (w .next) (w .read) in
+      omega (
+        arith,
+        l,
+        every-limit tree lent′ every,
+        code-limit-most lent,
+        needed-most (first-limits .funs) stmts (fits .parts),
+        fits .size,
+        enough .code stmts (record { started = record { table = enough .table; short = w .started .short }; next = w .next; read = w .read }),
+      )
+    where
+      enough : Room-enough first-limits tree bytes lent
+      enough = room-enough-exactly first-limits tree bytes lent .0 n
+
+  pub as-in-the-room-for-every :
+      Enough (compile tree lent .answer) → Alike lent lent′ (compile tree lent) (compile tree lent′)
+  as-in-the-room-for-every n = enough-in-both first-limits tree lent lent′ n (
+    λ e. omega (arith, every .table-words, work-short-exactly first-limits tree bytes lent′ .0 e),
+    every-30 n,
+    λ e. let (fs, w, l) = out-full-only first-limits tree bytes lent′ e in
+        omega (
+          arith,
+          l,
+          every .output-bytes,
+          image-bound first-limits (omega arith) tree bytes lent′ fs (compiled-functions first-limits tree lent′ fs w),
+        ),
+  )

@@ -29,7 +29,8 @@ unfolding pairs-fit
 pairs-more m n l [] t = tt
 pairs-more m n l (b ∷ []) t = t
 pairs-more m n l (b ∷ idx ∷ bs) t =
-    both (eqb b 1 || (eqb b 0 && ltb idx n)) (pairs-fit n bs) (one (eqb b 1) (eqb b 0) (left (eqb b 1 || (eqb b 0 && ltb idx m)) (pairs-fit m bs) t)) (pairs-more m n l bs (right (eqb b 1 || (eqb b 0 && ltb idx m)) (pairs-fit m bs) t))
+    both (eqb b 1 || (eqb b 0 && ltb idx n)) (pairs-fit n bs) (one (eqb b 1) (eqb b 0) (left (eqb b 1 || (eqb b 0 && ltb idx m)) (pairs-fit m bs) t))
+    (pairs-more m n l bs (right (eqb b 1 || (eqb b 0 && ltb idx m)) (pairs-fit m bs) t))
   where
     one : (p q : Bool) → T (p || (q && ltb idx m)) → T (p || (q && ltb idx n))
     one true q t = tt

@@ -148,7 +148,17 @@ closes opened fs gs f cs ds place (one-more v is e l) there q p =
       since = (p .since ++ q .since) ++ (f ∷ []);
       all-of = all-of;
       once =
-          λ number. omega (arith, p .once number, q .once number, in-all-append number (p .since ++ q .since) (f ∷ []), in-all-append number (p .since) (q .since), names-end number cs v, named number, next number);
+          λ number. omega (
+            arith,
+            p .once number,
+            q .once number,
+            in-all-append number (p .since ++ q .since) (f ∷ []),
+            in-all-append number (p .since)
+                (q .since),
+            names-end number cs v,
+            named number,
+            next number,
+          );
     }
   where
     m : ℕ

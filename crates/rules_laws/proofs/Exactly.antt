@@ -27,7 +27,7 @@ use Rattle.rules_laws.proofs.Facts.{Bytes}
 use Rattle.rules_laws.proofs.Refusals.{Readers, Rusts, Compiled-by, a-rule, the-limit, compiled-by, readers-number, rusts-number}
 use Rattle.rules_laws.proofs.TreeBytes.{Fitting, tree-fits, tree-refuses}
 use Rattle.rules_laws.proofs.Widths.{refuses}
-use Rattle.rules_laws.proofs.CodeNeed.{code-needed, full-below, full-only}
+use Rattle.rules_laws.proofs.CodeNeed.{code-needed, full-exactly}
 
 module _ (limits : Limits) (tree : List ℕ) (lent : Lent) where
   abbrev reading : Read Stmts
@@ -270,21 +270,16 @@ module _ (limits : Limits) (tree : List ℕ) (bytes : Bytes tree) (lent : Lent) 
       compiling limits tree lent stmts ≡ err r → answered ≡ refusal r
   against-a-rule-then r h stmts w e = leads limits tree lent (against-a-rule r h stmts w e)
 
-  -- 30 CodeFull: the compiler meets the code limit, which is below what the tree needs
+  -- 30 CodeFull: a byte would take the open functions' code, summed, past the code limit: that is below the peak of these sums
   pub code-full-exactly :
       (answered .number ≡ 30) ↔ ((stmts : Stmts) × Was-read limits tree lent stmts × (code-limit lent < code-needed stmts))
   unfolding refusal
   code-full-exactly =
-      (only, λ p. ap (λ (a : Answer). a .number) (leads limits tree lent (code-full (p .0) (p .1) (full-below (p .0) (code-limit lent) (p .2)))))
+      (only, λ p. ap (λ (a : Answer). a .number) (leads limits tree lent (code-full (p .0) (p .1) (full-exactly (p .0) (code-limit lent) .1 (p .2)))))
     where
       only : answered .number ≡ 30 → (stmts : Stmts) × Was-read limits tree lent stmts × (code-limit lent < code-needed stmts)
       only e =
-          let (stmts, w, d) = full-only-then limits tree lent (way limits tree lent bytes) e in (
-            stmts,
-            w,
-            full-only (limits .funs) stmts (tree-fits tree bytes (limits .depth) (limits .funs) stmts (w .next) (w .read) .parts)
-                (code-limit lent) d,
-          )
+          let (stmts, w, d) = full-only-then limits tree lent (way limits tree lent bytes) e in (stmts, w, full-exactly stmts (code-limit lent) .0 d)
 
   -- 31 OutFull: all else accepted, image longer than the output; carries the length needed
   pub out-full-only : answered .number ≡ 31 →

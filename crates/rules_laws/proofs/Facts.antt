@@ -8,7 +8,7 @@ use mathlib.Core.Option.{Option, none, some}
 use mathlib.Core.List.{List, [], _∷_, _++_}
 use Prim.Native.Nat.{ℕ, zero, suc, _+_, _-_, _*_, _/_, _%_, _≤_, _<_}
 use native.Mathlib.Omega.{arith}
-use lib.ListN.{length, getElem?}
+use lib.ListN.{length, getD, getElem?}
 use lib.Dec.{T, ltb, eqb, eqb→eq, lt→ltb}
 use Rattle.rules.specs.Base.{if_then_else_, position, one-on}
 use Rattle.rules.specs.declared.Span.{Span}
@@ -183,6 +183,12 @@ pairs-within n (u ∷ us) h = by-local (u .is-local) (h .0) (pairs-within n us (
 -- all a byte can say
 abbrev pub Bytes : List ℕ → Type 0
 Bytes bs = All (λ (b : ℕ). b < 256) bs
+
+-- 0 stands past the end
+pub getD-small : (bs : List ℕ) (at : ℕ) → Bytes bs → getD bs at 0 < 256
+getD-small [] at h = omega arith
+getD-small (b ∷ bs) zero h = h .0
+getD-small (b ∷ bs) (suc at) h = getD-small bs at (h .1)
 
 pub pairs-bytes : (us : List Upvalue) → All (λ (u : Upvalue). u .idx < 256) us → Bytes (pairs us)
 pairs-bytes [] h = tt

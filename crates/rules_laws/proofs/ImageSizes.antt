@@ -8,6 +8,7 @@ use Prim.Native.Nat.{ℕ, zero, suc, _+_, _-_, _*_, _/_, _≤_}
 use native.Mathlib.Omega.{arith}
 use lib.ListN.{length, length-append, length-set}
 use lib.Dec.{T, ltb, eqb, ltb→lt, nltb→le, eqb-refl}
+use Rattle.rules.proofs.Numbers.{le-length}
 use Rattle.rules.specs.Base.{if_then_else_, position, le}
 use Rattle.rules.specs.declared.Span.{Span}
 use Rattle.rules.specs.declared.Refusal.{Refusal}
@@ -117,11 +118,6 @@ used-most (run ∷ []) span h = omega (arith, h .1)
 used-most (run ∷ next ∷ runs) span h = omega (arith, used-most (next ∷ runs) span h)
 
 -- ## What a function comes to in the image
-
-le-length : (count n : ℕ) → length (le count n) ≡ count
-unfolding le
-le-length zero n = refl
-le-length (suc count) n = ap suc (le-length count (n / 256))
 
 constant-length : (v : Constant) → length (image.constant-bytes v) ≤ 10
 unfolding image.constant-bytes
@@ -461,7 +457,7 @@ module _ (limit most top : ℕ) (nested : most ≤ 16) where
   unfolding c.end-function c.end-ctx c._>>=_ go-on c.the
   end-function {g} span up = record { run = λ s k l i. back-to g s k (s .parents) span refl (up .0) (up .1) i }
 
-  laws : Laws (fitting most) limit limit (λ A g h n w m m′. Does {A = A} g h w m)
+  laws : Laws (fitting most) (λ A g h n w m. Does {A = A} g h w (m limit))
   unfolding c.define-local c.begin-scope c.push-class-ctx c.pop-class-ctx
   laws =
       record {
@@ -503,7 +499,7 @@ image-at-most limit most stmts nested o = by-outcome (c.compile-script limit stm
 
     compiled : Ends (λ g k s. Spent (summed held) weigh-all most g k s) Any top most (0 + top) (c.compile-script limit stmts c.new)
     compiled =
-        (steps.compile-script (fitting most) limit limit (λ A g h n w m m′. Does limit most top nested {A = A} g h w m)
+        (steps.compile-script (fitting most) (λ A g h n w m. Does limit most top nested {A = A} g h w (m limit))
         (laws limit most top nested) stmts most o) .run c.new 0 (omega arith)
         (record { levels = omega arith; spent = omega arith })
 

@@ -555,6 +555,20 @@ module _ (limit : ℕ) where
   unfolding var-up-to-define
   var-locals name v span n = declared-one name span n >> keeps.compile-value ℕ Locals limit _ (expr-laws ℕ Locals locals-move limit) v span (suc n)
 
+  -- where the compiler comes to its end, the script alone is open
+  pub script-alone : (stmts : Stmts) → After (λ _ t. length (t .parents) ≡ 0) (c.compile-script limit stmts c.new)
+  unfolding c.compile-script
+  script-alone stmts = so at-end (λ _ t i. i .levels) .run c.new (record { levels = refl; classes = refl })
+    where
+      outside : Nest
+      outside = record { levels = 0; classes = [] }
+
+      at-end : Triple (At outside) (c.compile-script limit stmts) (λ _. At outside)
+      at-end = do
+        keeps.compile-stmts Nest At limit _ _ _ _ (at-laws limit) stmts outside
+        emit-op Nest At at-moves limit _ _ outside
+        emit-op Nest At at-moves limit _ _ outside
+
 -- ## The laws
 
 pub record Impossible (limit : ℕ) : Type 0 where

@@ -182,7 +182,8 @@ module _ (K : Type 0) (P : K → Fact) (start : K) (waits backs : ℕ → K → 
       written used r =
           record {
             run =
-                λ s p. (update-ctx K P start (λ opened fs n ch. X opened fs n (write-u8 ch b span)) X (λ x. c.with-chunk x (write-u8 (x .chunk) b span)) hs (λ x. refl) (λ x b. b) (λ opened fs x h. h)) .run s
+                λ s p. (update-ctx K P start (λ opened fs n ch. X opened fs n (write-u8 ch b span)) X (λ x. c.with-chunk x (write-u8 (x .chunk) b span)) hs
+                (λ x. refl) (λ x b. b) (λ opened fs x h. h)) .run s
                 (put K P start Before (λ opened fs n ch. X opened fs n (write-u8 ch b span)) hs s (p .1)
                 (p .1 .open-one (omega (arith, p .0, length-append (s .ctx .chunk .ops) (b ∷ [])))));
           }
@@ -195,19 +196,22 @@ module _ (K : Type 0) (P : K → Fact) (start : K) (waits backs : ℕ → K → 
       (emit-last X b span hs)
 
   emit-place : (X : Fact) (ch : Chunk) (value : Constant) (w : Written) (span : Span) → Placed ch value w → (hs : List K) →
-      Triple (Now (λ opened fs n _. (place : ℕ) (cs : List Constant) → Wrote (ch .constants) value place cs → length (write-u8 (with-constants ch cs) place span .ops) ≤ limit → X opened fs n (write-u8 (with-constants ch cs) place span)) hs)
+      Triple (Now (λ opened fs n _. (place : ℕ) (cs : List Constant) → Wrote (ch .constants) value place cs → length
+      (write-u8 (with-constants ch cs) place span .ops) ≤ limit → X opened fs n (write-u8 (with-constants ch cs) place span)) hs)
       (c.emit-place limit w span) (λ _. Now X hs)
   unfolding c.emit-place Placed
   emit-place X ch value (at-place place ch′) span (cs, e, w) hs = do
     update-ctx K P start
-        (λ opened fs n _. (place : ℕ) (cs : List Constant) → Wrote (ch .constants) value place cs → length (write-u8 (with-constants ch cs) place span .ops) ≤ limit → X opened fs n (write-u8 (with-constants ch cs) place span))
+        (λ opened fs n _. (place : ℕ) (cs : List Constant) → Wrote (ch .constants) value place cs → length (write-u8 (with-constants ch cs) place span .ops) ≤
+        limit → X opened fs n (write-u8 (with-constants ch cs) place span))
         (λ opened fs n ch₀. length (write-u8 ch₀ place span .ops) ≤ limit → X opened fs n (write-u8 ch₀ place span)) _ hs (λ x. refl) (λ x b. b)
         (λ opened fs x h. subst⁻¹ (λ (ch₀ : Chunk). length (write-u8 ch₀ place span .ops) ≤ limit → X opened fs (length (x .upvalues)) (write-u8 ch₀ place span)) e (h place cs w))
     emit-last X place span hs
   emit-place X ch value no-room span p hs = refuse _
 
   emit-constant : (X : Fact) (value : Constant) (span : Span) (hs : List K) →
-      Triple (Now (λ opened fs n ch. (place : ℕ) (cs : List Constant) → Wrote (ch .constants) value place cs → length (write-u8 (with-constants ch cs) place span .ops) ≤ limit → X opened fs n (write-u8 (with-constants ch cs) place span)) hs)
+      Triple (Now (λ opened fs n ch. (place : ℕ) (cs : List Constant) → Wrote (ch .constants) value place cs → length
+      (write-u8 (with-constants ch cs) place span .ops) ≤ limit → X opened fs n (write-u8 (with-constants ch cs) place span)) hs)
       (c.emit-constant limit value span) (λ _. Now X hs)
   unfolding c.emit-constant c._>>=_ c.go-on c.the
   emit-constant X value span hs =
@@ -215,8 +219,10 @@ module _ (K : Type 0) (P : K → Fact) (start : K) (waits backs : ℕ → K → 
         run =
             λ s i. (emit-place X (s .ctx .chunk) value (write-constant (s .ctx .chunk) value) span (placed (s .ctx .chunk) value) hs) .run s
             (put K P start
-            (λ opened fs n ch. (place : ℕ) (cs : List Constant) → Wrote (ch .constants) value place cs → length (write-u8 (with-constants ch cs) place span .ops) ≤ limit → X opened fs n (write-u8 (with-constants ch cs) place span))
-            (λ opened fs n _. (place : ℕ) (cs : List Constant) → Wrote (s .ctx .chunk .constants) value place cs → length (write-u8 (with-constants (s .ctx .chunk) cs) place span .ops) ≤ limit → X opened fs n (write-u8 (with-constants (s .ctx .chunk) cs) place span))
+            (λ opened fs n ch. (place : ℕ) (cs : List Constant) → Wrote (ch .constants) value place cs → length
+            (write-u8 (with-constants ch cs) place span .ops) ≤ limit → X opened fs n (write-u8 (with-constants ch cs) place span))
+            (λ opened fs n _. (place : ℕ) (cs : List Constant) → Wrote (s .ctx .chunk .constants) value place cs → length
+            (write-u8 (with-constants (s .ctx .chunk) cs) place span .ops) ≤ limit → X opened fs n (write-u8 (with-constants (s .ctx .chunk) cs) place span))
             hs s i (i .open-one));
       }
 
@@ -231,7 +237,8 @@ module _ (K : Type 0) (P : K → Fact) (start : K) (waits backs : ℕ → K → 
       Triple (Now (λ opened fs n ch. Form fs (ch .constants) n kind (m ∷ []) × P k opened fs n ch) hs) (c.emit-op-u8 limit b m span) (λ _. Now (P k) hs)
   unfolding c.emit-op-u8
   emit-op-u8 kind st b m span e k hs =
-      given (so K P start (λ opened fs n ch. Form fs (ch .constants) n kind (m ∷ []) × P k opened fs n ch) (λ opened fs n ch. length (write-u8 (write-u8 ch b span) m span .ops) ≤ limit → P k opened fs n (write-u8 (write-u8 ch b span) m span)) hs
+      given (so K P start (λ opened fs n ch. Form fs (ch .constants) n kind (m ∷ []) × P k opened fs n ch)
+      (λ opened fs n ch. length (write-u8 (write-u8 ch b span) m span .ops) ≤ limit → P k opened fs n (write-u8 (write-u8 ch b span) m span)) hs
       (λ opened fs n ch p r. l .writes kind st k opened fs n ch (ch .constants) b (m ∷ []) span e as-before (p .0) r (p .1)))
       (do
         emit-u8 (λ opened fs n ch. length (write-u8 ch m span .ops) ≤ limit → P k opened fs n (write-u8 ch m span)) b span hs
@@ -260,7 +267,8 @@ module _ (K : Type 0) (P : K → Fact) (start : K) (waits backs : ℕ → K → 
       length (write-u8 (with-constants (write-u8 ch b span) cs) place span .ops) ≤ limit →
       length (write-u8 (write-u8 (with-constants (write-u8 ch b span) cs) place span) m span .ops) ≤ limit →
       P k opened fs n (write-u8 (write-u8 (with-constants (write-u8 ch b span) cs) place span) m span)) hs
-      (λ opened fs n ch p place cs w r₁ r. l .writes Invoke still-invoke k opened fs n ch cs b (place ∷ m ∷ []) span e (grown-map (λ v q. subst⁻¹ Is-value q a-string) (w .grown)) (invoke (w .there) bound) r p))
+      (λ opened fs n ch p place cs w r₁ r. l .writes Invoke still-invoke k opened fs n ch cs b (place ∷ m ∷ []) span e
+      (grown-map (λ v q. subst⁻¹ Is-value q a-string) (w .grown)) (invoke (w .there) bound) r p))
       (do
         emit-u8
             (λ opened fs n ch. (place : ℕ) (cs : List Constant) → Wrote (ch .constants) (CS name) place cs →
@@ -321,8 +329,10 @@ module _ (K : Type 0) (P : K → Fact) (start : K) (waits backs : ℕ → K → 
         given (λ s i. i) (need-told K P start (Loop size) (leb (size + 3 - at) 65_535) _ hs)
         given (so K P start (λ opened fs n ch. T (leb (size + 3 - at) 65_535) × Loop size opened fs n ch)
             (λ opened fs n ch. length (write-all ch (loop-bytes size at) span .ops) ≤ limit → P k opened fs n (write-all ch (loop-bytes size at) span)) hs (λ opened fs n ch x. x .1 (x .0)))
-            (emit-u8 (λ opened fs n ch. length (write-all ch ((size + 3 - at) % 256 ∷ (size + 3 - at) / 256 ∷ []) span .ops) ≤ limit → P k opened fs n (write-all ch ((size + 3 - at) % 256 ∷ (size + 3 - at) / 256 ∷ []) span)) op.LOOP span hs)
-        emit-u8 (λ opened fs n ch. length (write-all ch ((size + 3 - at) / 256 ∷ []) span .ops) ≤ limit → P k opened fs n (write-all ch ((size + 3 - at) / 256 ∷ []) span)) ((size + 3 - at) % 256) span hs
+            (emit-u8 (λ opened fs n ch. length (write-all ch ((size + 3 - at) % 256 ∷ (size + 3 - at) / 256 ∷ []) span .ops) ≤ limit → P k opened fs n
+            (write-all ch ((size + 3 - at) % 256 ∷ (size + 3 - at) / 256 ∷ []) span)) op.LOOP span hs)
+        emit-u8 (λ opened fs n ch. length (write-all ch ((size + 3 - at) / 256 ∷ []) span .ops) ≤ limit → P k opened fs n
+            (write-all ch ((size + 3 - at) / 256 ∷ []) span)) ((size + 3 - at) % 256) span hs
         emit-last (P k) ((size + 3 - at) / 256) span hs)
     where
       Loop : ℕ → Fact

@@ -1,5 +1,5 @@
 -- The lookups: the span of a code byte is what the runs say when written out byte by byte, and 42 comes back exactly from their sum on; the code of a
--- function is that very stretch of the image, from `code-start` on.
+-- function is that very stretch of the image, from `code-place` on.
 use mathlib.Core.Path.{_≡_, refl, ap, subst, subst⁻¹}
 use mathlib.Core.Logic.{_↔_}
 use mathlib.Core.Bool.{Bool, true, false}
@@ -9,7 +9,7 @@ use Prim.Native.Nat.{ℕ, zero, suc, _+_, _-_, _≤_, _<_}
 use native.Mathlib.Omega.{arith}
 use lib.ListN.{length, getD, getElem?, take, drop, replicate}
 use lib.Seq.{drop-cons}
-use lib.Dec.{ltb, ltb→lt, nltb→le}
+use lib.Dec.{T, ltb, ltb→lt, nltb→le}
 use Rattle.rules.specs.Base.{if_then_else_}
 use Rattle.rules.specs.declared.Span.{Span}
 use Rattle.rules.specs.declared.Answer.{Answer}
@@ -21,7 +21,7 @@ use Rattle.rules.specs.Reader.{Read, Reader, got, bad}
 use Rattle.rules.specs.Chunk.{Run, total, ObjectFunction}
 use Rattle.rules.specs.ImageFile as file
 use Rattle.rules.specs.Checker as checker
-use Rattle.rules.specs.Checker.{check, image-of, code-of, code-start, code-answer, span-of}
+use Rattle.rules.specs.Checker.{check, image-of, code-of, code-place, code-answer, span-of}
 
 -- ## The span of a byte
 
@@ -83,10 +83,10 @@ no-such-byte-exactly runs offset = (past-only runs offset, past-then runs offset
 -- ## The code of a function
 
 -- at this place, what the reader gives has `Q`
-record Makes {A : Type 0} (m : Reader A) (at : ℕ) (Q : A → ℕ → Type 0) : Type 0 where
-  run : (a : A) (next : ℕ) → m at ≡ got a next → Q a next
+pub record Makes {A : Type 0} (m : Reader A) (at : ℕ) (Q : A → ℕ → Type 0) : Type 0 where
+  pub run : (a : A) (next : ℕ) → m at ≡ got a next → Q a next
 
-first : {A B : Type 0} (m : Reader A) {at : ℕ} {f : A → Reader B} {S : B → ℕ → Type 0} → ((a : A) (i : ℕ) → m at ≡ got a i → Makes (f a) i S) →
+pub first : {A B : Type 0} (m : Reader A) {at : ℕ} {f : A → Reader B} {S : B → ℕ → Type 0} → ((a : A) (i : ℕ) → m at ≡ got a i → Makes (f a) i S) →
     Makes (r._>>=_ m f) at S
 unfolding r._>>=_ r.go-on
 first {A} {B = B} m {at = at} {f = f} {S = S} h = record { run = λ b next e. by-outcome (m at) refl b next e }
@@ -95,7 +95,7 @@ first {A} {B = B} m {at = at} {f = f} {S = S} h = record { run = λ b next e. by
     by-outcome (got a i) e b next e′ = (h a i e) .run b next e′
     by-outcome (bad fault) e b next e′ = let z : _≡_ {A = ℕ} 0 1 = cc in absurd (omega arith)
 
-next : {A B : Type 0} (m : Reader A) {at : ℕ} {n : Reader B} {S : B → ℕ → Type 0} → ((a : A) (i : ℕ) → m at ≡ got a i → Makes n i S) →
+pub next : {A B : Type 0} (m : Reader A) {at : ℕ} {n : Reader B} {S : B → ℕ → Type 0} → ((a : A) (i : ℕ) → m at ≡ got a i → Makes n i S) →
     Makes (r._>>_ m n) at S
 unfolding r._>>_ r.go-on
 next {A} {B = B} m {at = at} {n = n} {S = S} h = record { run = λ b next e. by-outcome (m at) refl b next e }
@@ -104,7 +104,7 @@ next {A} {B = B} m {at = at} {n = n} {S = S} h = record { run = λ b next e. by-
     by-outcome (got a i) e b next e′ = (h a i e) .run b next e′
     by-outcome (bad fault) e b next e′ = let z : _≡_ {A = ℕ} 0 1 = cc in absurd (omega arith)
 
-return : {A : Type 0} {at : ℕ} {Q : A → ℕ → Type 0} (a : A) → Q a at → Makes (r.return a) at Q
+pub return : {A : Type 0} {at : ℕ} {Q : A → ℕ → Type 0} (a : A) → Q a at → Makes (r.return a) at Q
 unfolding r.return
 return {A} {at = at} {Q = Q} a q = record { run = λ b next e. same b next e }
   where
@@ -114,13 +114,18 @@ return {A} {at = at} {Q = Q} a q = record { run = λ b next e. same b next e }
         let y : at ≡ next = cc in
         subst (λ (i : ℕ). Q b i) y (subst (λ (b : A). Q b at) z q)
 
+pub need-so : (b : Bool) (fault : Refusal) (at : ℕ) → Makes (r.need b fault) at (λ _ next. T b × (next ≡ at))
+unfolding r.need r.return
+need-so true fault at = return tt (tt, refl)
+need-so false fault at = record { run = λ a next e. let z : _≡_ {A = ℕ} 0 1 = cc in absurd (omega arith) }
+
 -- bytes in a row are that stretch
 record Stretch (image : List ℕ) (at : ℕ) (bs : List ℕ) (next : ℕ) : Type 0 where
   content : bs ≡ take (length bs) (drop at image)
   end : next ≡ at + length bs
 
 module _ (image : List ℕ) where
-  byte-at : (fault : Refusal) (at b next : ℕ) → r.u8 image fault at ≡ got b next → (at < length image) × (b ≡ getD image at 0) × (next ≡ at + 1)
+  pub byte-at : (fault : Refusal) (at b next : ℕ) → r.u8 image fault at ≡ got b next → (at < length image) × (b ≡ getD image at 0) × (next ≡ at + 1)
   unfolding r.u8
   byte-at fault at b next e = by-test (ltb at (length image)) refl e
     where
@@ -199,17 +204,12 @@ module _ (image : List ℕ) where
   unfolding r.u32 r.u16
   u32-next at = wider 2 _ (wider 1 _ (byte-next ImageRefused)) at
 
-  need-next : (b : Bool) (fault : Refusal) (at : ℕ) → Makes (r.need b fault) at (λ _ next. next ≡ at)
-  unfolding r.need r.return
-  need-next true fault at = return tt refl
-  need-next false fault at = record { run = λ a next e. let z : _≡_ {A = ℕ} 0 1 = cc in absurd (omega arith) }
-
   mark-next : (letters at : ℕ) → Makes (r.mark-is image ImageRefused letters) at (λ _ next. next ≡ at + 2)
   unfolding r.mark-is r.mark
   mark-next letters at =
       first _ (λ m i e. record {
         run =
-            λ t j e′. omega (arith, (wider 1 _ (byte-next ImageRefused) at) .run m i e, (need-next _ ImageRefused i) .run t j e′);
+            λ t j e′. omega (arith, (wider 1 _ (byte-next ImageRefused) at) .run m i e, (need-so _ ImageRefused i) .run t j e′ .1);
       })
 
   record In-a-row (fs : List ObjectFunction) : Type 0 where
@@ -232,16 +232,19 @@ module _ (image : List ℕ) where
           r.many count (file.read-function image) k ≡ got fs m → r.many count (file.read-function image) 6 ≡ got fs m
       from-6 count fs m i j k t t′ e e₁ e₂ e₃ =
           let z : k ≡ 6 =
-          omega (arith, (mark-next 0x494D 0) .run t i e, (u32-next i) .run count j e₁, (need-next (ltb 0 count) ImageRefused j) .run t′ k e₂) in
+          omega (arith, (mark-next 0x494D 0) .run t i e, (u32-next i) .run count j e₁, (need-so (ltb 0 count) ImageRefused j) .run t′ k e₂ .1) in
           subst (λ (k : ℕ). r.many count (file.read-function image) k ≡ got fs m) z e₃
 
-  -- the code of function k is the stretch of the image from `code-start` on
-  start-of : (k : ℕ) (f : ObjectFunction) (n : Nth (file.read-function image) k 6 f) → code-start image k ≡ n .after - length (f .chunk .ops)
-  unfolding code-start checker.code-before r._>>_ r.go-on
+  -- the code of function k is the stretch of the image from `code-place` on
+  abbrev start : (k : ℕ) → ℕ
+  start k = checker.code-before ((r._>>_ (r.many k (file.read-function image)) (file.read-function image)) 6)
+
+  start-of : (k : ℕ) (f : ObjectFunction) (n : Nth (file.read-function image) k 6 f) → start k ≡ n .after - length (f .chunk .ops)
+  unfolding checker.code-before r._>>_ r.go-on
   start-of k f n = rw (n .before, n .here)
 
   stretch-of : (fs : List ObjectFunction) (k : ℕ) (f : ObjectFunction) → In-a-row fs → getElem? fs k ≡ some f →
-      f .chunk .ops ≡ take (length (f .chunk .ops)) (drop (code-start image k) image)
+      f .chunk .ops ≡ take (length (f .chunk .ops)) (drop (start k) image)
   stretch-of fs k f row e =
       let n = (nth-read (file.read-function image) (row .count) k 6 f) .run fs (row .end) (row .read) e in
       subst⁻¹ (λ (i : ℕ). f .chunk .ops ≡ take (length (f .chunk .ops)) (drop i image)) (start-of k f n)
@@ -259,18 +262,18 @@ module _ (image : List ℕ) where
       by-read (got gs next) e₁ e₂ = subst In-a-row (by-sound (checker.sound gs) gs e₂) (functions-read .run gs next e₁)
       by-read (bad fault) e₁ e₂ = let z : _≡_ {A = ℕ} 0 1 = cc in absurd (omega arith)
 
-  pub code-stretch : (k : ℕ) → code-of image k ≡ take (length (code-of image k)) (drop (code-start image k) image)
-  unfolding code-of checker.code-in checker.function-numbered
+  pub code-stretch : (k : ℕ) → code-of image k ≡ take (length (code-of image k)) (drop (code-place image k) image)
+  unfolding code-of code-place checker.code-in checker.place-in checker.function-numbered
   code-stretch k = by-image (image-of image) refl
     where
       by-function : (fs : List ObjectFunction) → image-of image ≡ some fs → (o : Option ObjectFunction) → getElem? fs k ≡ o →
-          checker.code-in o ≡ take (length (checker.code-in o)) (drop (code-start image k) image)
+          checker.code-in o ≡ take (length (checker.code-in o)) (drop (checker.place-in o (start k)) image)
       by-function fs e none e′ = refl
       by-function fs e (some f) e′ = stretch-of fs k f (in-a-row fs e) e′
 
       by-image : (o : Option (List ObjectFunction)) → image-of image ≡ o →
           checker.code-in (checker.function-numbered k o) ≡ take (length (checker.code-in (checker.function-numbered k o)))
-          (drop (code-start image k) image)
+          (drop (checker.place-in (checker.function-numbered k o) (start k)) image)
       by-image none e = refl
       by-image (some fs) e = by-function fs e (getElem? fs k) refl
 

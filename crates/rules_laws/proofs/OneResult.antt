@@ -4,7 +4,7 @@ use mathlib.Core.List.{List}
 use Prim.Native.Nat.{ℕ}
 use Rattle.rules.specs.declared.Answer.{Answer}
 use Rattle.rules.specs.Chunk.{Run}
-use Rattle.rules.specs.Checker.{check, code-of, code-start, code-answer, span-of}
+use Rattle.rules.specs.Checker.{check, code-of, code-place, code-answer, span-of}
 use Rattle.rules.specs.Entry.{Lent, Left, compile}
 
 pub one-result : {A : Type 0} {r r′ x : A} → r ≡ x → r′ ≡ x → r ≡ r′
@@ -22,7 +22,7 @@ one-verdict image r r′ e e′ = one-result e e′
 pub one-code : (image : List ℕ) (k : ℕ) (r r′ : List ℕ) → r ≡ code-of image k → r′ ≡ code-of image k → r ≡ r′
 one-code image k r r′ e e′ = one-result e e′
 
-pub one-start : (image : List ℕ) (k : ℕ) (r r′ : ℕ) → r ≡ code-start image k → r′ ≡ code-start image k → r ≡ r′
+pub one-start : (image : List ℕ) (k : ℕ) (r r′ : ℕ) → r ≡ code-place image k → r′ ≡ code-place image k → r ≡ r′
 one-start image k r r′ e e′ = one-result e e′
 
 pub one-code-answer : (image : List ℕ) (k : ℕ) (r r′ : Answer) → r ≡ code-answer image k → r′ ≡ code-answer image k → r ≡ r′

@@ -2,6 +2,7 @@
 -- `Reads` follows a reader over the bytes that are left, so that a record's law is the chain of its fields' laws, in the order they are written.
 use mathlib.Core.Path.{_≡_, refl, sym, ap, _∙_, subst, subst⁻¹}
 use mathlib.Core.Bool.{Bool, true, false}
+use mathlib.Core.Option.{none, some}
 use mathlib.Core.List.{List, [], _∷_, _++_, append-assoc, append-nil}
 use Prim.Native.Nat.{ℕ, zero, suc, _+_, _*_, _/_, _%_, _≤_, _<_}
 use native.Mathlib.Omega.{arith}
@@ -19,6 +20,9 @@ use Rattle.rules.specs.Reader.{Read, Reader, got, bad}
 use Rattle.rules.specs.Chunk.{Constant, CN, CS, CF, Run, ObjectFunction}
 use Rattle.rules.specs.Image as image
 use Rattle.rules.specs.ImageFile as file
+use Rattle.rules.specs.Answer.{accepted}
+use Rattle.rules.specs.Checker as checker
+use Rattle.rules.specs.Checker.{check, sound, instruction-count}
 use Rattle.rules_laws.proofs.Facts.{All, all-map, Bytes}
 
 -- ## What fits
@@ -56,7 +60,7 @@ pub record Fits-image (fs : List ObjectFunction) : Type 0 where
 -- ## Numbers as bytes, for all widths
 
 -- how many numbers `width` bytes can say
-abbrev base : ℕ → ℕ
+abbrev pub base : ℕ → ℕ
 base zero = 1
 base (suc width) = 256 * base width
 
@@ -65,7 +69,7 @@ base-pos zero = omega arith
 base-pos (suc width) = omega (arith, base-pos width)
 
 -- a number in two parts is the bytes of the low one and then those of the high one
-le-parts : (j k low high : ℕ) → low < base j → le j low ++ le k high ≡ le (j + k) (low + base j * high)
+pub le-parts : (j k low high : ℕ) → low < base j → le j low ++ le k high ≡ le (j + k) (low + base j * high)
 unfolding le
 le-parts zero k low high l =
     let e : low + 1 * high ≡ high = omega arith in
@@ -97,7 +101,7 @@ module _ (bytes : List ℕ) where
     pub run : (at : ℕ) → Left at before → Comes (m at) after a
 
   -- a value is read, and then what follows it
-  first : {A B : Type 0} {m : Reader A} (f : A → Reader B) {xs ys zs : List ℕ} {a : A} {b : B} →
+  pub first : {A B : Type 0} {m : Reader A} (f : A → Reader B) {xs ys zs : List ℕ} {a : A} {b : B} →
       Reads m xs ys a → Reads (f a) ys zs b → Reads (r._>>=_ m f) xs zs b
   unfolding r._>>=_ r.go-on
   first {A} {m = m} f {ys = ys} {zs = zs} {a = a} {b = b} hm hf = record { run = λ at l. on (m at) (hm .run at l) }
@@ -107,7 +111,7 @@ module _ (bytes : List ℕ) where
 
   -- the same where the value is not asked for
   infixr 10 _⟫_
-  _⟫_ : {A B : Type 0} {m : Reader A} {n : Reader B} {xs ys zs : List ℕ} {a : A} {b : B} →
+  pub _⟫_ : {A B : Type 0} {m : Reader A} {n : Reader B} {xs ys zs : List ℕ} {a : A} {b : B} →
       Reads m xs ys a → Reads n ys zs b → Reads (r._>>_ m n) xs zs b
   unfolding r._>>_ r.go-on
   _⟫_ {A} {m = m} {n = n} {ys = ys} {zs = zs} {a = a} {b = b} hm hn = record { run = λ at l. on (m at) (hm .run at l) }
@@ -115,24 +119,24 @@ module _ (bytes : List ℕ) where
       on : (o : Read A) → Comes o ys a → Comes (r.go-on o (λ _. n)) zs b
       on o c = subst⁻¹ (λ (o : Read A). Comes (r.go-on o (λ _. n)) zs b) (c .gives) (hn .run (c .next) (c .leaves))
 
-  return : {A : Type 0} {xs : List ℕ} (a : A) → Reads (r.return a) xs xs a
+  pub return : {A : Type 0} {xs : List ℕ} (a : A) → Reads (r.return a) xs xs a
   unfolding r.return
   return a = record { run = λ at l. record { next = at; gives = refl; leaves = l } }
 
-  need : {xs : List ℕ} (b : Bool) (fault : Refusal) → T b → Reads (r.need b fault) xs xs tt
+  pub need : {xs : List ℕ} (b : Bool) (fault : Refusal) → T b → Reads (r.need b fault) xs xs tt
   unfolding r.need
   need true fault t = record { run = λ at l. record { next = at; gives = refl; leaves = l } }
   need false fault t = absurd t
 
   -- what stands before this place, where `xs` is left
-  here : {A : Type 0} {f : ℕ → Reader A} {xs ys : List ℕ} {a : A} → ((at : ℕ) → at + length xs ≡ length bytes → Reads (f at) xs ys a) →
+  pub here : {A : Type 0} {f : ℕ → Reader A} {xs ys : List ℕ} {a : A} → ((at : ℕ) → at + length xs ≡ length bytes → Reads (f at) xs ys a) →
       Reads (r._>>=_ r.here f) xs ys a
   unfolding r._>>=_ r.go-on r.here
   here {xs = xs} h = record { run = λ at l. (h at (omega (arith, l .place, ap length (l .all-of), length-append (l .passed) xs))) .run at l }
 
   -- ## Fields
 
-  byte : (fault : Refusal) (b : ℕ) (xs : List ℕ) → Reads (r.u8 bytes fault) (b ∷ xs) xs b
+  pub byte : (fault : Refusal) (b : ℕ) (xs : List ℕ) → Reads (r.u8 bytes fault) (b ∷ xs) xs b
   unfolding r.u8
   byte fault b xs = record { run = λ at l. on at l }
     where
@@ -159,16 +163,16 @@ module _ (bytes : List ℕ) where
       on : (at : ℕ) → Left at (b ∷ xs) → Comes (if ltb at (length bytes) then got (getD bytes at 0) (at + 1) else bad fault) xs b
       on at l = by-test (ltb at (length bytes)) at (inside at l) l
 
-  mark : (fault : Refusal) (a b : ℕ) (xs : List ℕ) → Reads (r.mark bytes fault) (a ∷ b ∷ xs) xs (256 * a + b)
+  pub mark : (fault : Refusal) (a b : ℕ) (xs : List ℕ) → Reads (r.mark bytes fault) (a ∷ b ∷ xs) xs (256 * a + b)
   unfolding r.mark
   mark fault a b xs = first _ (byte fault a (b ∷ xs)) (first _ (byte fault b xs) (return _))
 
-  mark-is : (fault : Refusal) (a b : ℕ) (xs : List ℕ) → Reads (r.mark-is bytes fault (256 * a + b)) (a ∷ b ∷ xs) xs tt
+  pub mark-is : (fault : Refusal) (a b : ℕ) (xs : List ℕ) → Reads (r.mark-is bytes fault (256 * a + b)) (a ∷ b ∷ xs) xs tt
   unfolding r.mark-is
   mark-is fault a b xs = first _ (mark fault a b xs) (need (eqb (256 * a + b) (256 * a + b)) fault (eqb-refl (256 * a + b)))
 
   -- a number in `width` bytes, the lowest first
-  abbrev Field : Reader ℕ → (width bound : ℕ) → Type 0
+  abbrev pub Field : Reader ℕ → (width bound : ℕ) → Type 0
   Field m width bound = (n : ℕ) (xs : List ℕ) → n < bound → Reads m (le width n ++ xs) xs n
 
   u8 : (fault : Refusal) → Field (r.u8 bytes fault) 1 256
@@ -202,7 +206,7 @@ module _ (bytes : List ℕ) where
           (first _ (f low (le width high ++ xs) (mod-lt n (base-pos width)))
           (first _ (f high xs (div-lt-iff-lt-mul (base-pos width) .1 l)) (return _)))
 
-  u16 : (fault : Refusal) → Field (r.u16 bytes fault) 2 65_536
+  pub u16 : (fault : Refusal) → Field (r.u16 bytes fault) 2 65_536
   unfolding r.u16
   u16 fault = wider (r.u8 bytes fault) 1 (u8 fault)
 
@@ -210,16 +214,16 @@ module _ (bytes : List ℕ) where
   unfolding r.u32
   u32 fault = wider (r.u16 bytes fault) 2 (u16 fault)
 
-  u64 : (fault : Refusal) → Field (r.u64 bytes fault) 8 18_446_744_073_709_551_616
+  pub u64 : (fault : Refusal) → Field (r.u64 bytes fault) 8 18_446_744_073_709_551_616
   unfolding r.u64
   u64 fault = wider (r.u32 bytes fault) 4 (u32 fault)
 
-  span : (fault : Refusal) (s : Span) (xs : List ℕ) → Narrow s → Reads (r.span bytes fault) (le 4 (s .start) ++ (le 4 (s .end) ++ xs)) xs s
+  pub span : (fault : Refusal) (s : Span) (xs : List ℕ) → Narrow s → Reads (r.span bytes fault) (le 4 (s .start) ++ (le 4 (s .end) ++ xs)) xs s
   unfolding r.span
   span fault s xs n = first _ (u32 fault (s .start) (le 4 (s .end) ++ xs) (n .start)) (first _ (u32 fault (s .end) xs (n .end)) (return _))
 
   -- as many as there are, each written so that it is read back
-  many : {A : Type 0} (one : Reader A) (f : A → List ℕ) (vs : List A) (xs : List ℕ) →
+  pub many : {A : Type 0} (one : Reader A) (f : A → List ℕ) (vs : List A) (xs : List ℕ) →
       All (λ (v : A). (xs : List ℕ) → Reads one (f v ++ xs) xs v) vs → Reads (r.many (length vs) one) (image.join f vs ++ xs) xs vs
   unfolding r.many image.join
   many one f [] xs h = return []
@@ -289,3 +293,12 @@ read-back fs h =
   where
     come : Comes (image.image-bytes fs) (file.read-functions (image.image-bytes fs) 0) [] fs
     come = (functions (image.image-bytes fs) fs h) .run 0 (record { passed = []; all-of = refl; place = refl })
+
+-- so the checker accepts the image of sound functions, with the number of instructions in the division of all their code
+pub sound-accepted : (fs : List ObjectFunction) → Fits-image fs → T (sound fs) → check (image.image-bytes fs) ≡ accepted (instruction-count fs fs)
+unfolding check checker.image-of checker.checked checker.verdict
+sound-accepted fs h t = rw (read-back fs h) (by-test (sound fs) t)
+  where
+    by-test : (b : Bool) → T b → checker.verdict (if b then some fs else none) ≡ accepted (instruction-count fs fs)
+    by-test true t = refl
+    by-test false t = absurd t

@@ -1,6 +1,7 @@
 -- Which refusals come from where, by the table of document 01: 3, 4 and 5 from the reader, 10 to 23 from the Rust's own rules, 30 from the code limit;
 -- and their numbers.
 use mathlib.Core.Path.{_≡_, refl}
+use mathlib.Core.Logic.{_≢_}
 use Prim.Native.Nat.{ℕ, _≤_}
 use native.Mathlib.Omega.{arith}
 use Rattle.rules.specs.declared.Refusal.{Refusal}
@@ -204,30 +205,30 @@ rusts-number refusal.ImageRefused h = absurd h
 rusts-number refusal.NoSuchFunction h = absurd h
 rusts-number refusal.NoSuchByte h = absurd h
 
--- only 30 is 30
-pub number-30 : (r : Refusal) → number-of r ≡ 30 → r ≡ refusal.CodeFull
+-- only 31 carries a length
+pub no-length : (r : Refusal) → answer.refusal r .number ≢ 31 → answer.refusal r .length ≡ 0
 unfolding answer.refusal
-number-30 refusal.WorkShort e = absurd (omega arith)
-number-30 refusal.TreeTooLong e = absurd (omega arith)
-number-30 (refusal.TreeForm at) e = absurd (omega arith)
-number-30 (refusal.TreeTooDeep at) e = absurd (omega arith)
-number-30 (refusal.TooManyOpen at) e = absurd (omega arith)
-number-30 (refusal.AlreadyDefined span name) e = absurd (omega arith)
-number-30 (refusal.AccessInsideInitializer span name) e = absurd (omega arith)
-number-30 (refusal.ClassInheritFromSelf span name) e = absurd (omega arith)
-number-30 (refusal.JumpTooLarge span) e = absurd (omega arith)
-number-30 (refusal.TooManyArgs span) e = absurd (omega arith)
-number-30 (refusal.TooManyConstants span) e = absurd (omega arith)
-number-30 (refusal.TooManyLocals span) e = absurd (omega arith)
-number-30 (refusal.TooManyParams span) e = absurd (omega arith)
-number-30 (refusal.TooManyUpvalues span) e = absurd (omega arith)
-number-30 (refusal.ReturnInInitializer span) e = absurd (omega arith)
-number-30 (refusal.ReturnOutsideFunction span) e = absurd (omega arith)
-number-30 (refusal.SuperOutsideClass span) e = absurd (omega arith)
-number-30 (refusal.SuperWithoutSuperclass span) e = absurd (omega arith)
-number-30 (refusal.ThisOutsideClass span) e = absurd (omega arith)
-number-30 refusal.CodeFull e = refl
-number-30 (refusal.OutFull needed) e = absurd (omega arith)
-number-30 refusal.ImageRefused e = absurd (omega arith)
-number-30 refusal.NoSuchFunction e = absurd (omega arith)
-number-30 refusal.NoSuchByte e = absurd (omega arith)
+no-length refusal.WorkShort n = refl
+no-length refusal.TreeTooLong n = refl
+no-length (refusal.TreeForm at) n = refl
+no-length (refusal.TreeTooDeep at) n = refl
+no-length (refusal.TooManyOpen at) n = refl
+no-length (refusal.AlreadyDefined span name) n = refl
+no-length (refusal.AccessInsideInitializer span name) n = refl
+no-length (refusal.ClassInheritFromSelf span name) n = refl
+no-length (refusal.JumpTooLarge span) n = refl
+no-length (refusal.TooManyArgs span) n = refl
+no-length (refusal.TooManyConstants span) n = refl
+no-length (refusal.TooManyLocals span) n = refl
+no-length (refusal.TooManyParams span) n = refl
+no-length (refusal.TooManyUpvalues span) n = refl
+no-length (refusal.ReturnInInitializer span) n = refl
+no-length (refusal.ReturnOutsideFunction span) n = refl
+no-length (refusal.SuperOutsideClass span) n = refl
+no-length (refusal.SuperWithoutSuperclass span) n = refl
+no-length (refusal.ThisOutsideClass span) n = refl
+no-length refusal.CodeFull n = refl
+no-length (refusal.OutFull needed) n = absurd (n refl)
+no-length refusal.ImageRefused n = refl
+no-length refusal.NoSuchFunction n = refl
+no-length refusal.NoSuchByte n = refl

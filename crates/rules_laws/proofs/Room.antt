@@ -1,13 +1,14 @@
--- Memory: if one room gives an answer other than 1, 30 and 31, every room at least as large in each size gives the same answer and the same image, and
--- the output is longer only by zeros. For all limits, trees and lent sizes.
-use mathlib.Core.Path.{_≡_, refl, sym, ap, subst}
+-- Memory: after a refusal the output has only zeros; if one room gives an answer other than 1, 30 and 31, every room at least as large in each size
+-- gives the same answer and the same image, and the output is longer only by zeros; and so do two rooms of which neither is the larger, if both give
+-- such an answer. For all limits, trees and lent sizes.
+use mathlib.Core.Path.{_≡_, refl, sym, ap, subst, _∙_}
 use mathlib.Core.Logic.{_≢_}
 use mathlib.Core.Bool.{Bool, true, false}
-use mathlib.Core.List.{List, _++_, append-assoc}
+use mathlib.Core.List.{List, [], _++_, append-assoc}
 use Prim.Native.Nat.{ℕ, _+_, _-_, _*_, _≤_}
 use native.Mathlib.Omega.{arith}
 use lib.ListN.{length, replicate, replicate-append-replicate}
-use lib.Dec.{T, leb, leb→le, le→leb}
+use lib.Dec.{T, leb, leb→le, le→leb, nleb→lt}
 use Rattle.rules.specs.Base.{if_then_else_}
 use Rattle.rules.specs.Limits.{Limits, first-limits, max-tree}
 use Rattle.rules.specs.declared.Answer.{Answer}
@@ -21,6 +22,7 @@ use Rattle.rules.specs.Compiler.{Outcome}
 use Rattle.rules.specs.Image.{image-bytes}
 use Rattle.rules.specs.Entry as entry
 use Rattle.rules.specs.Entry.{Lent, Left, code-limit, Compiled, functions-are, refused, compile-tree, compile-lent, compile-within, compile}
+use Rattle.rules_laws.proofs.Refusals.{no-length}
 use Rattle.rules_laws.proofs.Agrees as agreeing
 use Rattle.rules_laws.proofs.Agrees.{Under, agrees}
 
@@ -67,6 +69,33 @@ module _ (limits : Limits) (tree : List ℕ) where
 
 -- ## What is written
 
+-- what is left where an image fits the output, and where it does not
+abbrev room : Lent → (image : List ℕ) → (fits : Bool) → Left
+room lent image fits =
+    if fits
+    then entry.leaves lent (accepted (length image)) (image ++ replicate (lent .output-bytes - length image) 0)
+    else entry.leaves lent (refusal (OutFull (length image))) (replicate (lent .output-bytes) 0)
+
+-- "after a refusal, only zeros"; that the work areas are all zero whatever the answer is Slips `work-areas-zero`
+pub refused-leaves-zeros : (limits : Limits) (tree : List ℕ) (lent : Lent) → compile-within limits tree lent .answer .number ≢ 0 →
+    compile-within limits tree lent .output ≡ replicate (lent .output-bytes) 0
+unfolding compile-within entry.write-out entry.write-image entry.leaves
+refused-leaves-zeros limits tree lent n = by-compiled (compile-lent limits tree lent) n
+  where
+    by-room : (image : List ℕ) (b : Bool) → room lent image b .answer .number ≢ 0 → room lent image b .output ≡ replicate (lent .output-bytes) 0
+    by-room image true n = absurd (n refl)
+    by-room image false n = refl
+
+    by-compiled : (x : Compiled) → entry.write-out lent x .answer .number ≢ 0 → entry.write-out lent x .output ≡ replicate (lent .output-bytes) 0
+    by-compiled (refused r) n = refl
+    by-compiled (functions-are fs) n = by-room (image-bytes fs) (leb (length (image-bytes fs)) (lent .output-bytes)) n
+
+-- neither 1, 30 nor 31
+abbrev pub Enough : Answer → Type 0
+Enough a = (a .number ≢ 1) × (a .number ≢ 30) × (a .number ≢ 31)
+
+-- ## A room at least as large
+
 -- the same answer, and an output that is longer only by zeros
 pub record Same (lent lent′ : Lent) (r r′ : Left) : Type 0 where
   pub answer : r′ .answer ≡ r .answer
@@ -76,20 +105,11 @@ zeros : (n m k : ℕ) → m + k ≡ n → replicate {A = ℕ} n 0 ≡ replicate 
 zeros n m k e = rw (replicate-append-replicate {A = ℕ} m k 0, e)
 
 module _ (lent lent′ : Lent) (larger : Larger lent lent′) where
-  abbrev Enough : Answer → Type 0
-  Enough a = (a .number ≢ 1) × (a .number ≢ 30) × (a .number ≢ 31)
-
   image-same : (image : List ℕ) → entry.write-image lent image .answer .number ≢ 31 →
       Same lent lent′ (entry.write-image lent image) (entry.write-image lent′ image)
   unfolding entry.write-image entry.leaves refusal
   image-same image n = by-room (leb (length image) (lent .output-bytes)) refl n
     where
-      room : Lent → Bool → Left
-      room lent b =
-          if b
-          then entry.leaves lent (accepted (length image)) (image ++ replicate (lent .output-bytes - length image) 0)
-          else entry.leaves lent (refusal (OutFull (length image))) (replicate (lent .output-bytes) 0)
-
       padded : length image ≤ lent .output-bytes →
           image ++ replicate (lent′ .output-bytes - length image) 0 ≡ (image ++ replicate (lent .output-bytes - length image) 0) ++ replicate
           (lent′ .output-bytes - lent .output-bytes) 0
@@ -98,12 +118,12 @@ module _ (lent lent′ : Lent) (larger : Larger lent lent′) where
           (omega (arith, larger .output-bytes)))
           (sym (append-assoc image (replicate (lent .output-bytes - length image) 0) (replicate (lent′ .output-bytes - lent .output-bytes) 0)))
 
-      by-larger : length image ≤ lent .output-bytes → (b : Bool) → T b → Same lent lent′ (room lent true) (room lent′ b)
+      by-larger : length image ≤ lent .output-bytes → (b : Bool) → T b → Same lent lent′ (room lent image true) (room lent′ image b)
       by-larger l true t = record { answer = refl; output = padded l }
       by-larger l false t = absurd t
 
-      by-room : (b : Bool) → leb (length image) (lent .output-bytes) ≡ b → room lent b .answer .number ≢ 31 →
-          Same lent lent′ (room lent b) (room lent′ (leb (length image) (lent′ .output-bytes)))
+      by-room : (b : Bool) → leb (length image) (lent .output-bytes) ≡ b → room lent image b .answer .number ≢ 31 →
+          Same lent lent′ (room lent image b) (room lent′ image (leb (length image) (lent′ .output-bytes)))
       by-room true e n =
           let l : length image ≤ lent .output-bytes = leb→le (length image) (lent .output-bytes) (rw e tt) in
           by-larger l (leb (length image) (lent′ .output-bytes)) (le→leb (length image) (lent′ .output-bytes) (omega (arith, larger .output-bytes)))
@@ -151,3 +171,104 @@ module _ (lent lent′ : Lent) (larger : Larger lent lent′) where
 
   pub more-room : (tree : List ℕ) → Enough (compile tree lent .answer) → Same lent lent′ (compile tree lent) (compile tree lent′)
   more-room tree n = more-room-within first-limits tree n
+
+-- ## Two rooms of which neither need be the larger
+
+-- The rooms that a server lends one after the other need not be comparable: of those in include/puffbramble.h, for a tree file of 35 bytes the first
+-- has 75 code bytes and the one that is enough for every file 35.
+
+-- the output is the image and then zeros, and the answer has the image's length: 0 where there is none
+pub record Padded (image : List ℕ) (lent : Lent) (r : Left) : Type 0 where
+  pub says : r .answer .length ≡ length image
+  pub fits : length image ≤ lent .output-bytes
+  pub output : r .output ≡ image ++ replicate (lent .output-bytes - length image) 0
+
+-- the same answer and the same image
+pub record Alike (lent lent′ : Lent) (r r′ : Left) : Type 0 where
+  pub answer : r .answer ≡ r′ .answer
+  pub image : List ℕ
+  pub here : Padded image lent r
+  pub there : Padded image lent′ r′
+
+module _ (lent lent′ : Lent) where
+  image-alike : (image : List ℕ) → entry.write-image lent image .answer .number ≢ 31 → entry.write-image lent′ image .answer .number ≢ 31 →
+      Alike lent lent′ (entry.write-image lent image) (entry.write-image lent′ image)
+  unfolding entry.write-image entry.leaves refusal
+  image-alike image n n′ = by-room (leb (length image) (lent .output-bytes)) (leb (length image) (lent′ .output-bytes)) refl refl n n′
+    where
+      padded : (lent : Lent) → leb (length image) (lent .output-bytes) ≡ true → Padded image lent (room lent image true)
+      padded lent e = record { says = refl; fits = leb→le (length image) (lent .output-bytes) (rw e tt); output = refl }
+
+      by-room : (b b′ : Bool) → leb (length image) (lent .output-bytes) ≡ b → leb (length image) (lent′ .output-bytes) ≡ b′ →
+          room lent image b .answer .number ≢ 31 → room lent′ image b′ .answer .number ≢ 31 → Alike lent lent′ (room lent image b) (room lent′ image b′)
+      by-room true true e e′ n n′ = record { answer = refl; image = image; here = padded lent e; there = padded lent′ e′ }
+      by-room false b′ e e′ n n′ = absurd (n refl)
+      by-room true false e e′ n n′ = absurd (n′ refl)
+
+  out-alike : (x : Compiled) → entry.write-out lent x .answer .number ≢ 31 → entry.write-out lent′ x .answer .number ≢ 31 →
+      Alike lent lent′ (entry.write-out lent x) (entry.write-out lent′ x)
+  unfolding entry.write-out entry.leaves
+  out-alike (refused r) n n′ =
+      record {
+        answer = refl;
+        image = [];
+        here = record { says = no-length r n; fits = omega arith; output = all-zeros (lent .output-bytes) };
+        there = record { says = no-length r n; fits = omega arith; output = all-zeros (lent′ .output-bytes) };
+      }
+    where
+      all-zeros : (n : ℕ) → replicate {A = ℕ} n 0 ≡ replicate (n - 0) 0
+      all-zeros n = let e : n ≡ n - 0 = omega arith in ap (λ (n : ℕ). replicate {A = ℕ} n 0) e
+  out-alike (functions-are fs) n n′ = image-alike (image-bytes fs) n n′
+
+module _ (limits : Limits) (tree : List ℕ) where
+  -- past 1, what comes back is what the compiler comes to under the room's code limit
+  has-table : (lent : Lent) → compile-within limits tree lent .answer .number ≢ 1 →
+      compile-within limits tree lent ≡ entry.write-out lent (compile-tree limits tree (code-limit lent))
+  unfolding compile-within compile-lent entry.write-out entry.leaves refusal
+  has-table lent n = by-table (leb (limits .table-bytes) (8 * lent .table-words)) n
+    where
+      table : Bool → Left
+      table b = entry.write-out lent (if b then compile-tree limits tree (code-limit lent) else refused WorkShort)
+
+      by-table : (b : Bool) → table b .answer .number ≢ 1 → table b ≡ table true
+      by-table true n = refl
+      by-table false n = absurd (n refl)
+
+  -- of two limits that are not met, what comes back is the same
+  neither-full : (limit limit′ : ℕ) → (compile-tree limits tree limit ≡ refused CodeFull → ⊥) → (compile-tree limits tree limit′ ≡ refused CodeFull → ⊥) →
+      compile-tree limits tree limit ≡ compile-tree limits tree limit′
+  neither-full limit limit′ n n′ = by-order (leb limit limit′) refl
+    where
+      of-under : {x x′ : Compiled} → (x ≡ refused CodeFull → ⊥) → Under-compiled x x′ → x ≡ x′
+      of-under n (full e) = absurd (n e)
+      of-under n (same e) = e
+
+      by-order : (b : Bool) → leb limit limit′ ≡ b → compile-tree limits tree limit ≡ compile-tree limits tree limit′
+      by-order true e = of-under n (tree-agrees limits tree limit limit′ (leb→le limit limit′ (rw e tt)))
+      by-order false e = sym (of-under n′ (tree-agrees limits tree limit′ limit (omega (arith, nleb→lt limit limit′ (rw e tt)))))
+
+  full-is-30 : (lent : Lent) → compile-within limits tree lent .answer .number ≢ 1 → compile-within limits tree lent .answer .number ≢ 30 →
+      compile-tree limits tree (code-limit lent) ≡ refused CodeFull → ⊥
+  unfolding entry.write-out entry.leaves refusal
+  full-is-30 lent n₁ n₃₀ e =
+      n₃₀ (ap (λ (r : Left). r .answer .number) (has-table lent n₁) ∙ ap (λ (x : Compiled). entry.write-out lent x .answer .number) e)
+
+  -- if both rooms are enough, both give the same
+  pub enough-in-both : (lent lent′ : Lent) → Enough (compile-within limits tree lent .answer) → Enough (compile-within limits tree lent′ .answer) →
+      Alike lent lent′ (compile-within limits tree lent) (compile-within limits tree lent′)
+  enough-in-both lent lent′ n n′ =
+      subst (λ (r : Left). Alike lent lent′ r (compile-within limits tree lent′)) (sym e)
+      (subst (λ (r′ : Left). Alike lent lent′ (entry.write-out lent x) r′) (sym e′)
+      (out-alike lent lent′ x (subst (λ (r : Left). r .answer .number ≢ 31) e (n .2)) (subst (λ (r : Left). r .answer .number ≢ 31) e′ (n′ .2))))
+    where
+      x : Compiled
+      x = compile-tree limits tree (code-limit lent)
+
+      e : compile-within limits tree lent ≡ entry.write-out lent x
+      e = has-table lent (n .0)
+
+      e′ : compile-within limits tree lent′ ≡ entry.write-out lent′ x
+      e′ =
+          has-table lent′ (n′ .0)
+          ∙ ap (entry.write-out lent′)
+          (sym (neither-full (code-limit lent) (code-limit lent′) (full-is-30 lent (n .0) (n .1)) (full-is-30 lent′ (n′ .0) (n′ .1))))

@@ -81,7 +81,8 @@ push-apart (run ∷ next ∷ []) span h t = by-test (same-span (next .span) span
     by-test false e₁ b e r =
         both gap (runs-apart (next ∷ record { span = span; count = 1 } ∷ [])) (left gap true t) r
 push-apart (run ∷ next ∷ third ∷ runs) span h t =
-    both (if same-span (run .span) (next .span) then eqb (run .count) 255 else true) (runs-apart (push-span (next ∷ third ∷ runs) span)) (left (if same-span (run .span) (next .span) then eqb (run .count) 255 else true) (runs-apart (next ∷ third ∷ runs)) t)
+    both (if same-span (run .span) (next .span) then eqb (run .count) 255 else true) (runs-apart (push-span (next ∷ third ∷ runs) span))
+    (left (if same-span (run .span) (next .span) then eqb (run .count) 255 else true) (runs-apart (next ∷ third ∷ runs)) t)
     (push-apart (next ∷ third ∷ runs) span (h .1) (right (if same-span (run .span) (next .span) then eqb (run .count) 255 else true) (runs-apart (next ∷ third ∷ runs)) t))
 
 pub record Counted (ch : Chunk) : Type 0 where
@@ -92,7 +93,12 @@ pub record Counted (ch : Chunk) : Type 0 where
 written : (ch : Chunk) (b : ℕ) (span : Span) → Counted ch → Counted (write-u8 ch b span)
 unfolding write-u8
 written ch b span h =
-    record { apart = push-apart (ch .spans) span (h .each) (h .apart); each = push-counts (ch .spans) span (h .each); sum = omega (arith, push-total (ch .spans) span, h .sum, length-append (ch .ops) (b ∷ [])) }
+    record {
+      apart = push-apart (ch .spans) span (h .each) (h .apart);
+      each = push-counts (ch .spans) span (h .each);
+      sum = omega
+          (arith, push-total (ch .spans) span, h .sum, length-append (ch .ops) (b ∷ []));
+    }
 
 all-written : (ch : Chunk) (bs : List ℕ) (span : Span) → Counted ch → Counted (write-all ch bs span)
 all-written ch [] span h = h

@@ -66,8 +66,8 @@ abbrev reach : ℕ → CompilerCtx → List CompilerCtx → ℕ
 reach n x ps =
     sum-of (λ y. length (y .locals)) (x ∷ ps) + carried (max (length (x .chunk .ops) + n) (2 * length (x .upvalues))) ps
 
-abbrev peak : CompilerCtx → List CompilerCtx → ℕ
-peak x ps = reach 0 x ps
+abbrev reached : CompilerCtx → List CompilerCtx → ℕ
+reached x ps = reach 0 x ps
 
 carried-more : (n n′ d : ℕ) (ps : List CompilerCtx) → n ≤ n′ + d → carried n ps ≤ carried n′ ps + d
 carried-more n n′ d [] l = omega arith
@@ -76,7 +76,7 @@ carried-more n n′ d (p ∷ ps) l =
     (max (length (p .chunk .ops) + n′) (2 * length (p .upvalues))) d ps (omega arith)
 
 -- the open functions' code, summed, is part of it
-open-code-step : (s : Compiler) (x p : CompilerCtx) (ps : List CompilerCtx) →
+pub open-code-step : (s : Compiler) (x p : CompilerCtx) (ps : List CompilerCtx) →
     c.open-code (c.with-ctxs s x (p ∷ ps)) ≡ length (x .chunk .ops) + c.open-code (c.with-ctxs s p ps)
 unfolding c.open-code
 open-code-step s x p ps = refl
@@ -97,12 +97,12 @@ open-code-reach s n = omega (arith, open-code-of s (s .ctx) (s .parents) n (max 
 
 -- ## A name that is looked up: at most one variable more is captured by each function, and all of them are carried as one
 
-record Like (x x′ : CompilerCtx) : Type 0 where
-  ops : length (x′ .chunk .ops) ≡ length (x .chunk .ops)
-  locals : length (x′ .locals) ≡ length (x .locals)
-  pairs : length (x′ .upvalues) ≤ length (x .upvalues) + 1
+pub record Like (x x′ : CompilerCtx) : Type 0 where
+  pub ops : length (x′ .chunk .ops) ≡ length (x .chunk .ops)
+  pub locals : length (x′ .locals) ≡ length (x .locals)
+  pub pairs : length (x′ .upvalues) ≤ length (x .upvalues) + 1
 
-abbrev Likes : List CompilerCtx → List CompilerCtx → Type 0
+abbrev pub Likes : List CompilerCtx → List CompilerCtx → Type 0
 Likes [] [] = Unit {0}
 Likes [] (y ∷ ys) = ⊥
 Likes (x ∷ xs) [] = ⊥
@@ -135,8 +135,8 @@ carried-like (p ∷ ps) (q ∷ qs) h n n′ l =
     carried-like ps qs (h .1) (max (length (q .chunk .ops) + n) (2 * length (q .upvalues)))
     (max (length (p .chunk .ops) + n′) (2 * length (p .upvalues))) (omega (arith, h .0 .ops, h .0 .pairs))
 
-peak-like : (x x′ : CompilerCtx) (ps qs : List CompilerCtx) → Like x x′ → Likes ps qs → peak x′ qs ≤ peak x ps + 2
-peak-like x x′ ps qs h hs =
+reached-like : (x x′ : CompilerCtx) (ps qs : List CompilerCtx) → Like x x′ → Likes ps qs → reached x′ qs ≤ reached x ps + 2
+reached-like x x′ ps qs h hs =
     omega (
       arith,
       h .locals,
@@ -145,7 +145,7 @@ peak-like x x′ ps qs h hs =
           (omega (arith, h .ops, h .pairs)),
     )
 
-abbrev Raised-if : CompilerCtx → List CompilerCtx → Resolved → Type 0
+abbrev pub Raised-if : CompilerCtx → List CompilerCtx → Resolved → Type 0
 Raised-if ctx parents (captured idx ctx′ parents′) = Like ctx ctx′ × Likes parents parents′
 Raised-if ctx parents nowhere = Unit {0}
 Raised-if ctx parents (failed r) = Rusts r
@@ -174,20 +174,20 @@ through missing (captured idx q qs) name span ctx parent above o =
 through missing nowhere name span ctx parent above o = tt
 through missing (failed r) name span ctx parent above o = o
 
-resolve-upvalue : (name : ℕ) (span : Span) (ctx : CompilerCtx) (parents : List CompilerCtx) →
+pub resolve-upvalue : (name : ℕ) (span : Span) (ctx : CompilerCtx) (parents : List CompilerCtx) →
     Raised-if ctx parents (c.resolve-upvalue name span ctx parents)
 unfolding c.resolve-upvalue
 resolve-upvalue name span ctx [] = tt
 resolve-upvalue name span ctx (p ∷ ps) =
     through (c.find-local name (p .locals)) (c.resolve-upvalue name span p ps) name span ctx p ps (resolve-upvalue name span p ps)
 
-raised : (ctx : CompilerCtx) (parents : List CompilerCtx) (r : Resolved) → Raised-if ctx parents r → Grown-if peak 2 ctx parents r
+raised : (ctx : CompilerCtx) (parents : List CompilerCtx) (r : Resolved) → Raised-if ctx parents r → Grown-if reached 2 ctx parents r
 raised ctx parents (captured idx ctx′ parents′) h =
-    record { levels = likes-length parents parents′ (h .1); holds = peak-like ctx ctx′ parents parents′ (h .0) (h .1) }
+    record { levels = likes-length parents parents′ (h .1); holds = reached-like ctx ctx′ parents parents′ (h .0) (h .1) }
 raised ctx parents nowhere h = tt
 raised ctx parents (failed r) h = h
 
-holds : (most : ℕ) → Holds peak 2 1 most
+holds : (most : ℕ) → Holds reached 2 1 most
 unfolding c.set-u16
 holds most =
     record {
@@ -203,11 +203,11 @@ holds most =
 -- ## What writes, by any account of what has been spent that a byte raises by one
 
 -- a chunk with a constant more
-Placed : Chunk → Written → Type 0
+unfoldable pub Placed : Chunk → Written → Type 0
 Placed ch (at-place place ch′) = ch′ .ops ≡ ch .ops
 Placed ch no-room = Unit {0}
 
-placed : (ch : Chunk) (v : Constant) → Placed ch (write-constant ch v)
+pub placed : (ch : Chunk) (v : Constant) → Placed ch (write-constant ch v)
 unfolding Placed write-constant written
 placed ch v = found (position (same-constant v) (ch .constants))
   where
@@ -221,7 +221,7 @@ placed ch v = found (position (same-constant v) (ch .constants))
     found (some place) = refl
     found none = added (ltb (length (ch .constants)) 256)
 
-one-more : (ch : Chunk) (b : ℕ) (span : Span) → length (write-u8 ch b span .ops) ≡ length (ch .ops) + 1
+pub one-more : (ch : Chunk) (b : ℕ) (span : Span) → length (write-u8 ch b span .ops) ≡ length (ch .ops) + 1
 unfolding write-u8
 one-more ch b span = length-append (ch .ops) (b ∷ [])
 
@@ -278,7 +278,7 @@ gone fs = 0
 -- `top` is all that may be spent, and the code limit is no less
 module _ (limit most top : ℕ) (room : top ≤ limit) where
   abbrev J : ℕ → ℕ → Compiler → Type 0
-  J g k s = Spent peak gone most g k s
+  J g k s = Spent reached gone most g k s
 
   abbrev Does : {A : Type 0} → (g h n : ℕ) → Compile A → Type 0
   Does g h n m = Spends J Rusts top g h n m
@@ -286,11 +286,11 @@ module _ (limit most top : ℕ) (room : top ≤ limit) where
   infixl 10 _>>=_
   _>>=_ : {A B : Type 0} {g h i n n′ : ℕ} {m : Compile A} {f : A → Compile B} → Does g h n m → ((a : A) → Does h i n′ (f a)) →
       Does g i (n + n′) (c._>>=_ m f)
-  hm >>= hf = spends.bind J Rusts top (more peak gone most) hm hf
+  hm >>= hf = spends.bind J Rusts top (more reached gone most) hm hf
 
   infixl 10 _>>_
   _>>_ : {A B : Type 0} {g h i n n′ : ℕ} {m : Compile A} {p : Compile B} → Does g h n m → Does h i n′ p → Does g i (n + n′) (c._>>_ m p)
-  hm >> hp = spends.follow J Rusts top (more peak gone most) hm hp
+  hm >> hp = spends.follow J Rusts top (more reached gone most) hm hp
 
   -- ## What writes
 
@@ -367,7 +367,7 @@ module _ (limit most top : ℕ) (room : top ≤ limit) where
   end-scope : {g : ℕ} (span : Span) → Does g g 0 (c.end-scope limit span)
   unfolding c.end-scope c._>>=_ c._>>_ go-on c.the c.update-ctx
   end-scope {g} span =
-      spends.enough J Rusts top (more peak gone most) {n = 0} (record { run = λ s k l i. ended s k l i }) (omega arith)
+      spends.enough J Rusts top (more reached gone most) {n = 0} (record { run = λ s k l i. ended s k l i }) (omega arith)
     where
       lower : CompilerCtx → CompilerCtx
       lower x = c.with-scope-depth x (x .scope-depth - 1)
@@ -375,7 +375,7 @@ module _ (limit most top : ℕ) (room : top ≤ limit) where
       ended : (s : Compiler) (k : ℕ) → k + 0 ≤ top → J g k s →
           Ends J Rusts top g (k + 0) (c.pop-locals limit (s .ctx .locals) span (c.with-ctx s (lower (s .ctx))))
       ended s k l i =
-          spends.ends-more J Rusts top (more peak gone most) g k (k + 0)
+          spends.ends-more J Rusts top (more reached gone most) g k (k + 0)
           (c.pop-locals limit (s .ctx .locals) span (c.with-ctx s (lower (s .ctx))))
           (omega arith)
           (pop-locals (s .ctx .locals) span (c.with-ctx s (lower (s .ctx))) k refl (omega arith) (record { levels = i .levels; spent = i .spent }))
@@ -450,8 +450,8 @@ module _ (limit most top : ℕ) (room : top ≤ limit) where
       Ends J Rusts top g (k + 3) (go-on (c.back-to ps s) (λ (r : ℕ × List Upvalue). c.emit-closure limit (r .0) (r .1) span))
   unfolding c.back-to c.finish go-on
   back-to g s k [] span e up b l i =
-      spends.ends-more J Rusts top (more peak gone most) g (k + 2) (k + 3) (c.emit-closure limit 0 [] span s) (omega arith)
-      ((emit-closure limit top J (more peak gone most) fits longer pooled 0 [] span) .run s k (omega arith)
+      spends.ends-more J Rusts top (more reached gone most) g (k + 2) (k + 3) (c.emit-closure limit 0 [] span s) (omega arith)
+      ((emit-closure limit top J (more reached gone most) fits longer pooled 0 [] span) .run s k (omega arith)
       (record { levels = omega (arith, ap length e); spent = i .spent }))
   back-to g s k (p ∷ ps) span e up b l i =
       closed (k + 3) all l g (c.emit-closure limit (length (s .functions)) us span t)
@@ -474,7 +474,7 @@ module _ (limit most top : ℕ) (room : top ≤ limit) where
             reaches =
                 omega (
                   arith,
-                  subst (λ (qs : List CompilerCtx). peak (s .ctx) qs ≤ k) e (omega (arith, i .spent)),
+                  subst (λ (qs : List CompilerCtx). reached (s .ctx) qs ≤ k) e (omega (arith, i .spent)),
                   carried-more (max (length (p .chunk .ops) + (all - 0)) (2 * length (p .upvalues)))
                       (max (length (p .chunk .ops) + max (length (s .ctx .chunk .ops) + 0) (2 * length us)) (2 * length (p .upvalues))) 2 ps (omega arith),
                 );
@@ -484,7 +484,7 @@ module _ (limit most top : ℕ) (room : top ≤ limit) where
   unfolding c.end-function c.end-ctx c._>>=_ go-on c.the
   end-function {g} span up = record { run = λ s k l i. back-to g s k (s .parents) span refl (up .0) (up .1) l i }
 
-  laws : Laws (fitting most) limit limit (λ A g h n w m m′. Does {A = A} g h n m)
+  laws : Laws (fitting most) (λ A g h n w m. Does {A = A} g h n (m limit))
   unfolding c.define-local c.begin-scope c.push-class-ctx c.pop-class-ctx
   laws =
       record {
@@ -493,23 +493,23 @@ module _ (limit most top : ℕ) (room : top ≤ limit) where
         super-name = omega arith;
         _>>=_ = λ hm hf. hm >>= hf;
         _>>_ = λ hm hp. hm >> hp;
-        enough = λ hm b b′. spends.enough J Rusts top (more peak gone most) hm b;
-        needs = λ b r o f. spends.needs J Rusts top (more peak gone most) b r o f;
-        return = λ a. spends.return J Rusts top (more peak gone most) a;
-        the = λ f. spends.the J Rusts top (more peak gone most) f;
-        need = λ b r o. spends.need J Rusts top (more peak gone most) b r o;
-        refuse = λ r o. spends.refuse J Rusts top (more peak gone most) r o;
-        resolve = λ name span. open-ones.resolve peak gone 2 1 most (holds most) Rusts (λ r o. o) top name span;
-        patch-jump = λ at span. open-ones.patch-jump peak gone 2 1 most (holds most) Rusts (λ r o. o) top at span;
-        declare-local = λ name span. open-ones.declare-local peak gone 2 1 most (holds most) Rusts (λ r o. o) top name span;
-        define-local = open-ones.define-local peak gone 2 1 most (holds most) Rusts (λ r o. o) top;
-        begin-scope = open-ones.begin-scope peak gone 2 1 most (holds most) Rusts (λ r o. o) top;
-        push-class-ctx = λ b. open-ones.push-class-ctx peak gone 2 1 most (holds most) Rusts (λ r o. o) top b;
-        pop-class-ctx = open-ones.pop-class-ctx peak gone 2 1 most (holds most) Rusts (λ r o. o) top;
-        begin-ctx = λ name arity depth type up n a. open-ones.begin-ctx peak gone 2 1 most (holds most) Rusts
+        enough = λ hm b b′. spends.enough J Rusts top (more reached gone most) hm b;
+        needs = λ b r o f. spends.needs J Rusts top (more reached gone most) b r o f;
+        return = λ a. spends.return J Rusts top (more reached gone most) a;
+        the = λ f. spends.the J Rusts top (more reached gone most) f;
+        need = λ b r o. spends.need J Rusts top (more reached gone most) b r o;
+        refuse = λ r o. spends.refuse J Rusts top (more reached gone most) r o;
+        resolve = λ name span. open-ones.resolve reached gone 2 1 most (holds most) Rusts (λ r o. o) top name span;
+        patch-jump = λ at span. open-ones.patch-jump reached gone 2 1 most (holds most) Rusts (λ r o. o) top at span;
+        declare-local = λ name span. open-ones.declare-local reached gone 2 1 most (holds most) Rusts (λ r o. o) top name span;
+        define-local = open-ones.define-local reached gone 2 1 most (holds most) Rusts (λ r o. o) top;
+        begin-scope = open-ones.begin-scope reached gone 2 1 most (holds most) Rusts (λ r o. o) top;
+        push-class-ctx = λ b. open-ones.push-class-ctx reached gone 2 1 most (holds most) Rusts (λ r o. o) top b;
+        pop-class-ctx = open-ones.pop-class-ctx reached gone 2 1 most (holds most) Rusts (λ r o. o) top;
+        begin-ctx = λ name arity depth type up n a. open-ones.begin-ctx reached gone 2 1 most (holds most) Rusts
             (λ r o. o) top name arity depth type (up .0);
-        emit-u8 = λ b span n. emit-u8 limit top J (more peak gone most) fits longer pooled b span;
-        emit-constant = λ v span o n. emit-constant limit top J (more peak gone most) fits longer pooled v span;
+        emit-u8 = λ b span n. emit-u8 limit top J (more reached gone most) fits longer pooled b span;
+        emit-constant = λ v span o n. emit-constant limit top J (more reached gone most) fits longer pooled v span;
         end-scope = λ span n. end-scope span;
         end-function = λ span up n. end-function span up;
       }
@@ -529,13 +529,13 @@ within limit most stmts o room = by-outcome (c.compile-script limit stmts c.new)
     top : ℕ
     top = stmts-size stmts + 2
 
-    compiled : Ends (λ g k s. Spent peak gone most g k s) Rusts top most (0 + top) (c.compile-script limit stmts c.new)
+    compiled : Ends (λ g k s. Spent reached gone most g k s) Rusts top most (0 + top) (c.compile-script limit stmts c.new)
     compiled =
-        (steps.compile-script (fitting most) limit limit (λ A g h n w m m′. Does limit most top room {A = A} g h n m)
+        (steps.compile-script (fitting most) (λ A g h n w m. Does limit most top room {A = A} g h n (m limit))
         (laws limit most top room) stmts most o) .run c.new 0 (omega arith)
         (record { levels = omega arith; spent = omega arith })
 
-    by-outcome : (r : Outcome (Unit {0})) → Ends (λ g k s. Spent peak gone most g k s) Rusts top most (0 + top) r →
+    by-outcome : (r : Outcome (Unit {0})) → Ends (λ g k s. Spent reached gone most g k s) Rusts top most (0 + top) r →
         Within (go-on r (λ _. c.the (λ (s : Compiler). s .functions ++ (c.finish (s .ctx) ∷ []))))
     by-outcome (ok a s) i = tt
     by-outcome (err r) i = i

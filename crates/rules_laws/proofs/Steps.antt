@@ -1,7 +1,7 @@
--- What each step of the compiler has, the compiler has: a fact `R from to code image m m′` of a step `m` under one code limit and the same step `m′`
--- under another, where `from` and `to` are levels of nested functions, and `code` and `image` count the bytes that the step may come to cost: of code,
--- and of the image. From a law for each small step, the law for every expression and statement whose leaves are as asked, at most 1 and 17 for each
--- byte of its record. Which jumps wait is not followed here: that is what `Keeps` does.
+-- What each step of the compiler has, the compiler has: a fact `R from to code image m` of a step `m`, which is given for every code limit, where `from`
+-- and `to` are levels of nested functions, and `code` and `image` count the bytes that the step may come to cost: of code, and of the image. From a law
+-- for each small step, the law for every expression and statement whose leaves are as asked, at most 1 and 17 for each byte of its record. Which jumps
+-- wait is not followed here: that is what `Keeps` does.
 use mathlib.Core.Bool.{Bool, true, false}
 use mathlib.Core.Option.{Option, none, some}
 use mathlib.Core.List.{List, [], _∷_}
@@ -33,57 +33,81 @@ Of-constant l (CN bits) = l .bits bits
 Of-constant l (CS name) = l .name name
 Of-constant l (CF number) = ⊥
 
-module _ (l : Leaf) (limit limit′ : ℕ) (R : (A : Type 0) → (from to : l .level) → (code image : ℕ) → Compile A → Compile A → Type 0) where
+module _ (l : Leaf) (R : (A : Type 0) → (from to : l .level) → (code image : ℕ) → (ℕ → Compile A) → Type 0) where
   pub record Laws : Type 1 where
     -- spans and names that the compiler brings itself
     pub no-span : l .span NO-SPAN
     pub this-name : l .name this
     pub super-name : l .name super
     -- steps put together
-    pub _>>=_ : {A B : Type 0} {g h i : l .level} {n k w v : ℕ} {m m′ : Compile A} {f f′ : A → Compile B} →
-        R _ g h n w m m′ → ((a : A) → R _ h i k v (f a) (f′ a)) → R _ g i (n + k) (w + v) (c._>>=_ m f) (c._>>=_ m′ f′)
-    pub _>>_ : {A B : Type 0} {g h i : l .level} {n k w v : ℕ} {m m′ : Compile A} {p p′ : Compile B} →
-        R _ g h n w m m′ → R _ h i k v p p′ → R _ g i (n + k) (w + v) (c._>>_ m p) (c._>>_ m′ p′)
-    pub enough : {A : Type 0} {g h : l .level} {n k w v : ℕ} {m m′ : Compile A} → R _ g h n w m m′ → n ≤ k → w ≤ v → R _ g h k v m m′
-    pub needs : {A : Type 0} {g h : l .level} {n w : ℕ} {m m′ : Compile A} (b : Bool) (r : Refusal) → Rusts r → (T b → R _ g h n w m m′) →
-        R _ g h n w (c._>>_ (c.need b r) m) (c._>>_ (c.need b r) m′)
+    pub _>>=_ : {A B : Type 0} {g h i : l .level} {n k w v : ℕ} {m : ℕ → Compile A} {f : ℕ → A → Compile B} →
+        R _ g h n w m → ((a : A) → R _ h i k v (λ limit. f limit a)) → R _ g i (n + k) (w + v) (λ limit. c._>>=_ (m limit) (f limit))
+    pub _>>_ : {A B : Type 0} {g h i : l .level} {n k w v : ℕ} {m : ℕ → Compile A} {p : ℕ → Compile B} →
+        R _ g h n w m → R _ h i k v p → R _ g i (n + k) (w + v) (λ limit. c._>>_ (m limit) (p limit))
+    pub enough : {A : Type 0} {g h : l .level} {n k w v : ℕ} {m : ℕ → Compile A} → R _ g h n w m → n ≤ k → w ≤ v → R _ g h k v m
+    pub needs : {A : Type 0} {g h : l .level} {n w : ℕ} {m : ℕ → Compile A} (b : Bool) (r : Refusal) → Rusts r → (T b → R _ g h n w m) →
+        R _ g h n w (λ limit. c._>>_ (c.need b r) (m limit))
     -- steps that write nothing
-    pub return : {A : Type 0} {g : l .level} (a : A) → R _ g g 0 0 (c.return a) (c.return a)
-    pub the : {A : Type 0} {g : l .level} (f : Compiler → A) → R _ g g 0 0 (c.the f) (c.the f)
-    pub need : {g : l .level} (b : Bool) (r : Refusal) → Rusts r → R _ g g 0 0 (c.need b r) (c.need b r)
-    pub refuse : {A : Type 0} {g h : l .level} (r : Refusal) → Rusts r → R A g h 0 0 (c.refuse r) (c.refuse r)
-    pub resolve : {g : l .level} (name : ℕ) (span : Span) → R _ g g 2 48 (c.resolve name span) (c.resolve name span)
-    pub patch-jump : {g : l .level} (at : ℕ) (span : Span) → R _ g g 0 0 (c.patch-jump at span) (c.patch-jump at span)
-    pub declare-local : {g : l .level} (name : ℕ) (span : Span) → R _ g g 1 12 (c.declare-local name span) (c.declare-local name span)
-    pub define-local : {g : l .level} → R _ g g 0 0 c.define-local c.define-local
-    pub begin-scope : {g : l .level} → R _ g g 0 0 c.begin-scope c.begin-scope
-    pub push-class-ctx : {g : l .level} (b : Bool) → R _ g g 0 0 (c.push-class-ctx b) (c.push-class-ctx b)
-    pub pop-class-ctx : {g : l .level} → R _ g g 0 0 c.pop-class-ctx c.pop-class-ctx
+    pub return : {A : Type 0} {g : l .level} (a : A) → R _ g g 0 0 (λ _. c.return a)
+    pub the : {A : Type 0} {g : l .level} (f : Compiler → A) → R _ g g 0 0 (λ _. c.the f)
+    pub need : {g : l .level} (b : Bool) (r : Refusal) → Rusts r → R _ g g 0 0 (λ _. c.need b r)
+    pub refuse : {A : Type 0} {g h : l .level} (r : Refusal) → Rusts r → R A g h 0 0 (λ _. c.refuse r)
+    pub resolve : {g : l .level} (name : ℕ) (span : Span) → R _ g g 2 48 (λ _. c.resolve name span)
+    pub patch-jump : {g : l .level} (at : ℕ) (span : Span) → R _ g g 0 0 (λ _. c.patch-jump at span)
+    pub declare-local : {g : l .level} (name : ℕ) (span : Span) → R _ g g 1 12 (λ _. c.declare-local name span)
+    pub define-local : {g : l .level} → R _ g g 0 0 (λ _. c.define-local)
+    pub begin-scope : {g : l .level} → R _ g g 0 0 (λ _. c.begin-scope)
+    pub push-class-ctx : {g : l .level} (b : Bool) → R _ g g 0 0 (λ _. c.push-class-ctx b)
+    pub pop-class-ctx : {g : l .level} → R _ g g 0 0 (λ _. c.pop-class-ctx)
     pub begin-ctx : {g h : l .level} (name arity depth : ℕ) (type : FunctionType) → l .opens g h → l .name name → arity ≤ 255 →
-        R _ g h 0 0 (c.begin-ctx (c.new-ctx name arity type depth)) (c.begin-ctx (c.new-ctx name arity type depth))
+        R _ g h 0 0 (λ _. c.begin-ctx (c.new-ctx name arity type depth))
     -- steps that write: the bytes of a scope's end are paid for where its locals are declared, a closure's pairs where they are captured
-    pub emit-u8 : {g : l .level} (b : ℕ) (span : Span) → l .span span → R _ g g 1 12 (c.emit-u8 limit b span) (c.emit-u8 limit′ b span)
+    pub emit-u8 : {g : l .level} (b : ℕ) (span : Span) → l .span span → R _ g g 1 12 (λ limit. c.emit-u8 limit b span)
     pub emit-constant : {g : l .level} (v : Constant) (span : Span) → Of-constant l v → l .span span →
-        R _ g g 1 22 (c.emit-constant limit v span) (c.emit-constant limit′ v span)
-    pub end-scope : {g : l .level} (span : Span) → l .span span → R _ g g 0 0 (c.end-scope limit span) (c.end-scope limit′ span)
+        R _ g g 1 22 (λ limit. c.emit-constant limit v span)
+    pub end-scope : {g : l .level} (span : Span) → l .span span → R _ g g 0 0 (λ limit. c.end-scope limit span)
     pub end-function : {g h : l .level} (span : Span) → l .opens g h → l .span span →
-        R _ h g 3 64 (c.end-function limit span) (c.end-function limit′ span)
+        R _ h g 3 64 (λ limit. c.end-function limit span)
 
   module _ (laws : Laws) where
     infixl 10 _>>=_
     infixl 10 _>>_
-    open Laws laws using (no-span, this-name, super-name, _>>=_, _>>_, enough, needs, return, the, need, refuse, resolve, patch-jump, declare-local, define-local, begin-scope, push-class-ctx, pop-class-ctx, begin-ctx, emit-u8, emit-constant, end-scope, end-function)
+    open Laws laws using (
+      no-span,
+      this-name,
+      super-name,
+      _>>=_,
+      _>>_,
+      enough,
+      needs,
+      return,
+      the,
+      need,
+      refuse,
+      resolve,
+      patch-jump,
+      declare-local,
+      define-local,
+      begin-scope,
+      push-class-ctx,
+      pop-class-ctx,
+      begin-ctx,
+      emit-u8,
+      emit-constant,
+      end-scope,
+      end-function,
+    )
 
-    -- the same step under both limits
+    -- a step that comes to no value
     abbrev Has : (g h : l .level) → (code image : ℕ) → (ℕ → Compile (Unit {0})) → Type 0
-    Has g h code image m = R (Unit {0}) g h code image (m limit) (m limit′)
+    Has g h code image m = R (Unit {0}) g h code image m
 
-    done : {g : l .level} → R _ g g 0 0 c.done c.done
+    done : {g : l .level} → R _ g g 0 0 (λ _. c.done)
     unfolding c.done
     done = return tt
 
-    either : {g h : l .level} {n w : ℕ} {m m′ p p′ : Compile (Unit {0})} (b : Bool) → R _ g h n w m m′ → R _ g h n w p p′ →
-        R _ g h n w (if b then m else p) (if b then m′ else p′)
+    either : {g h : l .level} {n w : ℕ} {m p : ℕ → Compile (Unit {0})} (b : Bool) → R _ g h n w m → R _ g h n w p →
+        R _ g h n w (λ limit. if b then m limit else p limit)
     either true hm hp = hm
     either false hm hp = hp
 
@@ -114,11 +138,11 @@ module _ (l : Leaf) (limit limit′ : ℕ) (R : (A : Type 0) → (from to : l .l
       emit-constant (CS name) _ o s
       emit-u8 _ _ s
 
-    code-length : {g : l .level} → R _ g g 0 0 c.code-length c.code-length
+    code-length : {g : l .level} → R _ g g 0 0 (λ _. c.code-length)
     unfolding c.code-length
     code-length = the _
 
-    emit-jump : {g : l .level} (b : ℕ) (span : Span) → l .span span → R _ g g 3 36 (c.emit-jump limit b span) (c.emit-jump limit′ b span)
+    emit-jump : {g : l .level} (b : ℕ) (span : Span) → l .span span → R _ g g 3 36 (λ limit. c.emit-jump limit b span)
     unfolding c.emit-jump
     emit-jump b span s = do
       emit-u8 _ _ s
@@ -176,24 +200,24 @@ module _ (l : Leaf) (limit limit′ : ℕ) (R : (A : Type 0) → (from to : l .l
     compile-literal (LitString name) span o s = emit-op-constant _ (CS name) _ o s
 
     -- the right side, and what stands around it
-    after : {g : l .level} {n k w v : ℕ} {rt rt′ m m′ : Compile (Unit {0})} → R _ g g n w rt rt′ → R _ g g k v m m′ → k ≤ 7 → v ≤ 84 →
-        R _ g g (n + 7) (w + 84) (c._>>_ rt m) (c._>>_ rt′ m′)
+    after : {g : l .level} {n k w v : ℕ} {rt m : ℕ → Compile (Unit {0})} → R _ g g n w rt → R _ g g k v m → k ≤ 7 → v ≤ 84 →
+        R _ g g (n + 7) (w + 84) (λ limit. c._>>_ (rt limit) (m limit))
     after hr hm b b′ = enough (hr >> hm) (omega arith) (omega arith)
 
-    compile-infix : {g : l .level} {n w : ℕ} (o : OpInfix) (rt rt′ : Compile (Unit {0})) (span : Span) → R _ g g n w rt rt′ → l .span span →
-        R _ g g (n + 7) (w + 84) (c.compile-infix limit o rt span) (c.compile-infix limit′ o rt′ span)
+    compile-infix : {g : l .level} {n w : ℕ} (o : OpInfix) (rt : ℕ → Compile (Unit {0})) (span : Span) → R _ g g n w rt → l .span span →
+        R _ g g (n + 7) (w + 84) (λ limit. c.compile-infix limit o (rt limit) span)
     unfolding c.compile-infix
-    compile-infix Add rt rt′ span h s = after h (emit-op _ _ s) (omega arith) (omega arith)
-    compile-infix Subtract rt rt′ span h s = after h (emit-op _ _ s) (omega arith) (omega arith)
-    compile-infix Multiply rt rt′ span h s = after h (emit-op _ _ s) (omega arith) (omega arith)
-    compile-infix Divide rt rt′ span h s = after h (emit-op _ _ s) (omega arith) (omega arith)
-    compile-infix Less rt rt′ span h s = after h (emit-op _ _ s) (omega arith) (omega arith)
-    compile-infix LessEqual rt rt′ span h s = after h (emit-op _ _ s) (omega arith) (omega arith)
-    compile-infix Greater rt rt′ span h s = after h (emit-op _ _ s) (omega arith) (omega arith)
-    compile-infix GreaterEqual rt rt′ span h s = after h (emit-op _ _ s) (omega arith) (omega arith)
-    compile-infix Equal rt rt′ span h s = after h (emit-op _ _ s) (omega arith) (omega arith)
-    compile-infix NotEqual rt rt′ span h s = after h (emit-op _ _ s) (omega arith) (omega arith)
-    compile-infix LogicAnd rt rt′ span h s =
+    compile-infix Add rt span h s = after h (emit-op _ _ s) (omega arith) (omega arith)
+    compile-infix Subtract rt span h s = after h (emit-op _ _ s) (omega arith) (omega arith)
+    compile-infix Multiply rt span h s = after h (emit-op _ _ s) (omega arith) (omega arith)
+    compile-infix Divide rt span h s = after h (emit-op _ _ s) (omega arith) (omega arith)
+    compile-infix Less rt span h s = after h (emit-op _ _ s) (omega arith) (omega arith)
+    compile-infix LessEqual rt span h s = after h (emit-op _ _ s) (omega arith) (omega arith)
+    compile-infix Greater rt span h s = after h (emit-op _ _ s) (omega arith) (omega arith)
+    compile-infix GreaterEqual rt span h s = after h (emit-op _ _ s) (omega arith) (omega arith)
+    compile-infix Equal rt span h s = after h (emit-op _ _ s) (omega arith) (omega arith)
+    compile-infix NotEqual rt span h s = after h (emit-op _ _ s) (omega arith) (omega arith)
+    compile-infix LogicAnd rt span h s =
         enough
         (do
           jump-to-end ← emit-jump _ _ s
@@ -201,7 +225,7 @@ module _ (l : Leaf) (limit limit′ : ℕ) (R : (A : Type 0) → (from to : l .l
           h
           patch-jump _ _)
         (omega arith) (omega arith)
-    compile-infix LogicOr rt rt′ span h s =
+    compile-infix LogicOr rt span h s =
         enough
         (do
           jump-to-right-expr ← emit-jump _ _ s
@@ -213,12 +237,12 @@ module _ (l : Leaf) (limit limit′ : ℕ) (R : (A : Type 0) → (from to : l .l
         (omega arith) (omega arith)
 
     innermost-has-super : {g : l .level} (classes : List Bool) (span : Span) →
-        R _ g g 0 0 (c.innermost-has-super classes span) (c.innermost-has-super classes span)
+        R _ g g 0 0 (λ _. c.innermost-has-super classes span)
     unfolding c.innermost-has-super
     innermost-has-super [] span = refuse _ tt
     innermost-has-super (b ∷ _) span = need b _ tt
 
-    need-super : {g : l .level} (span : Span) → R _ g g 0 0 (c.need-super span) (c.need-super span)
+    need-super : {g : l .level} (span : Span) → R _ g g 0 0 (λ _. c.need-super span)
     unfolding c.need-super
     need-super span = do
       classes ← the _
@@ -233,9 +257,9 @@ module _ (l : Leaf) (limit limit′ : ℕ) (R : (A : Type 0) → (from to : l .l
       get-variable _ _ super-name s
       emit-op-constant _ (CS name) _ n s
 
-    call-method : {g : l .level} {n k w v : ℕ} {object object′ args args′ : Compile (Unit {0})} (name count : ℕ) (span : Span) →
-        R _ g g n w object object′ → R _ g g k v args args′ → l .name name → l .span span →
-        R _ g g (n + k + 3) (w + v + 46) (c.call-method limit object args name count span) (c.call-method limit′ object′ args′ name count span)
+    call-method : {g : l .level} {n k w v : ℕ} {object args : ℕ → Compile (Unit {0})} (name count : ℕ) (span : Span) →
+        R _ g g n w object → R _ g g k v args → l .name name → l .span span →
+        R _ g g (n + k + 3) (w + v + 46) (λ limit. c.call-method limit (object limit) (args limit) name count span)
     unfolding c.call-method
     call-method name count span ho ha n s =
         enough
@@ -245,9 +269,9 @@ module _ (l : Leaf) (limit limit′ : ℕ) (R : (A : Type 0) → (from to : l .l
           emit-invoke _ name _ _ n s)
         (omega arith) (omega arith)
 
-    call-super : {g : l .level} {k v : ℕ} {args args′ : Compile (Unit {0})} (name count : ℕ) (span : Span) → R _ g g k v args args′ → l .name name →
+    call-super : {g : l .level} {k v : ℕ} {args : ℕ → Compile (Unit {0})} (name count : ℕ) (span : Span) → R _ g g k v args → l .name name →
         l .span span →
-        R _ g g (k + 11) (v + 210) (c.call-super limit args name count span) (c.call-super limit′ args′ name count span)
+        R _ g g (k + 11) (v + 210) (λ limit. c.call-super limit (args limit) name count span)
     unfolding c.call-super
     call-super name count span ha n s =
         enough
@@ -259,10 +283,10 @@ module _ (l : Leaf) (limit limit′ : ℕ) (R : (A : Type 0) → (from to : l .l
           emit-invoke _ name _ _ n s)
         (omega arith) (omega arith)
 
-    call-value : {g : l .level} {n k w v : ℕ} {callee callee′ args args′ : Compile (Unit {0})} (count : ℕ) (span : Span) →
-        R _ g g n w callee callee′ →
-        R _ g g k v args args′ → l .span span →
-        R _ g g (n + k + 12) (w + v + 204) (c.call-value limit callee args count span) (c.call-value limit′ callee′ args′ count span)
+    call-value : {g : l .level} {n k w v : ℕ} {callee args : ℕ → Compile (Unit {0})} (count : ℕ) (span : Span) →
+        R _ g g n w callee →
+        R _ g g k v args → l .span span →
+        R _ g g (n + k + 12) (w + v + 204) (λ limit. c.call-value limit (callee limit) (args limit) count span)
     unfolding c.call-value
     call-value count span hc ha s =
         enough
@@ -298,7 +322,7 @@ module _ (l : Leaf) (limit limit′ : ℕ) (R : (A : Type 0) → (from to : l .l
           enough
           (do
             compile-expr lt (o .1)
-            compile-infix op _ _ _ (compile-expr rt (o .2)) (o .0))
+            compile-infix op _ _ (compile-expr rt (o .2)) (o .0))
           (omega arith) (omega arith)
       compile-expr (Literal span k) o = enough (compile-literal k span (o .1) (o .0)) (omega arith) (omega arith)
       compile-expr (ExprPrefix span op rt) o =
@@ -317,10 +341,9 @@ module _ (l : Leaf) (limit limit′ : ℕ) (R : (A : Type 0) → (from to : l .l
       compile-expr (ExprSuper span name) o = enough (compile-super name span (o .1) (o .0)) (omega arith) (omega arith)
       compile-expr (ExprVar span name) o = enough (get-variable name span (o .1) (o .0)) (omega arith) (omega arith)
 
-      pub compile-call : (e : Expr) (n : ℕ) (span : Span) {g : l .level} {k v : ℕ} {callee callee′ args args′ : Compile (Unit {0})} →
-          R _ g g (expr-size e) (17 * expr-size e) callee callee′ → R _ g g k v args args′ →
-          Of-expr l e → l .span span → R _ g g (expr-size e + k + 12) (17 * expr-size e + v + 204) (c.compile-call limit e callee args n span)
-          (c.compile-call limit′ e callee′ args′ n span)
+      pub compile-call : (e : Expr) (n : ℕ) (span : Span) {g : l .level} {k v : ℕ} {callee args : ℕ → Compile (Unit {0})} →
+          R _ g g (expr-size e) (17 * expr-size e) callee → R _ g g k v args →
+          Of-expr l e → l .span span → R _ g g (expr-size e + k + 12) (17 * expr-size e + v + 204) (λ limit. c.compile-call limit e (callee limit) (args limit) n span)
       compile-call (ExprGet _ name object) n span hc ha o s =
           enough (call-method name n span (compile-expr object (o .2)) ha (o .1) s) (omega arith) (omega arith)
       compile-call (ExprSuper _ name) n span hc ha o s = enough (call-super name n span ha (o .1) s) (omega arith) (omega arith)
@@ -370,7 +393,7 @@ module _ (l : Leaf) (limit limit′ : ℕ) (R : (A : Type 0) → (from to : l .l
           emit-op _ _ s)
         (omega arith) (omega arith)
 
-    is-global : {g : l .level} → R _ g g 0 0 c.is-global c.is-global
+    is-global : {g : l .level} → R _ g g 0 0 (λ _. c.is-global)
     unfolding c.is-global
     is-global = the _
 
@@ -426,8 +449,7 @@ module _ (l : Leaf) (limit limit′ : ℕ) (R : (A : Type 0) → (from to : l .l
     end-superclass (some sup) = end-scope _ no-span
 
     for-cond : {g : l .level} (cond : Option Expr) (span : Span) → If-some (Of-expr l) cond → l .span span →
-        R _ g g (option-size expr-size cond + 4) (17 * option-size expr-size cond + 48) (c.for-cond limit cond span)
-        (c.for-cond limit′ cond span)
+        R _ g g (option-size expr-size cond + 4) (17 * option-size expr-size cond + 48) (λ limit. c.for-cond limit cond span)
     unfolding c.for-cond
     for-cond none span o s = enough (return none) (omega arith) (omega arith)
     for-cond (some cond) span o s =
@@ -458,7 +480,7 @@ module _ (l : Leaf) (limit limit′ : ℕ) (R : (A : Type 0) → (from to : l .l
       emit-op _ _ s
 
     declare-params : {g : l .level} (ps : List ℕ) (span : Span) →
-        R _ g g (length ps) (12 * length ps) (c.declare-params ps span) (c.declare-params ps span)
+        R _ g g (length ps) (12 * length ps) (λ _. c.declare-params ps span)
     unfolding c.declare-params
     declare-params [] span = done
     declare-params (p ∷ ps) span =
@@ -475,11 +497,10 @@ module _ (l : Leaf) (limit limit′ : ℕ) (R : (A : Type 0) → (from to : l .l
       ops ← the _
       either (c.ends-in-return ops) (enough done (omega arith) (omega arith)) (compile-return none NO-SPAN tt no-span)
 
-    compile-function-with : {g h : l .level} {n w : ℕ} (type : FunctionType) (name : ℕ) (params : List ℕ) {body body′ : Compile (Unit {0})}
-        (span : Span) → l .opens g h → R _ h h n w body body′ →
+    compile-function-with : {g h : l .level} {n w : ℕ} (type : FunctionType) (name : ℕ) (params : List ℕ) {body : ℕ → Compile (Unit {0})}
+        (span : Span) → l .opens g h → R _ h h n w body →
         l .name name → l .span span →
-        R _ g g (length params + n + 7) (12 * length params + w + 112) (c.compile-function-with limit type name params body span)
-        (c.compile-function-with limit′ type name params body′ span)
+        R _ g g (length params + n + 7) (12 * length params + w + 112) (λ limit. c.compile-function-with limit type name params (body limit) span)
     unfolding c.compile-function-with
     compile-function-with type name params span up hb n s =
         needs (leb (length params) 255) _ tt

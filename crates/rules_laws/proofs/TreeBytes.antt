@@ -20,7 +20,7 @@ use Rattle.rules.specs.Tree.{Expr, ExprAssign, ExprCall, ExprGet, ExprInfix, Li
 use Rattle.rules.specs.Tree.{ExprLiteral, LitNumber, LitString}
 use Rattle.rules.specs.Tree.{Stmt, Stmts, StmtBlock, StmtClass, StmtExpr, StmtFor, StmtFun, StmtIf, StmtPrint, StmtReturn, StmtVar, StmtWhile, []ˢ, _∷ˢ_}
 use Rattle.rules.specs.Tree.{Fun, fun, []ᵐ, method}
-use Rattle.rules_laws.proofs.Facts.{All, Bytes}
+use Rattle.rules_laws.proofs.Facts.{All, Bytes, getD-small}
 use Rattle.rules_laws.proofs.ReadBack.{Narrow}
 use Rattle.rules_laws.proofs.Refusals.{Readers}
 use Rattle.rules_laws.proofs.Trees.{Leaf, If-some, Of-literal, Of-expr, Of-exprs, Of-superclass, Of-stmt, Of-stmts, Of-fun, Of-methods}
@@ -95,11 +95,6 @@ module _ (most : ℕ) where
   -- a value of which `P` holds, from `size` bytes
   abbrev Taken : {A : Type 0} → (A → Type 0) → (size at : ℕ) → A → ℕ → Type 0
   Taken P size at a next = P a × (next ≡ at + size)
-
-  getD-small : (bs : List ℕ) (at : ℕ) → Bytes bs → getD bs at 0 < 256
-  getD-small [] at h = omega arith
-  getD-small (b ∷ bs) zero h = h .0
-  getD-small (b ∷ bs) (suc at) h = getD-small bs at (h .1)
 
   -- a reader of children, at every place
   abbrev Reads : {A : Type 0} → Reader A → (A → Type 0) → (A → ℕ) → Type 0

@@ -289,7 +289,7 @@ module _ (limit top : ℕ) where
     spends.need Fit Compilers top more _ _ tt
     update _ (λ x h. record { named = h .named; few = h .few; constants = h .constants; runs = h .runs })
 
-  laws : (most : ℕ) → Laws (fitting most) limit limit (λ A g h n w m m′. Does {A = A} g h n m)
+  laws : (most : ℕ) → Laws (fitting most) (λ A g h n w m. Does {A = A} g h n (m limit))
   unfolding c.define-local c.begin-scope c.push-class-ctx c.pop-class-ctx
   laws most =
       record {
@@ -334,7 +334,7 @@ module _ (limit funs : ℕ) (stmts : Stmts) (o : Of-stmts (fitting funs) stmts f
   compiled : Ends Fit Compilers top funs (0 + top) (c.compile-script limit stmts c.new)
   unfolding top
   compiled =
-      (steps.compile-script (fitting funs) limit limit (λ A g h n w m m′. Does limit top {A = A} g h n m)
+      (steps.compile-script (fitting funs) (λ A g h n w m. Does limit top {A = A} g h n (m limit))
       (laws limit top funs) stmts funs o) .run c.new 0 (omega arith)
       (record {
         ctx =

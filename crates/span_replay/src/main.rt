@@ -26,7 +26,7 @@ fn fill(words: &mut [u32]) {
 }
 
 fn fold_answer(sum: u64, words: &[u32], offset: usize) -> u64 {
-    let a = c_entry::puffbramble_span_of(words, offset);
+    let a = spans::span_of_words(words, offset);
     vectors::fold(vectors::fold(vectors::fold(sum, a.number), a.at), a.end)
 }
 

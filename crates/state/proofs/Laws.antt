@@ -15,7 +15,7 @@ use mathlib.Core.Option.{none as nothing}
 use Rattle.rules.specs.Base.{if_then_else_, position, one-on}
 use Rattle.rules.specs.Chunk.{Chunk, Run, Constant}
 use Rattle.rules.specs.Compiler.{Local, Upvalue, at-slot, uninitialized, find-local, capture}
-use Rattle.state.specs.Layout.{levels, deepest, row, stack, vec, pile, localOf, upvalueOf, constantOf, type-of, runAt, localsOf, upvaluesOf, constantsOf, codeFrom, runsFrom, chunkAt, ctxAt, parentsOf, Wf, upvalues-place, upvalue-count-place, constants-place, constant-count-place, depth-place, code-from-place, runs-from-place, name-place, arity-place, type-place, level-words, local-count-place}
+use Rattle.state.specs.Layout.{levels, deepest, row, stack, vec, pile, localOf, upvalueOf, constantOf, type-of, runAt, localsOf, upvaluesOf, constantsOf, codeFrom, runsFrom, chunkAt, ctxAt, parentsOf, Wf, upvalues-place, upvalue-count-place, constants-place, constant-count-place, depth-place, code-from-place, runs-from-place, name-place, arity-place, type-place, level-words, local-count-place, level-used}
 use Rattle.state.specs.Contracts.{Kept}
 
 pub lt-or-le : (a b : ℕ) → (a < b) ⊎ (b ≤ a)
@@ -327,7 +327,7 @@ module _ (t code spans t′ code′ spans′ : List ℕ) (l : ℕ) where
       λ i. record { name = n i; arity = a i; type = type-of (y i); chunk = c i; locals = ls i; upvalues = us i; scope-depth = d i }
 
   -- a context is the same where its words, its code and its runs are
-  pub ctx-same : (ce re : ℕ) → Wf t → l < levels → ((o : ℕ) → o < 777 → getD t′ (l * level-words + o) 0 ≡ getD t (l * level-words + o) 0)
+  pub ctx-same : (ce re : ℕ) → Wf t → l < levels → ((o : ℕ) → o < level-used → getD t′ (l * level-words + o) 0 ≡ getD t (l * level-words + o) 0)
       → ((i : ℕ) → i < ce → getD code′ i 0 ≡ getD code i 0) → ((i : ℕ) → i < re * 3 → getD spans′ i 0 ≡ getD spans i 0) → ctxAt t′ code′ spans′ l ce re ≡ ctxAt t code spans l ce re
   unfolding ctxAt
   ctx-same ce re wf low same sc ss =
@@ -339,7 +339,7 @@ module _ (t code spans t′ code′ spans′ : List ℕ) (l : ℕ) where
 
 -- the contexts around level l, after a change above them
 pub parents-same : (t code spans t′ code′ spans′ : List ℕ) (l : ℕ) → Wf t → l < levels
-    → ((k o : ℕ) → k < l → o < 777 → getD t′ (k * level-words + o) 0 ≡ getD t (k * level-words + o) 0) → codeFrom t′ l ≡ codeFrom t l → runsFrom t′ l ≡ runsFrom t l
+    → ((k o : ℕ) → k < l → o < level-used → getD t′ (k * level-words + o) 0 ≡ getD t (k * level-words + o) 0) → codeFrom t′ l ≡ codeFrom t l → runsFrom t′ l ≡ runsFrom t l
     → ((k : ℕ) → k < l → codeFrom t k ≤ codeFrom t (suc k)) → ((k : ℕ) → k < l → runsFrom t k ≤ runsFrom t (suc k))
     → ((i : ℕ) → i < codeFrom t l → getD code′ i 0 ≡ getD code i 0) → ((i : ℕ) → i < runsFrom t l * 3 → getD spans′ i 0 ≡ getD spans i 0)
     → parentsOf t′ code′ spans′ l ≡ parentsOf t code spans l
@@ -354,7 +354,7 @@ parents-same t code spans t′ code′ spans′ (suc l) wf low same f g oc or sc
 
 -- the same where code and runs stay: no order is needed
 pub parents-named : (t t′ : List ℕ) (l : ℕ) → Wf t → l < levels
-    → ((k o : ℕ) → k < l → o < 777 → getD t′ (k * level-words + o) 0 ≡ getD t (k * level-words + o) 0) → codeFrom t′ l ≡ codeFrom t l → runsFrom t′ l ≡ runsFrom t l
+    → ((k o : ℕ) → k < l → o < level-used → getD t′ (k * level-words + o) 0 ≡ getD t (k * level-words + o) 0) → codeFrom t′ l ≡ codeFrom t l → runsFrom t′ l ≡ runsFrom t l
     → (code spans : List ℕ) → parentsOf t′ code spans l ≡ parentsOf t code spans l
 unfolding parentsOf
 parents-named t t′ zero wf low same f g code spans = refl

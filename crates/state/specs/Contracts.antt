@@ -78,14 +78,16 @@ up-of span nm up.Full ctx parents = failed (TooManyUpvalues span)
 
 -- whatever the code is, and what is around
 pub record Added (t t′ : List ℕ) (l : ℕ) (u : Upvalue) (r : Up) : Type 0 where
-  pub does : (span : Span) (nm : ℕ) (code spans : List ℕ) (ce re : ℕ) (above : List CompilerCtx) → up-of span nm r (ctxAt t′ code spans l ce re) above ≡ add-upvalue u span (ctxAt t code spans l ce re) above
+  pub does : (span : Span) (nm : ℕ) (code spans : List ℕ) (ce re : ℕ) (above : List CompilerCtx) → up-of span nm r (ctxAt t′ code spans l ce re) above ≡
+      add-upvalue u span (ctxAt t code spans l ce re) above
   pub some : r ≡ up.Nothing → ⊥
   pub kept : Kept (l * level-words + upvalues-place) (l * level-words + constants-place) t t′
   pub wf : Wf t′
 
 -- of the level and those around it only locals' marks and upvalues change
 pub record Captured (t t′ : List ℕ) (l nm : ℕ) (r : Up) : Type 0 where
-  pub does : (span : Span) (code spans : List ℕ) (ce re : ℕ) → up-of span nm r (ctxAt t′ code spans l ce re) (parentsOf t′ code spans l) ≡ resolve-upvalue nm span (ctxAt t code spans l ce re) (parentsOf t code spans l)
+  pub does : (span : Span) (code spans : List ℕ) (ce re : ℕ) → up-of span nm r (ctxAt t′ code spans l ce re) (parentsOf t′ code spans l) ≡ resolve-upvalue nm
+      span (ctxAt t code spans l ce re) (parentsOf t code spans l)
   pub quiet : r ≡ up.Nothing → t′ ≡ t
   pub kept : Kept 0 (l * level-words + constants-place) t t′
   pub rest : (k i : ℕ) → k ≤ l → constants-place ≤ i → i < level-words → getD t′ (k * level-words + i) 0 ≡ getD t (k * level-words + i) 0

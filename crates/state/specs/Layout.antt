@@ -60,6 +60,10 @@ arity-place = 775
 abbrev pub type-place : ℕ
 type-place = 776
 
+-- the words of a level that have a meaning
+abbrev pub level-used : ℕ
+level-used = type-place + 1
+
 -- the words after the levels: the end of the code, the end of the runs, and from there on the image writer's
 abbrev pub code-end-at : ℕ
 code-end-at = levels * level-words

@@ -16,6 +16,7 @@ use Rattle.state.specs.Layout.{levels, constantOf, constantsOf, chunkAt, Wf, co
 use Rattle.state.specs.Contracts.{Kept, First, Constants}
 use Rattle.state.specs.declared.Constanted.the-variants as constanted
 use Rattle.state.proofs.Laws.{length-row, position-at, position-none, push-vec, kept-set, kept-same, kept-then, if-true, if-false, lt-or-le, chunk-paths, wf-count, wf-plain}
+use Rattle.state.proofs.Words as words
 
 same-self : (c : Constant) → same-constant c c ≡ true
 unfolding same-constant
@@ -23,30 +24,20 @@ same-self (CN a) = eq-eqb a a refl
 same-self (CS a) = eq-eqb a a refl
 same-self (CF a) = eq-eqb a a refl
 
--- what kind of constant a word is
-pub read-number : (w : ℕ) → w < 2 ^ 63 → constantOf w ≡ CN w
-read-number w h = if-true _ _ _ (lt-ltb _ _ h)
-
-read-string : (w : ℕ) → 2 ^ 63 ≤ w → w < 2 ^ 63 + 2 ^ 32 → constantOf w ≡ CS (w - 2 ^ 63)
-read-string w h g = if-false _ _ _ (le-ltb _ _ h) ∙ if-true _ _ _ (lt-ltb _ _ g)
-
-read-function : (w : ℕ) → 2 ^ 63 + 2 ^ 32 ≤ w → constantOf w ≡ CF (w - (2 ^ 63 + 2 ^ 32))
-read-function w h = let g : 2 ^ 63 ≤ w = omega arith in if-false (ltb w (2 ^ 63)) _ _ (le-ltb _ _ g) ∙ if-false _ _ _ (le-ltb _ _ h)
-
 -- a name's word, and a function's
 pub name-word : (name : ℕ) → name < 2 ^ 32 → constantOf (2 ^ 63 + name) ≡ CS name
-name-word name h = read-string (2 ^ 63 + name) (omega arith) (omega arith) ∙ ap CS (omega arith)
+name-word name h = words.string-word (2 ^ 63 + name) (omega arith) (omega arith) ∙ ap CS (omega arith)
 
 pub function-word : (number : ℕ) → constantOf (2 ^ 63 + 2 ^ 32 + number) ≡ CF number
-function-word number = read-function (2 ^ 63 + 2 ^ 32 + number) (omega arith) ∙ ap CF (omega arith)
+function-word number = words.function-word (2 ^ 63 + 2 ^ 32 + number) (omega arith) ∙ ap CF (omega arith)
 
 -- a word is one of three, for any statement about it
 by-kind : (P : Constant → Type 0) (w : ℕ) → (w < 2 ^ 63 → P (CN w)) → (2 ^ 63 ≤ w → w < 2 ^ 63 + 2 ^ 32 → P (CS (w - 2 ^ 63))) →
     (2 ^ 63 + 2 ^ 32 ≤ w → P (CF (w - (2 ^ 63 + 2 ^ 32)))) → P (constantOf w)
 by-kind P w a b c =
-    ⊎-elim (λ (h : w < 2 ^ 63). subst P (sym (read-number w h)) (a h))
-    (λ (h : 2 ^ 63 ≤ w). ⊎-elim (λ (g : w < 2 ^ 63 + 2 ^ 32). subst P (sym (read-string w h g)) (b h g))
-    (λ (g : 2 ^ 63 + 2 ^ 32 ≤ w). subst P (sym (read-function w g)) (c g)) (lt-or-le w (2 ^ 63 + 2 ^ 32)))
+    ⊎-elim (λ (h : w < 2 ^ 63). subst P (sym (words.number-word w h)) (a h))
+    (λ (h : 2 ^ 63 ≤ w). ⊎-elim (λ (g : w < 2 ^ 63 + 2 ^ 32). subst P (sym (words.string-word w h g)) (b h g))
+    (λ (g : 2 ^ 63 + 2 ^ 32 ≤ w). subst P (sym (words.function-word w g)) (c g)) (lt-or-le w (2 ^ 63 + 2 ^ 32)))
     (lt-or-le w (2 ^ 63))
 
 -- two words of one constant are one word

@@ -14,6 +14,7 @@ use Rattle.state.specs.Layout.{levels, code-end-at, runs-end-at, image-at, row,
 use Rattle.state.specs.Contracts.{Kept, grows, last-grows, top-chunk, Wrote}
 use Rattle.state.specs.declared.Emitted.the-variants as emitted
 use Rattle.state.proofs.Laws.{row-cong, row-snoc, run-same, kept-set, kept-same, kept-off, kept-then, if-true, if-false, constants-same, chunk-paths, wf-plain}
+use Rattle.state.proofs.Words.{and-left, and-right}
 
 -- ## The last run
 
@@ -35,14 +36,6 @@ push-grow xs r span g = push-last xs r span ∙ ap (λ (l : List Run). xs ++ l) 
 push-fresh : (xs : List Run) (r : Run) (span : Span) → grows span r ≡ false → push-span (xs ++ (r ∷ [])) span ≡ (xs ++ (r ∷ [])) ++ (record { span = span; count = 1 } ∷ [])
 unfolding push-span
 push-fresh xs r span g = push-last xs r span ∙ ap (λ (l : List Run). xs ++ l) (if-false _ _ _ g) ∙ two-more xs r _
-
-and-left : (x y : Bool) → (x && y) ≡ true → x ≡ true
-and-left true y h = refl
-and-left false y h = h
-
-and-right : (x y : Bool) → (x && y) ≡ true → y ≡ true
-and-right true y h = h
-and-right false y h = let z : _≡_ {A = ℕ} 0 1 = cc in absurd (omega arith)
 
 and-not : (x y : Bool) → x ≡ true → (x && y) ≡ false → y ≡ false
 and-not true y e h = h

@@ -11,6 +11,7 @@ use Rattle.rules.specs.Compiler.{new-ctx}
 use Rattle.state.specs.Layout.{levels, deepest, table-words, code-end-at, runs-end-at, row, stack, localOf, upvalueOf, constantOf, type-of, codeFrom, runsFrom, codeEnd, runsEnd, runAt, chunkAt, ctxAt, parentsOf, Wf, upvalues-place, upvalue-count-place, constants-place, constant-count-place, depth-place, code-from-place, runs-from-place, name-place, arity-place, type-place, level-words, local-count-place}
 use Rattle.state.specs.Contracts.{Kept, Moved, Closed, Began}
 use Rattle.state.proofs.Laws.{kept-set, kept-then, ctx-same, parents-named, wf-count, wf-upvalues, wf-depth, wf-plain}
+use Rattle.state.proofs.Words.{none-row, none-stack}
 
 pub moved : (t : List ℕ) (l depth : ℕ) → l < levels → Wf t → depth ≤ deepest → Moved t (set t (l * level-words + depth-place) depth) l depth
 moved t l depth low wf h = record {
@@ -29,14 +30,6 @@ closed t l low wf =
       wf = wf-plain t₁ levels 1 _ (omega arith) (λ a b. omega arith) (λ z. omega arith) (λ z. omega arith)
           (wf-plain t levels 0 _ (omega arith) (λ a b. omega arith) (λ z. omega arith) (λ z. omega arith) wf);
     }
-
-none-row : {A : Type 0} (f : ℕ → A) (n : ℕ) → n ≡ 0 → row f n ≡ []
-unfolding row
-none-row f n e = ap (row f) e
-
-none-stack : {A : Type 0} (f : ℕ → A) (n : ℕ) → n ≡ 0 → stack f n ≡ []
-unfolding stack
-none-stack f n e = ap (stack f) e
 
 le-of-lt-suc : (j l : ℕ) → j < suc l → j ≤ l
 le-of-lt-suc j l h = omega arith

@@ -11,7 +11,7 @@ use types.Run.{OneOf}
 use denote.Enum.Declared.{tagOf}
 use Rattle.rules.specs.declared.Span.{Span}
 use Rattle.rules.specs.Compiler.{Local, Upvalue, CompilerCtx, with-locals, Found, missing, find-local, capture, Resolved, add-upvalue, through, resolve-upvalue}
-use Rattle.state.specs.Layout.{levels, localsOf, codeFrom, runsFrom, ctxAt, parentsOf, Wf, upvalues-place, constants-place, depth-place, code-from-place, runs-from-place, level-words, local-count-place}
+use Rattle.state.specs.Layout.{levels, localsOf, codeFrom, runsFrom, ctxAt, parentsOf, Wf, upvalues-place, constants-place, depth-place, code-from-place, runs-from-place, level-words, local-count-place, level-used}
 use Rattle.state.specs.Contracts.{Kept, found, Looked, up-of, Added, Captured}
 use Rattle.state.specs.declared.Slot.{Slot}
 use Rattle.state.specs.declared.Slot.the-variants as slot
@@ -22,7 +22,7 @@ use Rattle.state.proofs.Laws.{kept-off, ctx-same, ctx-paths, chunk-same, upvalu
 
 -- a context that a change keeps off, and those around it
 ctx-off : (lo hi : ℕ) (t t′ : List ℕ) (k : ℕ) → Kept lo hi t t′ → Wf t → k < levels →
-    ((o : ℕ) → o < 777 → lo ≤ k * level-words + o → k * level-words + o < hi → ⊥) → (code spans : List ℕ) (ce re : ℕ) → ctxAt t′ code spans k ce re ≡ ctxAt t code spans k ce re
+    ((o : ℕ) → o < level-used → lo ≤ k * level-words + o → k * level-words + o < hi → ⊥) → (code spans : List ℕ) (ce re : ℕ) → ctxAt t′ code spans k ce re ≡ ctxAt t code spans k ce re
 ctx-off lo hi t t′ k kp wf low off code spans ce re = ctx-same t code spans t′ code spans k ce re wf low (λ o h. kept-off lo hi t t′ _ kp (λ x y. off o h x y)) (λ i h. refl) (λ i h. refl)
 
 parents-off : (lo hi : ℕ) (t t′ : List ℕ) (k : ℕ) → Kept lo hi t t′ → Wf t → k < levels → k * level-words ≤ lo →
@@ -78,7 +78,7 @@ module _ (t t₁ : List ℕ) (k nm : ℕ) (low : suc k < levels) (wf : Wf t) whe
     outer-kept : (code spans : List ℕ) → parentsOf t₁ code spans k ≡ parentsOf t code spans k
     outer-kept = parents-off _ _ t t₁ k (res .kept) wf (omega arith) (omega arith) (λ o a b x y. omega arith)
 
-    from-kept : (o : ℕ) → o < 777 → getD t₁ (suc k * level-words + o) 0 ≡ getD t (suc k * level-words + o) 0
+    from-kept : (o : ℕ) → o < level-used → getD t₁ (suc k * level-words + o) 0 ≡ getD t (suc k * level-words + o) 0
     from-kept o h = res .kept .above _ (omega arith)
 
   -- the contexts around, after an upvalue is added above them

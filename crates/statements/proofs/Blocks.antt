@@ -5,7 +5,6 @@ use Prim.Native.Nat.{ℕ, _+_, _-_, _*_, _≤_, _<_}
 use native.Mathlib.Omega.{arith}
 use lib.ListN.{length, getD}
 use Rattle.rules.specs.declared.Span.{Span}
-use Rattle.rules.specs.declared.Refusal.{Refusal}
 use Rattle.rules.specs.Compiler.{begin-scope, end-scope}
 use Rattle.fields.specs.Words.{word16, letters, span-of}
 use Rattle.tree_laws.proofs.Statements.{block-at}
@@ -19,6 +18,7 @@ use Rattle.statements.specs.Walk.{StmtThere, StmtDone}
 use Rattle.statements.proofs.Walks.{RowIn, row-start, row-stop, row-done, done-of}
 use Rattle.state.specs.Layout.{depth-place, level-words}
 use Rattle.fields.specs.Marks as marks
+use Rattle.steps.specs.declared.Why.{Why}
 
 further : (at : ℕ) → at < at + 12
 further at = omega arith
@@ -42,7 +42,7 @@ module _ {tree : List ℕ} {l at limit : ℕ} {before : Mem} (p : StmtThere tree
 
     module _ {span : Span} (sp : span ≡ span-of tree (at + 2)) {t1 code1 spans1 out out1 : List ℕ} {next more : ℕ}
         (w : RowIn class limit l tree at (word16 tree (at + 10)) (at + 12) m0 out (mem t1 code1 spans1) out1 next more) where
-      pub stop : 0 < more → {m2 : Mem} {out2 : List ℕ} {a : Step} → StmtDone class limit l tree next (mem t1 code1 spans1) out1 m2 out2 a → {x : Refusal} → a ≡ Stop x
+      pub stop : 0 < more → {m2 : Mem} {out2 : List ℕ} {a : Step} → StmtDone class limit l tree next (mem t1 code1 spans1) out1 m2 out2 a → {x : Why} → a ≡ Stop x
           → StmtDone class limit l tree at before out m2 out2 a
       stop h b q = done-of p (ways.block-stop tree l at (p .left) mark sp o (row-stop (w .row) h b q .at-depth (p .left - 1)) q)
 

@@ -7,14 +7,13 @@ use Prim.Native.Nat.{ℕ, _+_, _-_, _*_, _%_, _≤_, _<_}
 use native.Mathlib.Omega.{arith}
 use lib.ListN.{length, getD}
 use Rattle.rules.specs.declared.Span.{Span}
-use Rattle.rules.specs.declared.Refusal.{Refusal}
 use Rattle.rules.specs.Compiler.{begin-scope, end-scope, compile-stmts}
 use Rattle.fields.specs.Words.{word8, word16, letters, span-of}
 use Rattle.tree_laws.proofs.Statements.{for-at}
 use Rattle.steps.specs.View.{Mem, mem, Fit, code-len, steady, deeper, shallower, Gave, Did, Measured}
 use Rattle.steps.specs.declared.Step.{Step}
 use Rattle.steps.specs.declared.Step.the-variants.{Next, Stop}
-use Rattle.expr_parts.specs.Exprs.{There}
+use Rattle.expr_laws.specs.Exprs.{There}
 use Rattle.stmt_output_laws.specs.Output.{funs-left, stmts-at, Walked, Ready}
 use Rattle.stmt_jumps.specs.Jumps.{close-loop}
 use Rattle.stmt_loops.specs.Loops.{cond-at, incr-at, place-of, CondThere, IncrThere, Conditioned, Incremented}
@@ -27,6 +26,7 @@ use Rattle.statements.proofs.Ones as ones
 use Rattle.statements.proofs.Walks.{Child, child-of, done-of}
 use Rattle.state.specs.Layout.{depth-place, level-words}
 use Rattle.fields.specs.Marks as marks
+use Rattle.steps.specs.declared.Why.{Why}
 
 -- the flag is a number of statements
 none-of : {k j : ℕ} → k ≡ j → (k % 2 ≡ 1 → ⊥) → 0 ≡ j % 2
@@ -72,7 +72,7 @@ module _ {tree : List ℕ} {l at limit : ℕ} {before : Mem} (p : StmtThere tree
       init s = child-of p s (further at) (ones.one-there tree l (at + 11) (p .left - 1) init-ready init-there) init-ready
 
       module _ {m1 : Mem} {out out1 : List ℕ} {ra : Step} (b : StmtDone class limit l tree (at + 11) m0 out m1 out1 ra) where
-        pub stop : {span : Span} → span ≡ span-of tree (at + 2) → {x : Refusal} → ra ≡ Stop x → StmtDone class limit l tree at before out m1 out1 ra
+        pub stop : {span : Span} → span ≡ span-of tree (at + 2) → {x : Why} → ra ≡ Stop x → StmtDone class limit l tree at before out m1 out1 ra
         stop {span} sp q = done-of p
             (ways.for-stop tree l at (p .left) mark span o
             (calls.walked-as tree (p .left - 1) l (at + 11) (one-of ep z) (ones.one-stop tree l (at + 11) (p .left - 1) init-ready (b .at-depth (p .left - 1)) q)) sp q)
@@ -91,7 +91,7 @@ module _ {tree : List ℕ} {l at limit : ℕ} {before : Mem} (p : StmtThere tree
         tested : Conditioned class limit l (cond-at tree (word8 tree (at + 10)) (p .left - 1) n1) span (mem t1 code1 spans1) m2 b
         tested = calls.conditioned-as tree (p .left - 1) n1 ep (c (p .left - 1))
 
-        pub stop-2 : {x : Refusal} → b .step ≡ Stop x → StmtDone class limit l tree at before out m2 out1 (b .step)
+        pub stop-2 : {x : Why} → b .step ≡ Stop x → StmtDone class limit l tree at before out m2 out1 (b .step)
         stop-2 q = done-of p (ways.for-stop-2 tree l at (p .left) mark span o w refl fit (k .says class code1 spans1) tested sp q)
 
         module _ {n2 : ℕ} (qb : b .step ≡ Next n2) where
@@ -102,7 +102,7 @@ module _ {tree : List ℕ} {l at limit : ℕ} {before : Mem} (p : StmtThere tree
               (ways.for-ready tree l at (p .left) mark span o w refl fit (k .says class code1 spans1) tested qb (p .there) (calls.room tree (p .left) l at (p .there)) (p .ready))
 
           module _ {m3 : Mem} {out3 : List ℕ} {rd : Step} (d : StmtDone class limit l tree n2 m2 out1 m3 out3 rd) where
-            pub stop-3 : {x : Refusal} → rd ≡ Stop x → StmtDone class limit l tree at before out m3 out3 rd
+            pub stop-3 : {x : Why} → rd ≡ Stop x → StmtDone class limit l tree at before out m3 out3 rd
             stop-3 q = done-of p (ways.for-stop-3 tree l at (p .left) mark span o w refl fit (k .says class code1 spans1) tested qb (d .at-depth (p .left - 1)) sp q)
 
             module _ {n3 : ℕ} (qd : rd ≡ Next n3) where
@@ -120,7 +120,7 @@ module _ {tree : List ℕ} {l at limit : ℕ} {before : Mem} (p : StmtThere tree
                 moved : Incremented class limit l (incr-at tree (word8 tree (at + 10)) (p .left - 1) n3) span m3 m4 re
                 moved = calls.incremented-as tree (p .left - 1) n3 ep (e (p .left - 1))
 
-                pub stop-4 : {x : Refusal} → re ≡ Stop x → StmtDone class limit l tree at before out m4 out3 re
+                pub stop-4 : {x : Why} → re ≡ Stop x → StmtDone class limit l tree at before out m4 out3 re
                 stop-4 q = done-of p (ways.for-stop-4 tree l at (p .left) mark span o w refl fit (k .says class code1 spans1) tested qb (d .at-depth (p .left - 1)) qd moved sp q)
 
                 module _ {n4 : ℕ} (qe : re ≡ Next n4) where
@@ -133,7 +133,7 @@ module _ {tree : List ℕ} {l at limit : ℕ} {before : Mem} (p : StmtThere tree
 
                   module _ {t5 code5 spans5 : List ℕ} {rf : Step}
                       (f : (class : ℕ) → Did class limit l n4 steady (close-loop limit start (place-of (b .some) (b .place)) span) m4 (mem t5 code5 spans5) rf) where
-                    pub stop-5 : {x : Refusal} → rf ≡ Stop x → StmtDone class limit l tree at before out (mem t5 code5 spans5) out3 rf
+                    pub stop-5 : {x : Why} → rf ≡ Stop x → StmtDone class limit l tree at before out (mem t5 code5 spans5) out3 rf
                     stop-5 q = done-of p (ways.for-stop-5 tree l at (p .left) mark span o w refl fit (k .says class code1 spans1) tested qb (d .at-depth (p .left - 1)) qd moved qe (f class) sp q)
 
                     module _ {v : ℕ} (qf : rf ≡ Next v) where

@@ -6,7 +6,6 @@ use native.Mathlib.Omega.{arith}
 use lib.ListN.{length, getD}
 use Rattle.rules.specs.Limits.{max-tree, max-code}
 use Rattle.rules.specs.declared.Span.{Span}
-use Rattle.rules.specs.declared.Refusal.{Refusal}
 use Rattle.rules.specs.Compiler.{define-name, compile-stmts}
 use Rattle.fields.specs.Words.{word16, letters, span-of}
 use Rattle.state.specs.Layout.{levels, deepest, image-at, Wf, depth-place, level-words}
@@ -20,6 +19,7 @@ use Rattle.stmt_laws.proofs.Functions as ways
 use Rattle.statements.specs.Walk.{StmtThere, StmtDone, FunThere, FunDone}
 use Rattle.statements.proofs.Walks.{Child, RowIn, row-start, row-stop, row-done, in-fun, done-of, any-fun, to-fun}
 use Rattle.fields.specs.Marks as marks
+use Rattle.steps.specs.declared.Why.{Why}
 
 -- ## The function
 
@@ -37,7 +37,7 @@ module _ {tree : List ℕ} {l at limit : ℕ} {t0 code0 spans0 : List ℕ} (p : 
   head kind span = (ways.function-head tree l at (p .left) kind span (p .there), p .room, p .ready .fit .wf, calls.scope-room t0 code0 spans0 l (p .left + 1) (calls.some-room (p .left)) (p .ready))
 
   module _ {kind : ℕ} {span : Span} {t1 : List ℕ} {ra : Step} (a : FunctionOpened l kind tree at span t0 t1 ra) where
-    pub stop : {class : ℕ} (out : List ℕ) {x : Refusal} → ra ≡ Stop x → FunDone class limit l kind span tree at (mem t0 code0 spans0) out (mem t1 code0 spans0) out ra
+    pub stop : {class : ℕ} (out : List ℕ) {x : Why} → ra ≡ Stop x → FunDone class limit l kind span tree at (mem t0 code0 spans0) out (mem t1 code0 spans0) out ra
     stop out q = any-fun tree l at (p .left) kind span (p .there) (ways.function-stop tree l at (p .left) kind span a code0 spans0 out q)
 
     module _ {first : ℕ} (qa : ra ≡ Next first) where
@@ -66,7 +66,7 @@ module _ {tree : List ℕ} {l at limit : ℕ} {t0 code0 spans0 : List ℕ} (p : 
         pub child : {t : ℕ} → 0 < more → 2 * (length tree - at) ≡ t → Child tree (mem t2 code2 spans2) next (l + 1) limit t
         child h e = in-fun w h (within at (first + 2) (length tree) behind bound) e
 
-        pub stop-2 : 0 < more → {m3 : Mem} {out3 : List ℕ} {b : Step} → StmtDone class limit (l + 1) tree next (mem t2 code2 spans2) out2 m3 out3 b → {x : Refusal} → b ≡ Stop x
+        pub stop-2 : 0 < more → {m3 : Mem} {out3 : List ℕ} {b : Step} → StmtDone class limit (l + 1) tree next (mem t2 code2 spans2) out2 m3 out3 b → {x : Why} → b ≡ Stop x
             → FunDone class limit l kind span tree at (mem t0 code0 spans0) out m3 out3 b
         stop-2 h b q = any-fun tree l at (p .left) kind span (p .there)
             (ways.function-stop-2 tree l at (p .left) kind span a qa (calls.walked-higher tree (p .left) l (first + 2) refl (row-stop (w .row) h b q .at-depth (p .left))) low q)
@@ -107,7 +107,7 @@ module _ {tree : List ℕ} {l at limit : ℕ} {before : Mem} (p : StmtThere tree
   )
 
   module _ {span : Span} (sp : span ≡ span-of tree (at + 2)) {class : ℕ} {m1 : Mem} {out out1 : List ℕ} {ra : Step} (a : FunDone class limit l 1 span tree at before out m1 out1 ra) where
-    pub fun-stop : {x : Refusal} → ra ≡ Stop x → StmtDone class limit l tree at before out m1 out1 ra
+    pub fun-stop : {x : Why} → ra ≡ Stop x → StmtDone class limit l tree at before out m1 out1 ra
     fun-stop q = done-of p (ways.fun-stop tree l at (p .left) mark span sp (a .at-depth (p .left - 1)) q)
 
     pub fun-fit : {n : ℕ} → ra ≡ Next n → Fit m1 l limit

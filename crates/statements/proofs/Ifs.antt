@@ -6,14 +6,13 @@ use mathlib.Core.Logic.{⊎-elim}
 use Prim.Native.Nat.{ℕ, _+_, _-_, _*_, _≤_}
 use lib.ListN.{length}
 use Rattle.rules.specs.declared.Span.{Span}
-use Rattle.rules.specs.declared.Refusal.{Refusal}
 use Rattle.rules.specs.Compiler.{patch-jump, compile-stmts}
 use Rattle.fields.specs.Words.{word8, word16, letters, span-of}
 use Rattle.tree_laws.proofs.Statements.{if-at, flag-is}
 use Rattle.steps.specs.View.{Mem, Fit, code-len, steady, Did, Opened}
 use Rattle.steps.specs.declared.Step.{Step}
 use Rattle.steps.specs.declared.Step.the-variants.{Next, Stop}
-use Rattle.expr_parts.specs.Exprs.{There, Somewhere, expr-at, Ran}
+use Rattle.expr_laws.specs.Exprs.{There, Somewhere, expr-at, Ran}
 use Rattle.stmt_jumps.specs.Jumps.{open-jump, turn-jump}
 use Rattle.stmt_output_laws.specs.Output.{funs-left, stmts-at, Walked, Ready}
 use Rattle.stmt_laws.proofs.Calls as calls
@@ -22,6 +21,7 @@ use Rattle.statements.specs.Walk.{StmtThere, StmtDone}
 use Rattle.statements.proofs.Ones as ones
 use Rattle.statements.proofs.Walks.{Child, child-of, done-of}
 use Rattle.fields.specs.Marks as marks
+use Rattle.steps.specs.declared.Why.{Why}
 
 module _ {tree : List ℕ} {l at limit : ℕ} {before : Mem} (p : StmtThere tree before at l limit) (mark : letters tree at ≡ marks.SI) where
   pub bound : at + 11 ≤ length tree
@@ -35,14 +35,14 @@ module _ {tree : List ℕ} {l at limit : ℕ} {before : Mem} (p : StmtThere tree
   one-of e z = ⊎-elim (λ q. absurd (z (e ∙ q))) sym (flag-is _ (if-at tree (word16 tree 2) (p .left) (funs-left l) at mark (p .there .is) .look))
 
   module _ {span : Span} (sp : span ≡ span-of tree (at + 2)) {class : ℕ} {m1 : Mem} {ra : Step} (a : (d : ℕ) → Ran class limit l (expr-at tree d (at + 11)) before m1 ra) where
-    pub stop : (out : List ℕ) {x : Refusal} → ra ≡ Stop x → StmtDone class limit l tree at before out m1 out ra
+    pub stop : (out : List ℕ) {x : Why} → ra ≡ Stop x → StmtDone class limit l tree at before out m1 out ra
     stop out q = done-of p (ways.if-stop tree l at (p .left) mark span (a (p .left - 1)) sp out q)
 
     pub fit : {n1 : ℕ} → ra ≡ Next n1 → Fit m1 l limit
     fit q = ways.if-fit tree l at (p .left) mark span (a (p .left - 1)) (p .there) q
 
     module _ {n1 : ℕ} (qa : ra ≡ Next n1) {m2 : Mem} {rb : Step} (b : (class : ℕ) → Opened class limit l steady (open-jump limit span) m1 m2 rb) where
-      pub stop-2 : (out : List ℕ) {x : Refusal} → rb ≡ Stop x → StmtDone class limit l tree at before out m2 out rb
+      pub stop-2 : (out : List ℕ) {x : Why} → rb ≡ Stop x → StmtDone class limit l tree at before out m2 out rb
       stop-2 out q = done-of p (ways.if-stop-2 tree l at (p .left) mark span (a (p .left - 1)) qa (b class) sp out q)
 
       module _ {j : ℕ} (qb : rb ≡ Next j) where
@@ -52,7 +52,7 @@ module _ {tree : List ℕ} {l at limit : ℕ} {before : Mem} (p : StmtThere tree
             (ways.if-yes-ready tree l at (p .left) mark span (a (p .left - 1)) qa (b class) qb (p .there) (p .ready))
 
         module _ {m3 : Mem} {out out3 : List ℕ} {rd : Step} (d : StmtDone class limit l tree n1 m2 out m3 out3 rd) where
-          pub stop-3 : {x : Refusal} → rd ≡ Stop x → StmtDone class limit l tree at before out m3 out3 rd
+          pub stop-3 : {x : Why} → rd ≡ Stop x → StmtDone class limit l tree at before out m3 out3 rd
           stop-3 q = done-of p (ways.if-stop-3 tree l at (p .left) mark span (a (p .left - 1)) qa (b class) qb (d .at-depth (p .left - 1)) sp q)
 
           module _ {n2 : ℕ} (qd : rd ≡ Next n2) where
@@ -63,7 +63,7 @@ module _ {tree : List ℕ} {l at limit : ℕ} {before : Mem} (p : StmtThere tree
             )
 
             module _ {m4 : Mem} {re : Step} (e : (class : ℕ) → Opened class limit l steady (turn-jump limit j span) m3 m4 re) where
-              pub stop-4 : {x : Refusal} → re ≡ Stop x → StmtDone class limit l tree at before out m4 out3 re
+              pub stop-4 : {x : Why} → re ≡ Stop x → StmtDone class limit l tree at before out m4 out3 re
               stop-4 q = done-of p (ways.if-stop-4 tree l at (p .left) mark span (a (p .left - 1)) qa (b class) qb (d .at-depth (p .left - 1)) qd (e class) sp q)
 
               module _ {k : ℕ} (qe : re ≡ Next k) where
@@ -107,7 +107,7 @@ module _ {tree : List ℕ} {l at limit : ℕ} {before : Mem} (p : StmtThere tree
                       (ones.one-there tree l n2 (p .left - 1) no-ready row-there) no-ready
 
                   module _ {m5 : Mem} {out5 : List ℕ} {rf : Step} (f : StmtDone class limit l tree n2 m4 out3 m5 out5 rf) where
-                    pub stop-5 : {x : Refusal} → rf ≡ Stop x → StmtDone class limit l tree at before out m5 out5 rf
+                    pub stop-5 : {x : Why} → rf ≡ Stop x → StmtDone class limit l tree at before out m5 out5 rf
                     stop-5 q = done-of p
                         (ways.if-stop-5 tree l at (p .left) mark span (a (p .left - 1)) qa (b class) qb (d .at-depth (p .left - 1)) qd (e class) qe
                         (calls.walked-as tree (p .left - 1) l n2 (one-of eu z) (ones.one-stop tree l n2 (p .left - 1) no-ready (f .at-depth (p .left - 1)) q)) sp q)

@@ -6,7 +6,6 @@ use Prim.Native.Nat.{ℕ, _+_, _-_, _*_, _≤_, _<_}
 use native.Mathlib.Omega.{arith}
 use lib.ListN.{length, getD}
 use Rattle.rules.specs.declared.Span.{Span}
-use Rattle.rules.specs.declared.Refusal.{Refusal}
 use Rattle.rules.specs.Op as op
 use Rattle.rules.specs.Chunk.{CS}
 use Rattle.rules.specs.Compiler.{method-type, emit-op-constant}
@@ -17,17 +16,18 @@ use Rattle.steps.specs.View.{Mem, mem, Fit, steady, Did}
 use Rattle.steps.specs.declared.Step.{Step}
 use Rattle.steps.specs.declared.Step.the-variants.{Next, Stop}
 use Rattle.steps.proofs.Steps.{valued}
-use Rattle.expr_parts.specs.Exprs.{There}
+use Rattle.expr_laws.specs.Exprs.{There}
 use Rattle.stmt_output_laws.specs.Output.{funs-left, stmt-at, method-at, methods-at, Walked}
 use Rattle.stmt_output_laws.specs.Parts.{compile-method}
 use Rattle.stmt_output_laws.proofs.Growing.{reached}
-use Rattle.stmt_classes.specs.Classes.{ClassHead, InnerClass, ClassOpened, ClassClosed}
+use Rattle.stmt_heads.specs.Classes.{ClassHead, InnerClass, ClassOpened, ClassClosed}
 use Rattle.stmt_laws.proofs.Calls as calls
 use Rattle.stmt_laws.proofs.Classes as ways
 use Rattle.stmt_laws.proofs.Functions as functions
 use Rattle.statements.specs.Walk.{StmtThere, StmtDone, FunThere, FunDone}
 use Rattle.statements.proofs.Walks.{any-depth, done-of}
 use Rattle.fields.specs.Marks as marks
+use Rattle.steps.specs.declared.Why.{Why}
 
 -- the methods that are left come to the same, from the areas as they are, as all of them from where the loop began
 pub record Methoding (inner limit l : ℕ) (tree : List ℕ) (at first : ℕ) (before : Mem) (out : List ℕ) (now : Mem) (out′ : List ℕ) (next more : ℕ) : Type 0 where
@@ -49,7 +49,7 @@ module _ {tree : List ℕ} {l at limit : ℕ} {before : Mem} (p : StmtThere tree
 module _ {tree : List ℕ} {l at limit : ℕ} {before : Mem} (p : StmtThere tree before at l limit) (mark : letters tree at ≡ marks.SC) {span : Span} (sp : span ≡ span-of tree (at + 2)) {m1 : Mem}
     {ra : Step}
     (a : (class : ℕ) → ClassOpened class limit l tree at span before m1 ra) where
-  pub stop : {class : ℕ} (out : List ℕ) {x : Refusal} → ra ≡ Stop x → StmtDone class limit l tree at before out m1 out ra
+  pub stop : {class : ℕ} (out : List ℕ) {x : Why} → ra ≡ Stop x → StmtDone class limit l tree at before out m1 out ra
   stop {class} out q = done-of p (ways.class-stop tree l at (p .left) mark span sp (a class) out q)
 
   module _ {first : ℕ} (qa : ra ≡ Next first) where
@@ -96,7 +96,7 @@ module _ {tree : List ℕ} {l at limit : ℕ} {before : Mem} (p : StmtThere tree
         pub method-fit : {n : ℕ} → rb ≡ Next n → Fit m3 l limit
         method-fit q = functions.method-fit tree l next (w .left - 1) of eo kind en ek (b .at-depth (w .left - 1 - 1)) (one h) q
 
-        pub stop-2 : {class : ℕ} → InnerClass tree at inner → {x : Refusal} → rb ≡ Stop x → StmtDone class limit l tree at before out m3 out3 rb
+        pub stop-2 : {class : ℕ} → InnerClass tree at inner → {x : Why} → rb ≡ Stop x → StmtDone class limit l tree at before out m3 out3 rb
         stop-2 {class} i q = any-depth tree l at (w .left) (w .there)
             (ways.class-stop-2 tree l at (w .left) mark span sp (a class) qa inner i (w .row) h (functions.method-stop tree l next (w .left - 1) of eo kind en ek (b .at-depth (w .left - 1 - 1)) q) q)
 
@@ -104,7 +104,7 @@ module _ {tree : List ℕ} {l at limit : ℕ} {before : Mem} (p : StmtThere tree
           method-done : Walked inner limit l next (method-at tree (w .left - 1) l next) (compile-method limit) (mem t2 code2 spans2) out2 m4 out3 rd
           method-done = functions.method-done tree l next (w .left - 1) of eo kind en ek (b .at-depth (w .left - 1 - 1)) qb (d inner)
 
-          pub stop-3 : {class : ℕ} → InnerClass tree at inner → {x : Refusal} → rd ≡ Stop x → StmtDone class limit l tree at before out m4 out3 rd
+          pub stop-3 : {class : ℕ} → InnerClass tree at inner → {x : Why} → rd ≡ Stop x → StmtDone class limit l tree at before out m4 out3 rd
           stop-3 {class} i q = any-depth tree l at (w .left) (w .there) (ways.class-stop-2 tree l at (w .left) mark span sp (a class) qa inner i (w .row) h method-done q)
 
           pub step : {v : ℕ} → rd ≡ Next v → Methoding inner limit l tree at first m1 out m4 out3 n (more - 1)

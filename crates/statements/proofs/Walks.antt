@@ -6,7 +6,6 @@ use Prim.Native.Nat.{ℕ, suc, _+_, _-_, _*_, _≤_, _<_}
 use native.Mathlib.Omega.{arith}
 use lib.ListN.{length}
 use Rattle.rules.specs.declared.Span.{Span}
-use Rattle.rules.specs.declared.Refusal.{Refusal}
 use Rattle.rules.specs.declared.Refusal.the-variants.{TreeForm}
 use Rattle.rules.specs.Compiler.{compile-stmt, compile-stmts, compile-function}
 use Rattle.fields.specs.Words.{word16}
@@ -16,13 +15,14 @@ use Rattle.state.specs.Layout.{type-of}
 use Rattle.steps.specs.View.{Mem}
 use Rattle.steps.specs.declared.Step.{Step}
 use Rattle.steps.specs.declared.Step.the-variants.{Next, Stop}
-use Rattle.expr_parts.specs.Exprs.{There}
+use Rattle.expr_laws.specs.Exprs.{There}
 use Rattle.stmt_output_laws.specs.Output.{funs-left, stmt-at, stmts-at, fun-at, Walked, Ready}
 use Rattle.stmt_output_laws.proofs.Growing.{reached}
-use Rattle.stmt_plain.specs.Plain.{Plainly}
+use Rattle.stmt_plain_laws.specs.Plain.{Plainly}
 use Rattle.stmt_laws.proofs.Calls as calls
 use Rattle.stmt_laws.proofs.Rows as rows
 use Rattle.statements.specs.Walk.{StmtThere, StmtDone, RowThere, RowDone, FunDone}
+use Rattle.steps.specs.declared.Why.{Why}
 
 -- ## What a law says at the depth that something was read at holds at any
 
@@ -92,7 +92,7 @@ module _ {class limit l count from : ℕ} {tree : List ℕ} {before now : Mem} {
   row-done h = any-row tree count l from (w .left) (w .whole) (rows.row-done (w .row) h refl)
 
   module _ {now′ : Mem} {out″ : List ℕ} {a : Step} (h : 0 < more) (b : StmtDone class limit l tree next now out′ now′ out″ a) where
-    pub row-stop : {x : Refusal} → a ≡ Stop x → RowDone class limit l tree count from before out now′ out″ a
+    pub row-stop : {x : Why} → a ≡ Stop x → RowDone class limit l tree count from before out now′ out″ a
     row-stop q = any-row tree count l from (w .left) (w .whole) (rows.row-stop (w .row) (b .at-depth (w .left)) h q)
 
     pub row-step : {v : ℕ} → a ≡ Next v → RowOf class limit l tree count from before out now′ out″ v (more - 1)

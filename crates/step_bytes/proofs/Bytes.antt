@@ -23,6 +23,7 @@ use Rattle.steps.specs.declared.Step.{Step}
 use Rattle.steps.specs.declared.Step.the-variants.{Next, Stop}
 use Rattle.steps.proofs.Steps.{went, ahead-then}
 use Rattle.steps.proofs.Views.{open-is, view-len, still-agrees, ahead-kept, view-chunk}
+use Rattle.steps.specs.Why.{code-full, too-many-constants, refusal-of}
 
 -- ## A byte
 
@@ -91,7 +92,8 @@ module _ (l limit byte : ℕ) (span : Span) (t code spans t′ code′ spans′ 
         };
       }
 
-  pub byte-full : {class : ℕ} → r ≡ emitted.Full → Refused class l (emit-u8 limit byte span) (mem t code spans) CodeFull
+  pub byte-full : {class : ℕ} → r ≡ emitted.Full → Refused class l (emit-u8 limit byte span) (mem t code spans) code-full
+  unfolding refusal-of
   byte-full q = record { refuses = λ rest _. emit-full limit byte span (view (mem t code spans) l rest) (omega (arith, as-full q, open-is t code spans l limit rest (fit .coded))) }
 
 -- a byte more is one more
@@ -177,7 +179,8 @@ module _ (l limit w : ℕ) (span : Span) (t code spans t′ : List ℕ) (r : Con
       now a → Did class limit l n steady (emit-constant limit (constantOf w) span) (mem t code spans) now a
   constant-then i {a = a} q d = record { does = constant-as i a q d }
 
-  pub constant-full : {class : ℕ} → r ≡ constanted.Full → Refused class l (emit-constant limit (constantOf w) span) (mem t code spans) (TooManyConstants span)
+  pub constant-full : {class : ℕ} → r ≡ constanted.Full → Refused class l (emit-constant limit (constantOf w) span) (mem t code spans) (too-many-constants span)
+  unfolding refusal-of
   constant-full q = record {
     refuses = λ rest _. place-is limit span (constantOf w) (view (mem t code spans) l rest) _ (does-as constanted.Full q rest) ∙
         place-full limit span (view (mem t code spans) l rest);

@@ -5,9 +5,9 @@ ghost use Rattle.rules.specs.Chunk.{CS, CF};
 ghost use Rattle.rules.specs.Compiler.{emit-op, emit-op-u8, emit-constant, emit-op-constant, emit-invoke};
 ghost use Rattle.state.specs.Layout.{constantOf};
 ghost use Rattle.steps.specs.View.{mem, Fit, steady, Did};
-use rules::Refusal;
 use rules::Span;
 use steps::Step;
+use steps::Why;
 
 // An instruction with no operand, or a byte of one.
 pub fn emit_op(
@@ -25,7 +25,11 @@ pub fn emit_op(
 {
     let r = state_code::emit_u8(t, code, spans, level, limit, byte, span);
     let state::Emitted::Done = r else {
-        return Step::Stop(Refusal::CodeFull);
+        return Step::Stop(Why {
+            number: Why::CODE_FULL,
+            span: Span { start: 0, end: 0 },
+            name: 0,
+        });
     };
     Step::Next(next)
 }
@@ -67,7 +71,11 @@ pub fn emit_constant(
 {
     let r = state_code::write_constant(t, level, w);
     let state::Constanted::At(place) = r else {
-        return Step::Stop(Refusal::TooManyConstants(span));
+        return Step::Stop(Why {
+            number: Why::TOO_MANY_CONSTANTS,
+            span,
+            name: 0,
+        });
     };
     emit_op(t, code, spans, level, limit, place, span, next)
 }

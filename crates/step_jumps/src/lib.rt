@@ -7,11 +7,11 @@ ghost use Rattle.state.specs.Layout.{levels, table-words, codeFrom, codeEnd};
 ghost use Rattle.steps.specs.View.{mem, Fit, code-len, steady, Did, Opened, Measured};
 use op::Op;
 use rules::Limit;
-use rules::Refusal;
 use rules::Span;
 use state::Table;
 use step_bytes::emit_op;
 use steps::Step;
+use steps::Why;
 
 // Where the innermost function's next byte goes: also where a loop starts.
 pub fn code_length(t: &[u64], level: usize) -> usize
@@ -70,7 +70,11 @@ pub fn patch_jump(
     let end = t[Table::CODE_END] as usize;
     let distance = end - from - 2 - place;
     if Limit::JUMP < distance {
-        return Step::Stop(Refusal::JumpTooLarge(span));
+        return Step::Stop(Why {
+            number: Why::JUMP_TOO_LARGE,
+            span,
+            name: 0,
+        });
     }
     let at = from + place;
     code[at] = (distance % 256) as u8;
@@ -92,35 +96,21 @@ pub fn emit_loop(
     requires { ⌜ (Fit (mem (now t) (now code) (now spans)) level limit) × (start ≤ code-len (mem (now t) (now code) (now spans)) level) ⌝ }
     ensures { λ r. ⌜ ((class : ℕ) → Did class limit level next steady (emit-loop limit start span) (mem (now (t .entry)) (now (code .entry)) (now (spans .entry))) (mem (now (t .exit)) (now (code .exit)) (now (spans .exit))) r) ⌝ }
 {
-    let distance = code_length(&t[..], level) + 3 - start;
-    if Limit::JUMP < distance {
-        return Step::Stop(Refusal::JumpTooLarge(span));
+    let back = code_length(&t[..], level) + 3 - start;
+    if Limit::JUMP < back {
+        return Step::Stop(Why {
+            number: Why::JUMP_TOO_LARGE,
+            span,
+            name: 0,
+        });
     }
     let a = emit_op(t, code, spans, level, limit, Op::LOOP, span, next);
     let Step::Next(_) = a else {
         return a;
     };
-    let b = emit_op(
-        t,
-        code,
-        spans,
-        level,
-        limit,
-        (distance % 256) as u8,
-        span,
-        next,
-    );
+    let b = emit_op(t, code, spans, level, limit, (back % 256) as u8, span, next);
     let Step::Next(_) = b else {
         return b;
     };
-    emit_op(
-        t,
-        code,
-        spans,
-        level,
-        limit,
-        (distance / 256) as u8,
-        span,
-        next,
-    )
+    emit_op(t, code, spans, level, limit, (back / 256) as u8, span, next)
 }

@@ -9,8 +9,7 @@ use lib.Dec.{eqb}
 use borrow.Author.Tests.{ne-eqb}
 use Rattle.rules.specs.Tree.{this}
 use Rattle.rules.specs.declared.Span.{Span}
-use Rattle.rules.specs.declared.Refusal.{Refusal}
-use Rattle.rules.specs.declared.Refusal.the-variants.{AccessInsideInitializer, TooManyUpvalues, ThisOutsideClass}
+use Rattle.rules.specs.declared.Refusal.the-variants.{ThisOutsideClass}
 use Rattle.rules.specs.Compiler.{Compiler, ok, go-on, _>>=_, _>>_, return, refuse, need, get, the, put-ctxs, Found, at-slot, uninitialized, missing, find-local, Resolved, resolve-upvalue, Place, local-at, upvalue-at, global-named, resolved, resolve, get-place, get-variable}
 use Rattle.state.specs.Layout.{levels, code-end-at, runs-end-at, codeEnd, runsEnd, ctxAt, parentsOf, depth-place}
 use Rattle.state.specs.Contracts.{found, Looked, up-of, Captured}
@@ -25,6 +24,8 @@ use Rattle.steps.specs.declared.Step.{Step}
 use Rattle.steps.specs.declared.Step.the-variants.{Next, Stop}
 use Rattle.steps.proofs.Views.{still-agrees, ahead-named}
 use Rattle.steps.proofs.Jumps.{ahead-none}
+use Rattle.steps.specs.declared.Why.{Why}
+use Rattle.steps.specs.Why.{access-inside-initializer, this-outside-class, too-many-upvalues, refusal-of}
 
 resolve-is : (nm : ℕ) (span : Span) (x : Compiler) (f : Found) (u : Resolved) → find-local nm (x .ctx .locals) ≡ f → resolve-upvalue nm span (x .ctx)
     (x .parents) ≡ u → resolve nm span x ≡ resolved f u nm span x
@@ -49,8 +50,8 @@ module _ (l nm : ℕ) (span : Span) (t t₁ : List ℕ) (s : Slot) (res : Looked
         (stays nm span (mem t code spans) (local-at i) fit (λ rest. resolve-is nm span (view (mem t code spans) l rest) (at-slot i) _ (finds (slot.At i) e code spans rest) refl));
   }
 
-  pub at-unready : s ≡ slot.Unready → Placed l nm span t t₁ (Nowhere (AccessInsideInitializer span nm))
-  unfolding resolved refuse
+  pub at-unready : s ≡ slot.Unready → Placed l nm span t t₁ (Nowhere (access-inside-initializer span nm))
+  unfolding resolved refuse refusal-of
   at-unready e = record {
     gives = λ class limit code spans fit. record
         { refuses = λ rest _. resolve-is nm span (view (mem t code spans) l rest) uninitialized _ (finds slot.Unready e code spans rest) refl };
@@ -91,12 +92,12 @@ module _ (l nm : ℕ) (span : Span) (t t₁ : List ℕ) (s : Slot) (res : Looked
           (stays nm span (mem t code spans) global-named fit (λ rest. outer up.Nothing q code spans rest));
     }
 
-    pub at-outer-unready : u ≡ up.Unready → Placed l nm span t t₂ (Nowhere (AccessInsideInitializer span nm))
-    unfolding resolved refuse
+    pub at-outer-unready : u ≡ up.Unready → Placed l nm span t t₂ (Nowhere (access-inside-initializer span nm))
+    unfolding resolved refuse refusal-of
     at-outer-unready q = record { gives = λ class limit code spans fit. record { refuses = λ rest _. outer up.Unready q code spans rest } }
 
-    pub at-full : u ≡ up.Full → Placed l nm span t t₂ (Nowhere (TooManyUpvalues span))
-    unfolding resolved refuse
+    pub at-full : u ≡ up.Full → Placed l nm span t t₂ (Nowhere (too-many-upvalues span))
+    unfolding resolved refuse refusal-of
     at-full q = record { gives = λ class limit code spans fit. record { refuses = λ rest _. outer up.Full q code spans rest } }
 
 -- what is known of a name that was told apart
@@ -113,7 +114,7 @@ module _ (l limit nm : ℕ) (span : Span) (t code spans t′ : List ℕ) (fit : 
   pub is-global-name : (class : ℕ) → r ≡ Global → Gave class limit l steady (resolve nm span) global-named (mem t code spans) (mem t′ code spans)
   is-global-name class q = told class Global q
 
-  pub is-nowhere : (class : ℕ) (x : Refusal) → r ≡ Nowhere x → Refused class l (resolve nm span) (mem t code spans) x
+  pub is-nowhere : (class : ℕ) (x : Why) → r ≡ Nowhere x → Refused class l (resolve nm span) (mem t code spans) x
   is-nowhere class x q = told class (Nowhere x) q
 
 -- ## `this`, which a class must be around
@@ -131,8 +132,8 @@ module _ (limit name : ℕ) (span : Span) (class : ℕ) where
       ap (λ (b : Bool). go-on (need (not b) (ThisOutsideClass span) (view (mem t code spans) l rest)) (λ _. resolve name span >>= λ place. get-place limit place name span))
       (ap (λ (x : Bool). eqb name this && x) (no-class (rest .classes) ∙ ap (λ (k : ℕ). eqb k 0) (h .innermost)) ∙ e)
 
-  pub lost : (eqb name this && eqb class 0) ≡ true → {l : ℕ} (m : Mem) → Refused class l (get-variable limit name span) m (ThisOutsideClass span)
-  unfolding need go-on
+  pub lost : (eqb name this && eqb class 0) ≡ true → {l : ℕ} (m : Mem) → Refused class l (get-variable limit name span) m (this-outside-class span)
+  unfolding need go-on refusal-of
   lost e {l} m = record { refuses = λ rest h. variable-is true e l m rest h }
 
   module _ (e : (eqb name this && eqb class 0) ≡ false) where

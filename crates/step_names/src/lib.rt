@@ -9,7 +9,6 @@ ghost use Rattle.state.specs.Layout.{levels, Wf};
 ghost use Rattle.steps.specs.View.{mem, Fit, steady, Did, Placed};
 use op::Op;
 use rules::Name;
-use rules::Refusal;
 use rules::Span;
 use step_bytes::emit_op_name;
 use step_bytes::emit_op_u8;
@@ -19,6 +18,7 @@ use step_scopes::is_global;
 use steps::Class;
 use steps::Place;
 use steps::Step;
+use steps::Why;
 
 pub fn resolve(t: &mut [u64], level: usize, name: u16, span: Span) -> Place
     requires { ⌜ (level < levels) × (Wf (now t)) ⌝ }
@@ -27,15 +27,27 @@ pub fn resolve(t: &mut [u64], level: usize, name: u16, span: Span) -> Place
     let slot = state_names::resolve_local(t, level, name, false);
     match slot {
         state::Slot::At(i) => return Place::Local(i),
-        state::Slot::Unready => return Place::Nowhere(Refusal::AccessInsideInitializer(span, name)),
+        state::Slot::Unready => return Place::Nowhere(Why {
+            number: Why::ACCESS_INSIDE_INITIALIZER,
+            span,
+            name,
+        }),
         state::Slot::Nothing => {}
     }
     let up = state_names::resolve_upvalue(t, level, name);
     match up {
         state::Up::At(i) => Place::Upvalue(i),
         state::Up::Nothing => Place::Global,
-        state::Up::Unready => Place::Nowhere(Refusal::AccessInsideInitializer(span, name)),
-        state::Up::Full => Place::Nowhere(Refusal::TooManyUpvalues(span)),
+        state::Up::Unready => Place::Nowhere(Why {
+            number: Why::ACCESS_INSIDE_INITIALIZER,
+            span,
+            name,
+        }),
+        state::Up::Full => Place::Nowhere(Why {
+            number: Why::TOO_MANY_UPVALUES,
+            span,
+            name: 0,
+        }),
     }
 }
 
@@ -64,7 +76,11 @@ pub fn get_variable(
     ensures { λ r. ⌜ Did class limit level next steady (get-variable limit name span) (mem (now (t .entry)) (now (code .entry)) (now (spans .entry))) (mem (now (t .exit)) (now (code .exit)) (now (spans .exit))) r ⌝ }
 {
     if lost_this(name, class) {
-        return Step::Stop(Refusal::ThisOutsideClass(span));
+        return Step::Stop(Why {
+            number: Why::THIS_OUTSIDE_CLASS,
+            span,
+            name: 0,
+        });
     }
     let place = resolve(t, level, name, span);
     match place {

@@ -8,7 +8,6 @@ use lib.ListN.{getD}
 use lib.Dec.{eqb}
 use Rattle.rules.specs.Base.{if_then_else_}
 use Rattle.rules.specs.declared.Span.{Span}
-use Rattle.rules.specs.declared.Refusal.{Refusal}
 use Rattle.rules.specs.Compiler.{Upvalue, Compiler, Compile, ok, _>>_, done, return, emit-u8, emit-op, emit-upvalues}
 use Rattle.state.specs.Layout.{levels, code-end-at, row, upvalueOf, upvaluesOf, Wf, upvalues-place, upvalue-count-place, level-words}
 use Rattle.state.proofs.Laws.{row-cong}
@@ -17,6 +16,7 @@ use Rattle.steps.specs.declared.Step.{Step}
 use Rattle.steps.specs.declared.Step.the-variants.{Next, Stop}
 use Rattle.steps.proofs.Steps.{went, stuck, next, stop, ahead-then, seq-ok, seq-err}
 use Rattle.steps.proofs.Jumps.{ahead-none}
+use Rattle.steps.specs.declared.Why.{Why}
 
 bit : (k : ℕ) → k < 2 → k ≡ (if eqb k 1 then 1 else 0)
 bit zero h = refl
@@ -28,7 +28,7 @@ module _ (limit l w : ℕ) (span : Span) (half : w < 512) where
   unfolding emit-upvalues
   pair-is us x = ap (λ (b : ℕ). (emit-u8 limit b span >> (emit-u8 limit (w % 256) span >> emit-upvalues limit us span)) x) (sym (bit (w / 256) (omega arith)))
 
-  pub pair-first : {before now : Mem} {r : Step} {x : Refusal} → ((class : ℕ) → Did class limit l 0 steady (emit-op limit (w / 256) span) before now r) → r ≡
+  pub pair-first : {before now : Mem} {r : Step} {x : Why} → ((class : ℕ) → Did class limit l 0 steady (emit-op limit (w / 256) span) before now r) → r ≡
       Stop x → PairedAt limit l w span before now r
   unfolding emit-op
   pair-first {before} {now} {r} {x} d q = record {
@@ -109,7 +109,7 @@ module _ (limit l : ℕ) (span : Span) (t₀ code₀ spans₀ : List ℕ) (i n :
           ahead = ahead-then (g .ahead) (y .ahead);
         }
 
-    pub going-stop : {class k : ℕ} {x : Refusal} → r ≡ Stop x → Did class limit l k steady (emit-upvalues limit (upvaluesOf t₀ (l + 1)) span) (mem t₀ code₀ spans₀) now r
+    pub going-stop : {class k : ℕ} {x : Why} → r ≡ Stop x → Did class limit l k steady (emit-upvalues limit (upvaluesOf t₀ (l + 1)) span) (mem t₀ code₀ spans₀) now r
     going-stop {class} {k} {x} q =
         let y : PairedAs limit l w span mid now (Stop x) = subst (λ (s : Step). PairedAs limit l w span mid now s) q (p .does) in
         subst (λ (s : Step). Did class limit l k steady (emit-upvalues limit (upvaluesOf t₀ (l + 1)) span) (mem t₀ code₀ spans₀) now s) (sym q)

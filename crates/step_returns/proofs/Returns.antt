@@ -11,7 +11,7 @@ use Rattle.rules.specs.Base.{if_then_else_}
 use Rattle.rules.specs.Answer.{NO-SPAN}
 use Rattle.rules.specs.Op as op
 use Rattle.rules.specs.declared.Span.{Span}
-use Rattle.rules.specs.declared.Refusal.the-variants.{SuperOutsideClass, SuperWithoutSuperclass, ReturnOutsideFunction}
+use Rattle.rules.specs.declared.Refusal.the-variants.{SuperOutsideClass, SuperWithoutSuperclass}
 use Rattle.rules.specs.Compiler.{Compiler, ok, err, go-on, _>>=_, _>>_, done, return, refuse, need, the, innermost-has-super, need-super, ends-in-return, emit-op, emit-op-u8, compile-value, return-value, compile-return, implicit-return}
 use Rattle.state.specs.Layout.{row, type-of, codeFrom, codeEnd, chunkAt, ctxAt, type-place, level-words}
 use Rattle.state.proofs.Laws.{row-snoc}
@@ -20,6 +20,7 @@ use Rattle.steps.specs.declared.Step.{Step}
 use Rattle.steps.specs.declared.Step.the-variants.{Next, Stop}
 use Rattle.steps.proofs.Steps.{next, stop}
 use Rattle.steps.proofs.Jumps.{ahead-none}
+use Rattle.steps.specs.Why.{return-outside-function, super-outside-class, super-without-superclass, refusal-of}
 
 -- ## `super`
 
@@ -46,10 +47,12 @@ has-super (true ∷ cs) span x e f = refl
 has-super (false ∷ cs) span x e f = absurd (f refl)
 
 module _ (class n : ℕ) (span : Span) where
-  pub super-outside : class ≡ 0 → Judged class n (need-super span) (Stop (SuperOutsideClass span))
+  pub super-outside : class ≡ 0 → Judged class n (need-super span) (Stop (super-outside-class span))
+  unfolding refusal-of
   super-outside e = record { gives = λ {limit} {l} m fit. stop _ (record { refuses = λ rest h. needs-is span m l rest ∙ has-none (rest .classes) span (view m l rest) (h .innermost ∙ e) }) }
 
-  pub super-without : class ≡ 1 → Judged class n (need-super span) (Stop (SuperWithoutSuperclass span))
+  pub super-without : class ≡ 1 → Judged class n (need-super span) (Stop (super-without-superclass span))
+  unfolding refusal-of
   super-without e = record { gives = λ {limit} {l} m fit. stop _ (record { refuses = λ rest h. needs-is span m l rest ∙ has-plain (rest .classes) span (view m l rest) (h .innermost ∙ e) }) }
 
   pub super-there : (class ≡ 0 → ⊥) → (class ≡ 1 → ⊥) → Judged class n (need-super span) (Next n)
@@ -109,8 +112,8 @@ pub told-type : {class : ℕ} (t code spans : List ℕ) (l : ℕ) → Told class
 unfolding the view ctxAt
 told-type t code spans l = record { says = λ rest h. refl }
 
-pub no-return : {class l : ℕ} (kind limit : ℕ) (span : Span) {m : Mem} → kind ≡ 0 → Refused class l (return-value limit (type-of kind) none span) m (ReturnOutsideFunction span)
-unfolding type-of return-value refuse
+pub no-return : {class l : ℕ} (kind limit : ℕ) (span : Span) {m : Mem} → kind ≡ 0 → Refused class l (return-value limit (type-of kind) none span) m (return-outside-function span)
+unfolding type-of return-value refuse refusal-of
 no-return {l = l} kind limit span {m} e = record { refuses = λ rest h. ap (λ (k : ℕ). return-value limit (type-of k) none span (view m l rest)) e }
 
 -- the implicit one, by the last byte

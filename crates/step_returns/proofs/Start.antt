@@ -12,14 +12,7 @@ use Rattle.state.specs.Contracts.{Blank}
 use Rattle.state.proofs.Laws.{wf-plain}
 use Rattle.state_levels.proofs.Clearing.{zero-still}
 use Rattle.steps.specs.View.{view, Started}
-
-empty-row : {A : Type 0} (f : ℕ → A) (n : ℕ) → n ≡ 0 → row f n ≡ []
-unfolding row
-empty-row f n q = ap (row f) q
-
-empty-stack : {A : Type 0} (f : ℕ → A) (n : ℕ) → n ≡ 0 → stack f n ≡ []
-unfolding stack
-empty-stack f n q = ap (stack f) q
+use Rattle.state.proofs.Words.{none-row, none-stack}
 
 module _ (t : List ℕ) (blank : Blank t) where
   abbrev t₁ : List ℕ
@@ -173,11 +166,11 @@ module _ (t : List ℕ) (blank : Blank t) where
       };
     };
     is = λ code spans.
-        let ls = empty-stack (λ i. localOf (getD t₉ (0 * level-words + i) 0)) (getD t₉ 256 0) locals in
-        let us = empty-row (λ i. upvalueOf (getD t₉ (0 * level-words + upvalues-place + i) 0)) (getD t₉ upvalue-count-place 0) upvalues in
-        let ks = empty-row (λ i. constantOf (getD t₉ (0 * level-words + constants-place + i) 0)) (getD t₉ constant-count-place 0) constants in
-        let os = empty-row (λ i. getD code (codeFrom t₉ 0 + i) 0) (codeEnd t₉ - codeFrom t₉ 0) (omega (arith, code-end)) in
-        let rs = empty-row (λ i. runAt spans (runsFrom t₉ 0 + i)) (runsEnd t₉ - runsFrom t₉ 0) (omega (arith, runs-end)) in
+        let ls = none-stack (λ i. localOf (getD t₉ (0 * level-words + i) 0)) (getD t₉ 256 0) locals in
+        let us = none-row (λ i. upvalueOf (getD t₉ (0 * level-words + upvalues-place + i) 0)) (getD t₉ upvalue-count-place 0) upvalues in
+        let ks = none-row (λ i. constantOf (getD t₉ (0 * level-words + constants-place + i) 0)) (getD t₉ constant-count-place 0) constants in
+        let os = none-row (λ i. getD code (codeFrom t₉ 0 + i) 0) (codeEnd t₉ - codeFrom t₉ 0) (omega (arith, code-end)) in
+        let rs = none-row (λ i. runAt spans (runsFrom t₉ 0 + i)) (runsEnd t₉ - runsFrom t₉ 0) (omega (arith, runs-end)) in
         λ i. record {
           ctx = record {
             name = name i;

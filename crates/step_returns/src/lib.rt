@@ -8,7 +8,6 @@ ghost use Rattle.state.specs.Layout.{levels, table-words, type-of, codeEnd, upv
 ghost use Rattle.steps.specs.View.{mem, Fit, steady, Did, Judged, Ending, Started, PairedAt};
 use op::Op;
 use rules::Name;
-use rules::Refusal;
 use rules::Span;
 use state::Kind;
 use state::Table;
@@ -16,6 +15,7 @@ use step_bytes::emit_op;
 use step_bytes::emit_op_u8;
 use steps::Class;
 use steps::Step;
+use steps::Why;
 
 // As words of the table.
 const SCRIPT: u64 = Kind::SCRIPT as u64;
@@ -29,10 +29,18 @@ pub fn need_super(class: u8, span: Span, next: usize) -> Step
     ensures { λ r. ⌜ Judged class next (need-super span) r ⌝ }
 {
     if class == Class::NONE {
-        return Step::Stop(Refusal::SuperOutsideClass(span));
+        return Step::Stop(Why {
+            number: Why::SUPER_OUTSIDE_CLASS,
+            span,
+            name: 0,
+        });
     }
     if class == Class::ALONE {
-        return Step::Stop(Refusal::SuperWithoutSuperclass(span));
+        return Step::Stop(Why {
+            number: Why::SUPER_WITHOUT_SUPERCLASS,
+            span,
+            name: 0,
+        });
     }
     Step::Next(next)
 }
@@ -85,7 +93,11 @@ pub fn return_nothing(
 {
     let kind = t[level * Table::LEVEL_WORDS + Table::TYPE];
     if kind == SCRIPT {
-        return Step::Stop(Refusal::ReturnOutsideFunction(span));
+        return Step::Stop(Why {
+            number: Why::RETURN_OUTSIDE_FUNCTION,
+            span,
+            name: 0,
+        });
     }
     let a = emit_nothing(t, code, spans, level, limit, kind, span, next);
     let Step::Next(_) = a else {

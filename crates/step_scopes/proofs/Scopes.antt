@@ -1,6 +1,6 @@
 -- Locals, scopes and contexts: from the state's contracts to the rules' steps.
 use mathlib.Core.Path.{_≡_, refl, sym, ap, ap₂, subst, _∙_}
-use mathlib.Core.Bool.{Bool, true, false, not}
+use mathlib.Core.Bool.{Bool, true, false}
 use mathlib.Core.List.{List, [], _∷_}
 use Prim.Native.Nat.{ℕ, zero, suc, _+_, _*_, _-_, _≤_, _<_}
 use native.Mathlib.Omega.{arith}
@@ -10,8 +10,9 @@ use borrow.Author.Tests.{lt-ltb, le-ltb}
 use Rattle.rules.specs.Base.{if_then_else_}
 use Rattle.rules.specs.Op as op
 use Rattle.rules.specs.declared.Span.{Span}
-use Rattle.rules.specs.declared.Refusal.the-variants.{AlreadyDefined, TooManyLocals, CodeFull}
-use Rattle.rules.specs.Compiler.{Local, CompilerCtx, Compiler, with-ctx, with-locals, with-scope-depth, Outcome, ok, err, Compile, go-on, _>>=_, _>>_, done, return, need, the, update-ctx, declared, declare-local, define-local, is-global, begin-scope, begin-ctx, emit-u8, emit-op, pop-locals, end-scope, end-ctx, back-to}
+use Rattle.rules.specs.Compiler.{Local, CompilerCtx, Compiler, with-ctx, with-locals, with-scope-depth, Outcome, ok, Compile, go-on, _>>=_, _>>_, done, return, the, update-ctx, declare-local, define-local, is-global, begin-scope, begin-ctx, emit-u8, emit-op, pop-locals, end-scope, end-ctx, back-to}
+use Rattle.rules.proofs.Slips as slips
+use Rattle.rules.proofs.Slips.{enough-locals, already-declared}
 use Rattle.state.specs.Layout.{levels, stack, localOf, localsOf, codeEnd, runsEnd, ctxAt, codeFrom, runsFrom, upvaluesOf, parentsOf, Wf, upvalues-place, depth-place, code-from-place, runs-from-place, level-words, local-count-place}
 use Rattle.state.specs.Contracts.{DeclaredAs, DeclaredAt, DefinedAt, Moved, Began, Wrote, Dropped, Closed}
 use Rattle.state.specs.declared.Declared.{Declared}
@@ -27,6 +28,7 @@ use Rattle.steps.proofs.Steps.{next, stop, ahead-then, gave-seq, refused-seq, g
 use Rattle.steps.proofs.Views.{still-agrees, ahead-named, ahead-kept, view-locals, view-scope}
 use Rattle.step_bytes.proofs.Bytes.{byte-gave, byte-full}
 use Rattle.steps.proofs.Jumps.{ahead-none}
+use Rattle.steps.specs.Why.{already-defined, code-full, too-many-locals, refusal-of}
 
 -- ## The scope depth
 
@@ -66,47 +68,26 @@ global-asked l t r e = record { says = λ code spans. record { says = λ rest _.
 
 -- ## Locals
 
-module _ (name : ℕ) (span : Span) (x : Compiler) where
-  declare-is : (a b : Bool) → declared (x .ctx .scope-depth) name (x .ctx .locals) ≡ a → ltb (length (x .ctx .locals)) 256 ≡ b
-      → declare-local name span x ≡ go-on (need (not a) (AlreadyDefined span name) x)
-      (λ _. need b (TooManyLocals span) >> (update-ctx λ c. with-locals c (record { name = name; depth = c .scope-depth; is-initialized = false; is-captured = false } ∷ c .locals)))
-  unfolding declare-local _>>=_ _>>_ the go-on
-  declare-is a b p q = ap₂ (λ (a b : Bool). go-on (need (not a) (AlreadyDefined span name) x)
-      (λ _. need b (TooManyLocals span) >> (update-ctx λ c. with-locals c (record { name = name; depth = c .scope-depth; is-initialized = false; is-captured = false } ∷ c .locals)))) p q
-
-  pub declare-again : declared (x .ctx .scope-depth) name (x .ctx .locals) ≡ true → declare-local name span x ≡ err (AlreadyDefined span name)
-  unfolding need go-on
-  declare-again p = declare-is true _ p refl
-
-  pub declare-full : declared (x .ctx .scope-depth) name (x .ctx .locals) ≡ false → 256 ≤ length (x .ctx .locals) → declare-local name span x ≡ err (TooManyLocals span)
-  unfolding need go-on _>>_
-  declare-full p h = declare-is false false p (le-ltb _ _ h)
-
-  pub declare-new : declared (x .ctx .scope-depth) name (x .ctx .locals) ≡ false → length (x .ctx .locals) < 256 → declare-local name span x ≡ ok tt
-      (with-ctx x (with-locals (x .ctx) (record { name = name; depth = x .ctx .scope-depth; is-initialized = false; is-captured = false } ∷ x .ctx .locals)))
-  unfolding need go-on _>>_ update-ctx
-  declare-new p h = declare-is false true p (lt-ltb _ _ h)
-
 module _ (l n name : ℕ) (span : Span) (t t′ : List ℕ) (r : Declared) (w : DeclaredAt t t′ l name r) where
   does-as : (s : Declared) → r ≡ s → DeclaredAs t t′ l name s
   does-as s q = subst (λ (s : Declared). DeclaredAs t t′ l name s) q (w .does)
 
-  pub declared-again : r ≡ decl.Already → Tried l n steady (declare-local name span) t t′ (Stop (AlreadyDefined span name))
-  unfolding view ctxAt
-  declared-again q = record { gives = λ code spans fit. stop _ (record { refuses = λ rest _. declare-again name span (view (mem t code spans) l rest) (does-as decl.Already q) }) }
+  pub declared-again : r ≡ decl.Already → Tried l n steady (declare-local name span) t t′ (Stop (already-defined span name))
+  unfolding view ctxAt refusal-of
+  declared-again q = record { gives = λ code spans fit. stop _ (record { refuses = λ rest _. already-declared name span (view (mem t code spans) l rest) (does-as decl.Already q) }) }
 
-  pub declared-full : r ≡ decl.Full → Tried l n steady (declare-local name span) t t′ (Stop (TooManyLocals span))
-  unfolding view ctxAt
+  pub declared-full : r ≡ decl.Full → Tried l n steady (declare-local name span) t t′ (Stop (too-many-locals span))
+  unfolding view ctxAt refusal-of
   declared-full q = record {
     gives = λ code spans fit. stop _
-        (record { refuses = λ rest _. declare-full name span (view (mem t code spans) l rest) (does-as decl.Full q .0) (does-as decl.Full q .1) });
+        (record { refuses = λ rest _. slips.too-many-locals name span (view (mem t code spans) l rest) (does-as decl.Full q .0) (does-as decl.Full q .1) });
   }
 
   pub declared-new : r ≡ decl.Done → Tried l n steady (declare-local name span) t t′ (Next n)
   unfolding view ctxAt
   declared-new q = record {
     gives = λ {class} {limit} code spans fit. next (record {
-      comes = λ rest _. declare-new name span (view (mem t code spans) l rest) (does-as decl.Done q .0) (does-as decl.Done q .1) ∙ ap (ok tt)
+      comes = λ rest _. enough-locals name span (view (mem t code spans) l rest) (does-as decl.Done q .0) (does-as decl.Done q .1) ∙ ap (ok tt)
           (sym (view-locals t code spans t′ l upvalues-place _ (fit .wf) (fit .low) (w .kept) (omega arith) (does-as decl.Done q .2) rest));
       agrees = λ rest h. let low = fit .low in still-agrees (w .kept .above _ (omega arith)) h;
       ahead = ahead-kept t code spans t′ l limit 0 upvalues-place fit (w .wf) (record { below = λ i a. w .kept .below i (omega arith); above = w .kept .above }) (omega arith);
@@ -270,8 +251,8 @@ module _ (l limit d : ℕ) (span : Span) (t code spans t₁ : List ℕ) (fit : F
         ahead = ahead-then (p .ahead) (g .ahead);
       })
 
-  pub ended-full : (now : Mem) → PoppedAt limit l span mid now popped.Full → {class : ℕ} → Refused class l (end-scope limit span) (mem t code spans) CodeFull
-  unfolding end-scope
+  pub ended-full : (now : Mem) → PoppedAt limit l span mid now popped.Full → {class : ℕ} → Refused class l (end-scope limit span) (mem t code spans) code-full
+  unfolding end-scope refusal-of
   ended-full now h {class} = gave-refused-seq (lowered l d t t₁ w q code spans fit) _ (record { refuses = λ rest a. p .same rest a ∙ h .does class .refuses rest (p .agrees rest a) })
 
 -- ## A context

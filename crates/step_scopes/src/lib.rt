@@ -8,11 +8,11 @@ ghost use Rattle.rules.specs.Base.{if_then_else_};
 ghost use Rattle.state.specs.Layout.{levels, deepest, localOf, Wf, depth-place, level-words};
 ghost use Rattle.steps.specs.View.{mem, Fit, steady, deeper, shallower, Did, Changed, Tried, Asked, PoppedAt, Entered, Left};
 use op::Op;
-use rules::Refusal;
 use rules::Span;
 use state::Table;
 use steps::Popped;
 use steps::Step;
+use steps::Why;
 
 pub fn begin_scope(t: &mut [u64], level: usize)
     requires { ⌜ (level < levels) × (Wf (now t)) × (getD (now t) (level * level-words + depth-place) 0 < deepest) ⌝ }
@@ -36,8 +36,16 @@ pub fn declare_local(t: &mut [u64], level: usize, name: u16, span: Span, next: u
     let r = state_names::declare_local(t, level, name);
     match r {
         state::Declared::Done => Step::Next(next),
-        state::Declared::Already => Step::Stop(Refusal::AlreadyDefined(span, name)),
-        state::Declared::Full => Step::Stop(Refusal::TooManyLocals(span)),
+        state::Declared::Already => Step::Stop(Why {
+            number: Why::ALREADY_DEFINED,
+            span,
+            name,
+        }),
+        state::Declared::Full => Step::Stop(Why {
+            number: Why::TOO_MANY_LOCALS,
+            span,
+            name: 0,
+        }),
     }
 }
 
@@ -105,7 +113,11 @@ pub fn end_scope(
         let step = pop_local(t, code, spans, level, limit, span);
         match step {
             Popped::Stop => return Step::Next(next),
-            Popped::Full => return Step::Stop(Refusal::CodeFull),
+            Popped::Full => return Step::Stop(Why {
+                number: Why::CODE_FULL,
+                span: Span { start: 0, end: 0 },
+                name: 0,
+            }),
             Popped::More => {}
         }
     }

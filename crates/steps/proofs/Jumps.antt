@@ -6,10 +6,10 @@ use native.Mathlib.Omega.{arith}
 use native.Mathlib.Nat.{not-suc-le-zero, le-refl}
 use lib.ListN.{length, getD, set, length-set}
 use lib.Seq.{getD-set-same, getD-set-other}
-use borrow.Author.Tests.{le-leb, lt-leb}
 use Rattle.rules.specs.declared.Span.{Span}
-use Rattle.rules.specs.declared.Refusal.the-variants.{JumpTooLarge}
-use Rattle.rules.specs.Compiler.{Compiler, ok, err, go-on, _>>=_, _>>_, the, need, return, update-ctx, with-chunk, with-ctx, code-length, set-u16, patch-jump}
+use Rattle.steps.specs.Why.{jump-too-large, refusal-of}
+use Rattle.rules.specs.Compiler.{ok, go-on, _>>=_, the, return, code-length, set-u16, patch-jump}
+use Rattle.rules.proofs.Slips.{with-operand, near-ahead, too-far-ahead}
 use Rattle.state.specs.Layout.{row, constantsOf, codeFrom, codeEnd, runsEnd, chunkAt, ctxAt, parentsOf}
 use Rattle.state.proofs.Laws.{row-cong, chunk-paths, ctx-paths, parents-same}
 use Rattle.steps.specs.View.{Mem, mem, Rest, view, Fit, code-len, depth-at, steady, Ahead, Gave, Refused, Opened, Told, Measured}
@@ -67,17 +67,6 @@ rows-set code from n p d h g =
     ∙ row-at (set code (from + p) (d % 256)) from n (p + 1) (d / 256) (omega arith) (omega arith)
     ∙ ap (λ (xs : List ℕ). set xs (p + 1) (d / 256)) (row-at code from n p (d % 256) (omega arith) (omega arith))
 
-abbrev patched-to : Compiler → (place d : ℕ) → Compiler
-patched-to x place d = with-ctx x (with-chunk (x .ctx) (record { ops = set-u16 (x .ctx .chunk .ops) place d; constants = x .ctx .chunk .constants; spans = x .ctx .chunk .spans }))
-
-patch-near : (place d : ℕ) (span : Span) (x : Compiler) → length (x .ctx .chunk .ops) - 2 - place ≡ d → d ≤ 65535 → patch-jump place span x ≡ ok tt (patched-to x place d)
-unfolding patch-jump _>>=_ _>>_ code-length the go-on need update-ctx
-patch-near place d span x e h = rw (e, le-leb d 65535 h)
-
-patch-far : (place d : ℕ) (span : Span) (x : Compiler) → length (x .ctx .chunk .ops) - 2 - place ≡ d → 65535 < d → patch-jump place span x ≡ err (JumpTooLarge span)
-unfolding patch-jump _>>=_ _>>_ code-length the go-on need
-patch-far place d span x e h = rw (e, lt-leb d 65535 h)
-
 module _ {limit : ℕ} (l place d : ℕ) (span : Span) (t code spans : List ℕ) (fit : Fit (mem t code spans) l limit)
     (inside : place + 2 ≤ code-len (mem t code spans) l) (is : codeEnd t - codeFrom t l - 2 - place ≡ d) where
   abbrev code′ : List ℕ
@@ -87,7 +76,7 @@ module _ {limit : ℕ} (l place d : ℕ) (span : Span) (t code spans : List ℕ)
   unfolding code-len
   len rest = ap (λ (k : ℕ). k - 2 - place) (view-len (mem t code spans) l rest) ∙ is
 
-  view-after : (rest : Rest) → patched-to (view (mem t code spans) l rest) place d ≡ view (mem t code′ spans) l rest
+  view-after : (rest : Rest) → with-operand (view (mem t code spans) l rest) place d ≡ view (mem t code′ spans) l rest
   unfolding view ctxAt chunkAt code-len
   view-after rest =
       let ok′ = fit .coded in
@@ -106,7 +95,8 @@ module _ {limit : ℕ} (l place d : ℕ) (span : Span) (t code spans : List ℕ)
   patched h =
       let ok′ = fit .coded in
       record {
-        comes = λ rest q. patch-near place d span (view (mem t code spans) l rest) (len rest) h ∙ ap (ok tt) (view-after rest);
+        comes = λ rest q. near-ahead place span (view (mem t code spans) l rest) (omega (arith, len rest)) ∙ ap
+            (λ (d : ℕ). ok tt (with-operand (view (mem t code spans) l rest) place d)) (len rest) ∙ ap (ok tt) (view-after rest);
         agrees = λ rest q. record { innermost = q .innermost; made = q .made };
         ahead = record {
           fit = record {
@@ -134,5 +124,6 @@ module _ {limit : ℕ} (l place d : ℕ) (span : Span) (t code spans : List ℕ)
         };
       }
 
-  pub far : {class : ℕ} → 65535 < d → Refused class l (patch-jump place span) (mem t code spans) (JumpTooLarge span)
-  far h = record { refuses = λ rest q. patch-far place d span (view (mem t code spans) l rest) (len rest) h }
+  pub far : {class : ℕ} → 65535 < d → Refused class l (patch-jump place span) (mem t code spans) (jump-too-large span)
+  unfolding refusal-of
+  far h = record { refuses = λ rest q. too-far-ahead place span (view (mem t code spans) l rest) (omega (arith, len rest)) }

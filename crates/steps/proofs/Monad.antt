@@ -6,6 +6,7 @@ use Rattle.rules.specs.Compiler.{Compiler, Outcome, ok, err, Compile, go-on, re
 use Rattle.steps.specs.View.{Mem, Fit, Turn, steady, Ahead, Gave, DidAs, Did}
 use Rattle.steps.specs.declared.Step.{Step}
 use Rattle.steps.specs.declared.Step.the-variants.{Next, Stop}
+use Rattle.steps.proofs.Jumps.{ahead-none}
 
 -- ## Grouping
 
@@ -35,12 +36,9 @@ on-to {class} {limit} {l} {e = e} {m = m} {before = before} {now = now} {r = r} 
 
 -- ## Nothing is done
 
-pub stays : {l limit : ℕ} {m : Mem} → Fit m l limit → Ahead l limit steady m m
-stays {l} {m = m} fit = record { fit = fit; up = omega arith; deep = refl; head = λ o h g. refl; under = λ k o h g i. refl; over = λ q i h g. refl; beyond = λ q i h. refl }
-
 pub returned : {A : Type 0} {class limit l : ℕ} (v : A) {m : Mem} → Fit m l limit → Gave class limit l steady (return v) v m m
 unfolding return
-returned v fit = record { comes = λ rest q. refl; agrees = λ rest q. q; ahead = stays fit }
+returned v fit = record { comes = λ rest q. refl; agrees = λ rest q. q; ahead = ahead-none fit }
 
 pub nothing : {class limit l : ℕ} {m : Mem} → Fit m l limit → Gave class limit l steady done tt m m
 unfolding done

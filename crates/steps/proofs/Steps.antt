@@ -6,10 +6,13 @@ use native.Mathlib.Omega.{arith}
 use native.Mathlib.Nat.{le-trans}
 use Rattle.rules.specs.Base.{if_then_else_}
 use Rattle.rules.specs.declared.Refusal.{Refusal}
+use Rattle.steps.specs.declared.Why.{Why}
+use Rattle.steps.specs.Why.{refusal-of}
 use Rattle.rules.specs.Compiler.{Compiler, Outcome, ok, err, Compile, go-on, _>>=_, _>>_, need}
 use Rattle.steps.specs.View.{Mem, Rest, view, Agrees, code-len, depth-at, Turn, _⨾_, Ahead, Gave, Refused, DidAs, Did, OpenedAs, Opened, Told}
 use Rattle.steps.specs.declared.Step.{Step}
 use Rattle.steps.specs.declared.Step.the-variants.{Next, Stop}
+use Rattle.state.proofs.Words.{and-left, and-right}
 
 -- ## After a step
 
@@ -20,7 +23,7 @@ went {class} {limit} {l} {n} {v} {e} {m} {before} {now} d q = subst (λ (s : Ste
 pub valued : {class limit l n v : ℕ} {e : Turn} {m : Compile Unit} {before now : Mem} {r : Step} → Did class limit l n e m before now r → r ≡ Next v → v ≡ n
 valued {class} {limit} {l} {n} {v} {e} {m} {before} {now} d q = subst (λ (s : Step). DidAs class limit l n e m before now s) q (d .does) .1
 
-pub stuck : {class limit l n : ℕ} {e : Turn} {m : Compile Unit} {before now : Mem} {r : Step} {x : Refusal} → Did class limit l n e m before now r → r ≡ Stop x → Refused class l m before x
+pub stuck : {class limit l n : ℕ} {e : Turn} {m : Compile Unit} {before now : Mem} {r : Step} {x : Why} → Did class limit l n e m before now r → r ≡ Stop x → Refused class l m before x
 stuck {class} {limit} {l} {n} {e} {m} {before} {now} d q = subst (λ (s : Step). DidAs class limit l n e m before now s) q (d .does)
 
 pub went-to : {class limit l v : ℕ} {e : Turn} {m : Compile ℕ} {before now : Mem} {r : Step} → Opened class limit l e m before now r → r ≡ Next v → Gave class limit l e m v before now
@@ -29,7 +32,7 @@ went-to {class} {limit} {l} {v} {e} {m} {before} {now} d q = subst (λ (s : Step
 pub placed : {class limit l v : ℕ} {e : Turn} {m : Compile ℕ} {before now : Mem} {r : Step} → Opened class limit l e m before now r → r ≡ Next v → v + 2 ≤ code-len now l
 placed {class} {limit} {l} {v} {e} {m} {before} {now} d q = subst (λ (s : Step). OpenedAs class limit l e m before now s) q (d .does) .1
 
-pub stuck-to : {class limit l : ℕ} {e : Turn} {m : Compile ℕ} {before now : Mem} {r : Step} {x : Refusal} → Opened class limit l e m before now r → r ≡ Stop x → Refused class l m before x
+pub stuck-to : {class limit l : ℕ} {e : Turn} {m : Compile ℕ} {before now : Mem} {r : Step} {x : Why} → Opened class limit l e m before now r → r ≡ Stop x → Refused class l m before x
 stuck-to {class} {limit} {l} {e} {m} {before} {now} d q = subst (λ (s : Step). OpenedAs class limit l e m before now s) q (d .does)
 
 -- a place stays a place while the code grows
@@ -49,19 +52,19 @@ next-at g q = record { does = (g, q) }
 pub anew : {class limit l n v : ℕ} {e : Turn} {m : Compile Unit} {before now : Mem} {r : Step} → Did class limit l n e m before now r → r ≡ Next v → Did class limit l n e m before now (Next n)
 anew d q = next (went d q)
 
-pub stop : {class limit l n : ℕ} {e : Turn} {m : Compile Unit} {before : Mem} {x : Refusal} (now : Mem) → Refused class l m before x → Did class limit l n e m before now (Stop x)
+pub stop : {class limit l n : ℕ} {e : Turn} {m : Compile Unit} {before : Mem} {x : Why} (now : Mem) → Refused class l m before x → Did class limit l n e m before now (Stop x)
 stop now h = record { does = h }
 
 -- a step that stopped, whatever its answer's value was to be
-stopped : {class limit l n : ℕ} {e : Turn} {m : Compile Unit} {before now : Mem} {r : Step} {x : Refusal} → r ≡ Stop x → Refused class l m before x → Did class limit l n e m before now r
+stopped : {class limit l n : ℕ} {e : Turn} {m : Compile Unit} {before now : Mem} {r : Step} {x : Why} → r ≡ Stop x → Refused class l m before x → Did class limit l n e m before now r
 stopped {class} {limit} {l} {n} {e} {m} {before} {now} q h = record { does = subst (λ (s : Step). DidAs class limit l n e m before now s) (sym q) h }
 
-stopped-to : {class limit l : ℕ} {e : Turn} {m : Compile ℕ} {before now : Mem} {r : Step} {x : Refusal} → r ≡ Stop x → Refused class l m before x → Opened class limit l e m before now r
+stopped-to : {class limit l : ℕ} {e : Turn} {m : Compile ℕ} {before now : Mem} {r : Step} {x : Why} → r ≡ Stop x → Refused class l m before x → Opened class limit l e m before now r
 stopped-to {class} {limit} {l} {e} {m} {before} {now} q h = record { does = subst (λ (s : Step). OpenedAs class limit l e m before now s) (sym q) h }
 
 -- ## One step and then another
 
-module _ {class l : ℕ} {A B : Type 0} {m : Compile A} {before : Mem} {x : Refusal} (h : Refused class l m before x) where
+module _ {class l : ℕ} {A B : Type 0} {m : Compile A} {before : Mem} {x : Why} (h : Refused class l m before x) where
   pub refused-bind : (f : A → Compile B) → Refused class l (m >>= f) before x
   unfolding _>>=_ go-on
   refused-bind f = record { refuses = λ rest q. ap (λ (o : Outcome A). go-on o f) (h .refuses rest q) }
@@ -69,14 +72,6 @@ module _ {class l : ℕ} {A B : Type 0} {m : Compile A} {before : Mem} {x : Refu
   pub refused-seq : (f : Compile B) → Refused class l (m >> f) before x
   unfolding _>>_ go-on
   refused-seq f = record { refuses = λ rest q. ap (λ (o : Outcome A). go-on o (λ _. f)) (h .refuses rest q) }
-
-and-left : (x y : Bool) → (x && y) ≡ true → x ≡ true
-and-left true y h = refl
-and-left false y h = h
-
-and-right : (x y : Bool) → (x && y) ≡ true → y ≡ true
-and-right true y h = h
-and-right false y h = let z : _≡_ {A = ℕ} 0 1 = cc in absurd (omega arith)
 
 pub ahead-then : {l limit : ℕ} {e f : Turn} {before mid now : Mem} → Ahead l limit e before mid → Ahead l limit f mid now → Ahead l limit (e ⨾ f) before now
 ahead-then {e = e} {f = f} a b = record {
@@ -106,11 +101,11 @@ module _ {class limit l : ℕ} {e : Turn} {A B : Type 0} {m : Compile A} {v : A}
     ahead = ahead-then (g .ahead) (h .ahead);
   }
 
-  pub gave-refused : (next : A → Compile B) {x : Refusal} → Refused (e .class class) l (next v) mid x → Refused class l (m >>= next) before x
+  pub gave-refused : (next : A → Compile B) {x : Why} → Refused (e .class class) l (next v) mid x → Refused class l (m >>= next) before x
   unfolding _>>=_ go-on
   gave-refused next h = record { refuses = λ rest q. ap (λ (o : Outcome A). go-on o next) (g .comes rest q) ∙ h .refuses (e .rest rest) (g .agrees rest q) }
 
-  pub gave-refused-seq : (next : Compile B) {x : Refusal} → Refused (e .class class) l next mid x → Refused class l (m >> next) before x
+  pub gave-refused-seq : (next : Compile B) {x : Why} → Refused (e .class class) l next mid x → Refused class l (m >> next) before x
   unfolding _>>_ go-on
   gave-refused-seq next h = record { refuses = λ rest q. ap (λ (o : Outcome A). go-on o (λ _. next)) (g .comes rest q) ∙ h .refuses (e .rest rest) (g .agrees rest q) }
 
@@ -147,7 +142,7 @@ module _ {class limit l : ℕ} {e : Turn} {A : Type 0} {m : Compile A} {v : A} {
 -- ## The lines of a `do` block. What stands after `>>` or `>>=` is the first argument, written `_` where it is known
 
 -- a step that stopped is what a longer one comes to
-pub halt : {class limit l n k : ℕ} {e f : Turn} {m : Compile Unit} (next : Compile Unit) {before now : Mem} {r : Step} {x : Refusal} → Did class limit l n e m
+pub halt : {class limit l n k : ℕ} {e f : Turn} {m : Compile Unit} (next : Compile Unit) {before now : Mem} {r : Step} {x : Why} → Did class limit l n e m
     before now r → r ≡ Stop x → Did class limit l k f (m >> next) before now r
 halt next d q = stopped q (refused-seq (stuck d q) next)
 
@@ -156,7 +151,7 @@ pub then-on : {class limit l n k v : ℕ} {e f : Turn} {m : Compile Unit} (next 
 then-on next d q d′ = did-seq (went d q) next d′
 
 -- towards a place
-pub halt-to : {class limit l n : ℕ} {e f : Turn} {m : Compile Unit} (next : Compile ℕ) {before now : Mem} {r : Step} {x : Refusal} → Did class limit l n e m
+pub halt-to : {class limit l n : ℕ} {e f : Turn} {m : Compile Unit} (next : Compile ℕ) {before now : Mem} {r : Step} {x : Why} → Did class limit l n e m
     before now r → r ≡ Stop x → Opened class limit l f (m >> next) before now r
 halt-to next d q = stopped-to q (refused-seq (stuck d q) next)
 
@@ -165,7 +160,7 @@ pub then-to : {class limit l n v : ℕ} {e f : Turn} {m : Compile Unit} (next : 
 then-to next d q d′ = opened-seq (went d q) next d′
 
 -- from a place on
-pub halt-at : {class limit l k : ℕ} {e f : Turn} {m : Compile ℕ} (next : ℕ → Compile Unit) {before now : Mem} {r : Step} {x : Refusal} → Opened class limit l e
+pub halt-at : {class limit l k : ℕ} {e f : Turn} {m : Compile ℕ} (next : ℕ → Compile Unit) {before now : Mem} {r : Step} {x : Why} → Opened class limit l e
     m before now r → r ≡ Stop x → Did class limit l k f (m >>= next) before now r
 halt-at next d q = stopped q (refused-bind (stuck-to d q) next)
 
@@ -191,7 +186,7 @@ module _ {class l : ℕ} {A : Type 0} {m : Compile A} {v : A} {before : Mem} (w 
   pub ask : {limit k : ℕ} {e : Turn} (next : A → Compile Unit) {now : Mem} {r : Step} → Did class limit l k e (next v) before now r → Did class limit l k e (m >>= next) before now r
   ask next {r = r} d = record { does = ask-as next r d }
 
-  pub ask-refused : {B : Type 0} (next : A → Compile B) {x : Refusal} → Refused class l (next v) before x → Refused class l (m >>= next) before x
+  pub ask-refused : {B : Type 0} (next : A → Compile B) {x : Why} → Refused class l (next v) before x → Refused class l (m >>= next) before x
   unfolding _>>=_ go-on
   ask-refused next h = record { refuses = λ rest q. ap (λ (o : Outcome A). go-on o next) (w .says rest q) ∙ h .refuses rest q }
 
@@ -222,9 +217,9 @@ pub passed : {class l : ℕ} (b : Bool) (x : Refusal) {m : Mem} → b ≡ true �
 unfolding need
 passed {l = l} b x {m = m} q = record { says = λ rest _. ap (λ (b : Bool). need b x (view m l rest)) q }
 
-pub failed : {class l : ℕ} (b : Bool) {x : Refusal} {m : Mem} → b ≡ false → Refused class l (need b x) m x
+pub failed : {class l : ℕ} (b : Bool) {x : Why} {m : Mem} → b ≡ false → Refused class l (need b (refusal-of x)) m x
 unfolding need
-failed {l = l} b {x = x} {m = m} q = record { refuses = λ rest _. ap (λ (b : Bool). need b x (view m l rest)) q }
+failed {l = l} b {x = x} {m = m} q = record { refuses = λ rest _. ap (λ (b : Bool). need b (refusal-of x) (view m l rest)) q }
 
 -- ## The same as equations, where the level or the classes change within a block
 

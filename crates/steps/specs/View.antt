@@ -5,13 +5,13 @@ use mathlib.Core.List.{List, [], _∷_, _++_}
 use Prim.Native.Nat.{ℕ, suc, _+_, _*_, _-_, _≤_, _<_}
 use lib.ListN.{length, getD}
 use Rattle.rules.specs.declared.Span.{Span}
-use Rattle.rules.specs.declared.Refusal.{Refusal}
-use Rattle.rules.specs.declared.Refusal.the-variants.{CodeFull}
 use Rattle.rules.specs.Chunk.{ObjectFunction}
 use Rattle.rules.specs.Compiler.{Upvalue as Captured}
 use Rattle.rules.specs.Compiler.{emit-upvalues, Compiler, new, new-ctx, finish, end-ctx, ends-in-return, ok, err, Compile, _>>=_, the, local-at, upvalue-at, global-named, resolve, code-length, begin-ctx, pop-locals}
 use Rattle.state.specs.Layout.{levels, image-at, codeFrom, codeEnd, runsEnd, ctxAt, parentsOf, type-of, Wf, Coded, code-end-at, upvalueOf, upvaluesOf, depth-place, code-from-place, type-place, level-words, local-count-place}
 use Rattle.state.specs.Contracts.{Kept}
+use Rattle.steps.specs.Why.{code-full, refusal-of}
+use Rattle.steps.specs.declared.Why.{Why}
 use Rattle.steps.specs.declared.Step.{Step}
 use Rattle.steps.specs.declared.Step.the-variants.{Next, Stop}
 use Rattle.steps.specs.declared.Place.{Place}
@@ -115,8 +115,8 @@ pub record Gave {A : Type 0} (class limit l : ℕ) (e : Turn) (m : Compile A) (v
   pub ahead : Ahead l limit e before now
 
 -- m refused
-pub record Refused {A : Type 0} (class l : ℕ) (m : Compile A) (before : Mem) (x : Refusal) : Type 0 where
-  pub refuses : (rest : Rest) → Agrees class before rest → m (view before l rest) ≡ err x
+pub record Refused {A : Type 0} (class l : ℕ) (m : Compile A) (before : Mem) (x : Why) : Type 0 where
+  pub refuses : (rest : Rest) → Agrees class before rest → m (view before l rest) ≡ err (refusal-of x)
 
 -- ## The contracts
 
@@ -180,8 +180,9 @@ pub record Passing (limit l : ℕ) (p : Compile Unit) (before now : Mem) : Type 
 
 abbrev pub PoppedAs : (limit l : ℕ) → Span → (before now : Mem) → Popped → Type 0
 PoppedAs limit l span before now popped.Stop = (class : ℕ) → Gave class limit l steady (pops limit span) tt before now
-PoppedAs limit l span before now popped.Full = (class : ℕ) → Refused class l (pops limit span) before CodeFull
-PoppedAs limit l span before now popped.More = Passing limit l (pops limit span) before now × (getD (t-of now) (l * level-words + local-count-place) 0 < getD (t-of before) (l * level-words + local-count-place) 0)
+PoppedAs limit l span before now popped.Full = (class : ℕ) → Refused class l (pops limit span) before code-full
+PoppedAs limit l span before now popped.More = Passing limit l (pops limit span) before now ×
+    (getD (t-of now) (l * level-words + local-count-place) 0 < getD (t-of before) (l * level-words + local-count-place) 0)
 
 pub record PoppedAt (limit l : ℕ) (span : Span) (before now : Mem) (r : Popped) : Type 0 where
   pub does : PoppedAs limit l span before now r
@@ -190,7 +191,8 @@ pub record PoppedAt (limit l : ℕ) (span : Span) (before now : Mem) (r : Popped
 
 pub record Entered (l name arity kind : ℕ) (t t′ : List ℕ) : Type 0 where
   pub fit : {limit : ℕ} (code spans : List ℕ) → Fit (mem t code spans) l limit → Fit (mem t′ code spans) (suc l) limit
-  pub comes : (code spans : List ℕ) (rest : Rest) → begin-ctx (new-ctx name arity (type-of kind) (depth-at (mem t code spans) l + 1)) (view (mem t code spans) l rest) ≡ ok tt (view (mem t′ code spans) (suc l) rest)
+  pub comes : (code spans : List ℕ) (rest : Rest) → begin-ctx (new-ctx name arity (type-of kind) (depth-at (mem t code spans) l + 1))
+      (view (mem t code spans) l rest) ≡ ok tt (view (mem t′ code spans) (suc l) rest)
   pub deep : (code spans : List ℕ) → depth-at (mem t′ code spans) (suc l) ≡ depth-at (mem t code spans) l + 1
   -- nothing of the levels below is changed, nor what lies after the levels
   pub kept : Kept (suc l * level-words) (suc l * level-words + level-words) t t′
@@ -220,7 +222,8 @@ finished m l rest = record { classes = rest .classes; functions = rest .function
 
 pub record Left (l : ℕ) (t t′ : List ℕ) : Type 0 where
   pub fit : {limit : ℕ} (code spans : List ℕ) → Fit (mem t code spans) l limit → Fit (mem t′ code spans) (l - 1) limit
-  pub comes : (code spans : List ℕ) (rest : Rest) → end-ctx (view (mem t code spans) l rest) ≡ ok (length (rest .functions), upvaluesOf t l) (view (mem t′ code spans) (l - 1) (finished (mem t code spans) l rest))
+  pub comes : (code spans : List ℕ) (rest : Rest) → end-ctx (view (mem t code spans) l rest) ≡ ok (length (rest .functions), upvaluesOf t l)
+      (view (mem t′ code spans) (l - 1) (finished (mem t code spans) l rest))
   -- only the ends of code and runs are changed
   pub kept : Kept code-end-at image-at t t′
 

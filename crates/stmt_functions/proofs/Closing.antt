@@ -8,7 +8,6 @@ use native.Mathlib.Nat.{eq-or-lt-of-le}
 use native.Mathlib.Numerals.{add-one}
 use lib.ListN.{length, getD, length-append}
 use Rattle.rules.specs.declared.Span.{Span}
-use Rattle.rules.specs.declared.Refusal.{Refusal}
 use Rattle.rules.specs.Op as op
 use Rattle.rules.specs.Chunk.{Constant, CF, ObjectFunction}
 use Rattle.rules.specs.Compiler.{Upvalue, Compiler, ok, err, finish, emit-op, emit-constant, emit-upvalues, emit-closure, implicit-return, end-ctx, end-function}
@@ -24,6 +23,8 @@ use Rattle.stmt_output_laws.specs.Parts.{close-function}
 use Rattle.stmt_output_laws.specs.Output.{more}
 use Rattle.stmt_functions.specs.Functions.{function-at, Filed, Finished, FunctionClosedAs, FunctionClosed}
 use Rattle.stmt_functions.proofs.Records.{fit-same, view-same}
+use Rattle.rules.specs.declared.Refusal.{Refusal}
+use Rattle.steps.specs.declared.Why.{Why}
 
 -- ## A closure
 
@@ -38,13 +39,13 @@ above-same {l} {before = before} {now = now} low fit a =
     upvalues-same (t-of before) (t-of now) (l + 1) (fit .wf .fewUpvalues (l + 1) low) (λ o h g. a .over refl _ (omega arith) (omega arith))
 
 module _ (class limit l n number : ℕ) (span : Span) (us : List Upvalue) where
-  pub closure-first : {k : ℕ} {before now : Mem} {r : Step} {x : Refusal} → Did class limit l k steady (emit-op limit op.CLOSURE span) before now r → r ≡ Stop x
+  pub closure-first : {k : ℕ} {before now : Mem} {r : Step} {x : Why} → Did class limit l k steady (emit-op limit op.CLOSURE span) before now r → r ≡ Stop x
       → Did class limit l n steady (emit-closure limit number us span) before now r
   unfolding emit-closure emit-op
   closure-first d q = halt _ d q
 
   module _ {k v : ℕ} {before mid : Mem} {r : Step} (d : Did class limit l k steady (emit-op limit op.CLOSURE span) before mid r) (q : r ≡ Next v) (w : ℕ) (is : constantOf w ≡ CF number) where
-    pub closure-second : {j : ℕ} {now : Mem} {r′ : Step} {x : Refusal} → Did class limit l j steady (emit-constant limit (constantOf w) span) mid now r′ → r′ ≡
+    pub closure-second : {j : ℕ} {now : Mem} {r′ : Step} {x : Why} → Did class limit l j steady (emit-constant limit (constantOf w) span) mid now r′ → r′ ≡
         Stop x → Did class limit l n steady (emit-closure limit number us span) before now r′
     unfolding emit-closure emit-op
     closure-second d′ q′ = then-on _ d q (halt _ (constant-as span is d′) q′)
@@ -75,7 +76,7 @@ no-shorter : (a b f g : ℕ) → f ≤ a → g ≤ b → g ≡ f → a - f ≤ b
 no-shorter a b f g h i e k = omega arith
 
 module _ (class limit l : ℕ) (span : Span) (before : Mem) where
-  pub closed-first : {n k : ℕ} {now : Mem} {out out′ : List ℕ} {a : Step} {x : Refusal} → Did class limit (suc l) k steady (implicit-return limit) before now a → a ≡ Stop x
+  pub closed-first : {n k : ℕ} {now : Mem} {out out′ : List ℕ} {a : Step} {x : Why} → Did class limit (suc l) k steady (implicit-return limit) before now a → a ≡ Stop x
       → FunctionClosed class limit l n span before out now out′ a
   closed-first {n} {now = now} {out} {out′} d q = record {
     does = subst (λ (s : Step). FunctionClosedAs class limit l n span before out now out′ s) (sym q) (λ rest h. close-first limit span (view before (suc l) rest) (stuck d q .refuses rest h));
@@ -192,7 +193,7 @@ module _ (class limit l : ℕ) (span : Span) (before : Mem) where
 -- ## The same where the level above is called l + 1, as the code does
 
 module _ (limit l : ℕ) (span : Span) (before : Mem) where
-  pub closed-first-at : {class n k : ℕ} {now : Mem} {out out′ : List ℕ} {a : Step} {x : Refusal} → Did class limit (l + 1) k steady (implicit-return limit) before now a → a ≡ Stop x
+  pub closed-first-at : {class n k : ℕ} {now : Mem} {out out′ : List ℕ} {a : Step} {x : Why} → Did class limit (l + 1) k steady (implicit-return limit) before now a → a ≡ Stop x
       → FunctionClosed class limit l n span before out now out′ a
   closed-first-at {class} {n} {k} {now} {a = a} d q = closed-first class limit l span before (subst (λ (j : ℕ). Did class limit j k steady (implicit-return limit) before now a) (add-one l) d) q
 

@@ -5,8 +5,6 @@ use Prim.Native.Nat.{ℕ, zero, suc, _+_, _*_, _-_, _≤_, _<_}
 use native.Mathlib.Omega.{arith}
 use lib.ListN.{length}
 use Rattle.rules.specs.declared.Span.{Span}
-use Rattle.rules.specs.declared.Refusal.{Refusal}
-use Rattle.rules.specs.declared.Refusal.the-variants.{AlreadyDefined, TooManyLocals}
 use Rattle.rules.specs.Reader.{got}
 use Rattle.rules.specs.Compiler.{Compiler, ok, err, Compile, _>>_, done, return, update-ctx, slot-zero, declare-local, define-local, declare-params}
 use Rattle.fields.specs.Words.{word16}
@@ -21,9 +19,13 @@ use Rattle.steps.specs.declared.Step.{Step}
 use Rattle.steps.specs.declared.Step.the-variants.{Next, Stop}
 use Rattle.steps.proofs.Steps.{seq-ok, seq-err}
 use Rattle.steps.proofs.Views.{view-locals}
-use Rattle.step_scopes.proofs.Scopes.{declare-again, declare-full, declare-new}
+use Rattle.rules.proofs.Slips as slips
+use Rattle.rules.proofs.Slips.{enough-locals, already-declared}
 use Rattle.steps.proofs.Monad.{regroup}
 use Rattle.stmt_functions.specs.Functions.{names-at, NamesThere, declare-named, Locally, NamedAs, Named, ParamsDeclared}
+use Rattle.rules.specs.declared.Refusal.{Refusal}
+use Rattle.steps.specs.declared.Why.{Why}
+use Rattle.steps.specs.Why.{already-defined, too-many-locals, refusal-of}
 
 -- ## Slot zero
 
@@ -58,24 +60,24 @@ module _ (l n name : ℕ) (span : Span) (t t₁ : List ℕ) (r : Declared) (w : 
   does-as : (s : Declared) → r ≡ s → DeclaredAs t t₁ l name s
   does-as s q = subst (λ (s : Declared). DeclaredAs t t₁ l name s) q (w .does)
 
-  pub named-again : r ≡ decl.Already → Named l n (declare-named name span) t t₁ (Stop (AlreadyDefined span name))
-  unfolding view ctxAt
+  pub named-again : r ≡ decl.Already → Named l n (declare-named name span) t t₁ (Stop (already-defined span name))
+  unfolding view ctxAt refusal-of
   named-again q = record {
-    does = λ code spans rest. seq-err (declare-local name span) (view (mem t code spans) l rest) define-local (declare-again name span (view (mem t code spans) l rest) (does-as decl.Already q));
+    does = λ code spans rest. seq-err (declare-local name span) (view (mem t code spans) l rest) define-local (already-declared name span (view (mem t code spans) l rest) (does-as decl.Already q));
   }
 
-  pub named-full : r ≡ decl.Full → Named l n (declare-named name span) t t₁ (Stop (TooManyLocals span))
-  unfolding view ctxAt
+  pub named-full : r ≡ decl.Full → Named l n (declare-named name span) t t₁ (Stop (too-many-locals span))
+  unfolding view ctxAt refusal-of
   named-full q = record {
     does = λ code spans rest.
         seq-err (declare-local name span) (view (mem t code spans) l rest) define-local
-        (declare-full name span (view (mem t code spans) l rest) (does-as decl.Full q .0) (does-as decl.Full q .1));
+        (slips.too-many-locals name span (view (mem t code spans) l rest) (does-as decl.Full q .0) (does-as decl.Full q .1));
   }
 
   declare-is : l < levels → Wf t → r ≡ decl.Done → (code spans : List ℕ) (rest : Rest) → declare-local name span (view (mem t code spans) l rest) ≡ ok tt (view (mem t₁ code spans) l rest)
   unfolding view ctxAt
   declare-is low wf q code spans rest =
-      declare-new name span (view (mem t code spans) l rest) (does-as decl.Done q .0) (does-as decl.Done q .1)
+      enough-locals name span (view (mem t code spans) l rest) (does-as decl.Done q .0) (does-as decl.Done q .1)
       ∙ ap (ok tt) (sym (view-locals t code spans t₁ l upvalues-place _ wf low (w .kept) (omega arith) (does-as decl.Done q .2) rest))
 
   pub named-new : l < levels → Wf t → r ≡ decl.Done → (t₂ : List ℕ) → DefinedAt t₁ t₂ l → Named l n (declare-named name span) t t₂ (Next n)
@@ -97,12 +99,12 @@ module _ {l n : ℕ} {m : Compile Unit} {t t′ : List ℕ} {r : Step} (d : Name
   pub named-on : {v : ℕ} → r ≡ Next v → Locally l m t t′
   named-on q = subst (λ (s : Step). NamedAs l n m t t′ s) q (d .does) .0
 
-  pub named-stop : {x : Refusal} → r ≡ Stop x → (code spans : List ℕ) (rest : Rest) → m (view (mem t code spans) l rest) ≡ err x
+  pub named-stop : {x : Why} → r ≡ Stop x → (code spans : List ℕ) (rest : Rest) → m (view (mem t code spans) l rest) ≡ err (refusal-of x)
   named-stop q = subst (λ (s : Step). NamedAs l n m t t′ s) q (d .does)
 
 -- an answer that stopped
-pub named-stopped : {l n : ℕ} {m : Compile Unit} {t t′ : List ℕ} {r : Step} {x : Refusal} → r ≡ Stop x →
-    ((code spans : List ℕ) (rest : Rest) → m (view (mem t code spans) l rest) ≡ err x) → Named l n m t t′ r
+pub named-stopped : {l n : ℕ} {m : Compile Unit} {t t′ : List ℕ} {r : Step} {x : Why} → r ≡ Stop x →
+    ((code spans : List ℕ) (rest : Rest) → m (view (mem t code spans) l rest) ≡ err (refusal-of x)) → Named l n m t t′ r
 named-stopped {l} {n} {m} {t} {t′} q h = record { does = subst (λ (s : Step). NamedAs l n m t t′ s) (sym q) h }
 
 -- ## One parameter after the other
@@ -170,7 +172,7 @@ module _ (tree : List ℕ) (l : ℕ) (span : Span) where
           ∙ ap (λ (z : List ℕ). declare-params z span (view (mem t′ code spans) l rest)) (i .is ∙ ap (λ (j : ℕ). j ∷ i .others) (sym is))
           ∙ params-more name (i .others) span (view (mem t′ code spans) l rest)
 
-      pub walk-stop : {x : Refusal} → a ≡ Stop x → ParamsDeclared l tree count from span t t″ a
+      pub walk-stop : {x : Why} → a ≡ Stop x → ParamsDeclared l tree count from span t t″ a
       walk-stop q = record {
         did = λ x ps n r.
             named-stopped q (λ code spans rest. here x ps n r code spans rest ∙ seq-err (declare-named name span) (view (mem t′ code spans) l rest) _ (named-stop d q code spans rest));

@@ -8,7 +8,6 @@ use native.Mathlib.Numerals.{add-one}
 use lib.ListN.{length, getD}
 use borrow.Author.Tests.{le-leb, lt-leb}
 use Rattle.rules.specs.declared.Span.{Span}
-use Rattle.rules.specs.declared.Refusal.{Refusal}
 use Rattle.rules.specs.declared.Refusal.the-variants.{TreeForm, TooManyParams}
 use Rattle.rules.specs.Reader.{got}
 use Rattle.rules.specs.Compiler.{FunctionType, Compiler, CompilerCtx, new-ctx, ok, err, Compile, _>>=_, _>>_, go-on, need, the, slot-zero, begin-ctx, declare-local, define-local, declare-params}
@@ -27,6 +26,8 @@ use Rattle.steps.proofs.Monad.{regroup}
 use Rattle.stmt_output_laws.specs.Parts.{open-function}
 use Rattle.stmt_functions.specs.Functions.{names-at, NamesThere, FunHead, declare-named, Locally, NamedAs, Named, ParamsDeclared, Inside, FunctionOpenedAs, FunctionOpened}
 use Rattle.stmt_functions.proofs.Names.{kept-on, named-on, named-stop}
+use Rattle.steps.specs.declared.Why.{Why}
+use Rattle.steps.specs.Why.{too-many-params, refusal-of}
 
 -- ## The rules' step
 
@@ -79,7 +80,7 @@ module _ (l kind name : ℕ) (params : List ℕ) (span : Span) (t t₁ : List �
   unfolding view depth-at ctxAt
   begun-is code spans rest = open-is (type-of kind) name params span (view (mem t code spans) l rest) few (begun .comes code spans rest)
 
-  pub opened-stop : (n : ℕ) {k : ℕ} {t₂ : List ℕ} {r : Step} {x : Refusal} → Named (suc l) k first t₁ t₂ r → r ≡ Stop x → FunctionOpenedAs l n whole t t₂ r
+  pub opened-stop : (n : ℕ) {k : ℕ} {t₂ : List ℕ} {r : Step} {x : Why} → Named (suc l) k first t₁ t₂ r → r ≡ Stop x → FunctionOpenedAs l n whole t t₂ r
   opened-stop n {t₂ = t₂} d q =
       subst (λ (s : Step). FunctionOpenedAs l n whole t t₂ s) (sym q)
       (λ code spans rest. begun-is code spans rest ∙ seq-err first (view (mem t₁ code spans) (suc l) rest) _ (named-stop d q code spans rest))
@@ -123,7 +124,8 @@ module _ (l kind : ℕ) (tree : List ℕ) (at : ℕ) (span : Span) (t : List ℕ
     count-is : {params : List ℕ} {mid : ℕ} → read params mid → length params ≡ count
     count-is r = names-length tree (word16 tree 2) (TreeForm at) (word16 tree (at + 12)) (at + 14) r ∙ sym is
 
-    pub too-many : (t′ : List ℕ) → 255 < count → FunctionOpened l kind tree at span t t′ (Stop (TooManyParams span))
+    pub too-many : (t′ : List ℕ) → 255 < count → FunctionOpened l kind tree at span t t′ (Stop (too-many-params span))
+    unfolding refusal-of
     too-many t′ h = record {
       did = λ params mid r code spans rest. open-many (type-of kind) (word16 tree (at + 10)) params span (view (mem t code spans) l rest) (let e = count-is r in omega arith);
     }
@@ -144,7 +146,7 @@ module _ (l kind : ℕ) (tree : List ℕ) (at : ℕ) (span : Span) (t : List ℕ
           (subst (λ (j : ℕ). Named j k (declare-named own span) t₁ t₂ a) (add-one l) d)
 
       module _ {k own : ℕ} {t₂ : List ℕ} {a : Step} (z : own ≡ slot-zero (type-of kind) name) (d : Named (l + 1) k (declare-named own span) t₁ t₂ a) where
-        pub first-stop : {x : Refusal} → a ≡ Stop x → FunctionOpened l kind tree at span t t₂ a
+        pub first-stop : {x : Why} → a ≡ Stop x → FunctionOpened l kind tree at span t t₂ a
         first-stop q = record { did = λ params mid r. opened-stop l kind (word16 tree (at + 10)) params span t t₁ low (few-as r) (begun-as r) mid (first-as z d) q }
 
         pub first-wf : {v : ℕ} → a ≡ Next v → Wf t₂

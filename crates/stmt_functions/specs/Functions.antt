@@ -19,6 +19,7 @@ use Rattle.steps.specs.declared.Step.{Step}
 use Rattle.steps.specs.declared.Step.the-variants.{Next, Stop}
 use Rattle.stmt_output_laws.specs.Parts.{open-function, close-function}
 use Rattle.stmt_output_laws.specs.Output.{largest, Holds, more}
+use Rattle.steps.specs.Why.{refusal-of}
 
 -- ## What was read
 
@@ -53,7 +54,7 @@ pub record Locally (l : ℕ) (m : Compile Unit) (t t′ : List ℕ) : Type 0 whe
 
 abbrev pub NamedAs : (l n : ℕ) → Compile Unit → (t t′ : List ℕ) → Step → Type 0
 NamedAs l n m t t′ (Next v) = Locally l m t t′ × (v ≡ n)
-NamedAs l n m t t′ (Stop x) = (code spans : List ℕ) (rest : Rest) → m (view (mem t code spans) l rest) ≡ err x
+NamedAs l n m t t′ (Stop x) = (code spans : List ℕ) (rest : Rest) → m (view (mem t code spans) l rest) ≡ err (refusal-of x)
 
 pub record Named (l n : ℕ) (m : Compile Unit) (t t′ : List ℕ) (r : Step) : Type 0 where
   pub does : NamedAs l n m t t′ r
@@ -75,7 +76,7 @@ pub record Inside (l : ℕ) (m : Compile Unit) (t t′ : List ℕ) : Type 0 wher
 
 abbrev pub FunctionOpenedAs : (l n : ℕ) → Compile Unit → (t t′ : List ℕ) → Step → Type 0
 FunctionOpenedAs l n m t t′ (Next v) = Inside l m t t′ × (v ≡ n)
-FunctionOpenedAs l n m t t′ (Stop x) = (code spans : List ℕ) (rest : Rest) → m (view (mem t code spans) l rest) ≡ err x
+FunctionOpenedAs l n m t t′ (Stop x) = (code spans : List ℕ) (rest : Rest) → m (view (mem t code spans) l rest) ≡ err (refusal-of x)
 
 pub record FunctionOpened (l kind : ℕ) (tree : List ℕ) (at : ℕ) (span : Span) (t t′ : List ℕ) (r : Step) : Type 0 where
   pub did : (params : List ℕ) (mid : ℕ) → many (word16 tree (at + 12)) (name tree (word16 tree 2) (TreeForm at)) (at + 14) ≡ got params mid
@@ -108,7 +109,7 @@ pub record Finished (class limit l : ℕ) (span : Span) (before : Mem) (out : Li
 
 abbrev pub FunctionClosedAs : (class limit l n : ℕ) → Span → (before : Mem) → (out : List ℕ) → (now : Mem) → (out′ : List ℕ) → Step → Type 0
 FunctionClosedAs class limit l n span before out now out′ (Next v) = Finished class limit l span before out now out′ × (v ≡ n)
-FunctionClosedAs class limit l n span before out now out′ (Stop x) = (rest : Rest) → Agrees class before rest → close-function limit span (view before (suc l) rest) ≡ err x
+FunctionClosedAs class limit l n span before out now out′ (Stop x) = (rest : Rest) → Agrees class before rest → close-function limit span (view before (suc l) rest) ≡ err (refusal-of x)
 
 pub record FunctionClosed (class limit l n : ℕ) (span : Span) (before : Mem) (out : List ℕ) (now : Mem) (out′ : List ℕ) (r : Step) : Type 0 where
   pub does : FunctionClosedAs class limit l n span before out now out′ r

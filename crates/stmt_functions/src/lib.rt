@@ -14,7 +14,6 @@ use fields::u16_at;
 use op::Op;
 use rules::Limit;
 use rules::Name;
-use rules::Refusal;
 use rules::Span;
 use state::Kind;
 use state::Table;
@@ -24,9 +23,9 @@ use step_bytes::function_word;
 use step_returns::emit_upvalues;
 use step_returns::implicit_return;
 use steps::Step;
+use steps::Why;
 use writer::put_function;
 
-// The image writer's words: how many functions are finished, and how long their records are.
 // ## A function is begun
 
 // The name of slot zero: `this` in a method, a function's own name in it.
@@ -47,8 +46,16 @@ fn declare_named(t: &mut [u64], level: usize, name: u16, span: Span, next: usize
     let r = state_names::declare_local(t, level, name);
     match r {
         state::Declared::Done => {}
-        state::Declared::Already => return Step::Stop(Refusal::AlreadyDefined(span, name)),
-        state::Declared::Full => return Step::Stop(Refusal::TooManyLocals(span)),
+        state::Declared::Already => return Step::Stop(Why {
+            number: Why::ALREADY_DEFINED,
+            span,
+            name,
+        }),
+        state::Declared::Full => return Step::Stop(Why {
+            number: Why::TOO_MANY_LOCALS,
+            span,
+            name: 0,
+        }),
     }
     state_names::define_local(t, level);
     Step::Next(next)
@@ -95,7 +102,11 @@ pub fn open_function(
     let name = u16_at(tree, at + 10);
     let count = u16_at(tree, at + 12);
     if Limit::PARAMS < count {
-        return Step::Stop(Refusal::TooManyParams(span));
+        return Step::Stop(Why {
+            number: Why::TOO_MANY_PARAMS,
+            span,
+            name: 0,
+        });
     }
     state_levels::begin_ctx(t, level, name, (count % 256) as u8, kind);
     let a = declare_named(t, level + 1, slot_zero(name, kind), span, 0);

@@ -3,7 +3,6 @@ use mathlib.Core.Path.{_≡_, sym, subst}
 use Prim.Native.Nat.{ℕ, _+_, _≤_}
 use native.Mathlib.Nat.{le-trans}
 use Rattle.rules.specs.declared.Span.{Span}
-use Rattle.rules.specs.declared.Refusal.{Refusal}
 use Rattle.rules.specs.Op as op
 use Rattle.rules.specs.Compiler.{Compiler, Compile, _>>=_, _>>_, return, emit-op, emit-jump, patch-jump}
 use Rattle.steps.specs.View.{Mem, code-len, steady, Gave, Refused, Did, OpenedAs, Opened}
@@ -12,9 +11,10 @@ use Rattle.steps.specs.declared.Step.{Step}
 use Rattle.steps.specs.declared.Step.the-variants.{Next, Stop}
 use Rattle.stmt_jumps.specs.Jumps.{open-jump, turn-jump}
 use Rattle.steps.proofs.Monad.{returned, cut-and, cut-later}
+use Rattle.steps.specs.declared.Why.{Why}
 
 module _ {class limit l : ℕ} where
-  stopped-to : {m : Compile ℕ} {before now : Mem} {r : Step} {x : Refusal} → r ≡ Stop x → Refused class l m before x → Opened class limit l steady m before now r
+  stopped-to : {m : Compile ℕ} {before now : Mem} {r : Step} {x : Why} → r ≡ Stop x → Refused class l m before x → Opened class limit l steady m before now r
   stopped-to {m} {before} {now} q h = record { does = subst (λ (s : Step). OpenedAs class limit l steady m before now s) (sym q) h }
 
   -- the last step, and then the place
@@ -31,7 +31,7 @@ module _ {class limit l : ℕ} where
       → Opened class limit l steady (m >> return place) mid now r
   place-last place {r = r} h d = record { does = place-as place h r d }
 
-  pub open-stop : (span : Span) {before now : Mem} {r : Step} {x : Refusal} → Opened class limit l steady (emit-jump limit op.JUMP-IF-FALSE span) before now r → r ≡ Stop x
+  pub open-stop : (span : Span) {before now : Mem} {r : Step} {x : Why} → Opened class limit l steady (emit-jump limit op.JUMP-IF-FALSE span) before now r → r ≡ Stop x
       → Opened class limit l steady (open-jump limit span) before now r
   unfolding open-jump
   open-stop span a q = stopped-to q (refused-bind (stuck-to a q) _)
@@ -42,12 +42,12 @@ module _ {class limit l : ℕ} where
   open-done span {j = j} a q d = opened-bind (went-to a q) _ (place-last j (placed a q) d)
 
   module _ (place : ℕ) (span : Span) where
-    pub turn-stop : {before now : Mem} {r : Step} {x : Refusal} → Opened class limit l steady (emit-jump limit op.JUMP span) before now r → r ≡ Stop x
+    pub turn-stop : {before now : Mem} {r : Step} {x : Why} → Opened class limit l steady (emit-jump limit op.JUMP span) before now r → r ≡ Stop x
         → Opened class limit l steady (turn-jump limit place span) before now r
     unfolding turn-jump
     turn-stop a q = stopped-to q (refused-bind (stuck-to a q) _)
 
-    pub turn-stop-2 : {before mid now : Mem} {r r′ : Step} {j k : ℕ} {x : Refusal} → Opened class limit l steady (emit-jump limit op.JUMP span) before mid r → r ≡ Next j
+    pub turn-stop-2 : {before mid now : Mem} {r r′ : Step} {j k : ℕ} {x : Why} → Opened class limit l steady (emit-jump limit op.JUMP span) before mid r → r ≡ Next j
         → Did class limit l k steady (patch-jump place span) mid now r′ → r′ ≡ Stop x → Opened class limit l steady (turn-jump limit place span) before now r′
     unfolding turn-jump
     turn-stop-2 a q d q′ = opened-bind (went-to a q) _ (stopped-to q′ (refused-seq (stuck d q′) _))

@@ -5,7 +5,6 @@ use Prim.Native.Nat.{ℕ, _+_, _-_, _*_, _≤_, _<_}
 use native.Mathlib.Omega.{arith}
 use native.Mathlib.Nat.{le-refl}
 use Rattle.rules.specs.declared.Span.{Span}
-use Rattle.rules.specs.declared.Refusal.{Refusal}
 use Rattle.rules.specs.Tree.{Stmt, Stmts, StmtBlock}
 use Rattle.rules.specs.Reader.{got}
 use Rattle.rules.specs.Compiler.{Compiler, Compile, _>>_, begin-scope, end-scope, compile-stmt, compile-stmts}
@@ -17,13 +16,14 @@ use Rattle.steps.specs.View.{Mem, Fit, steady, deeper, shallower, depth-at, Gav
 use Rattle.steps.specs.declared.Step.{Step}
 use Rattle.steps.specs.declared.Step.the-variants.{Next, Stop}
 use Rattle.steps.proofs.Steps.{refused-seq, one-up-one-down}
-use Rattle.expr_parts.specs.Exprs.{There}
+use Rattle.expr_laws.specs.Exprs.{There}
 use Rattle.steps.proofs.Monad.{on-to}
 use Rattle.stmt_output_laws.specs.Output.{funs-left, stmt-at, stmts-at, Worked, Walked, Ready}
 use Rattle.stmt_output_laws.proofs.Growing.{Run, Free, of-gave, of-grew, to-grew, run-seq, run-refused-seq, grown, reached, refused, stopped, conclude, worked-like, ready-after}
 use Rattle.stmt_laws.proofs.Calls.{further}
 use Rattle.stmt_laws.proofs.Cuts.{block-cut}
 use Rattle.fields.specs.Marks as marks
+use Rattle.steps.specs.declared.Why.{Why}
 
 -- ## A statement by what it is, and by its parts
 
@@ -59,7 +59,7 @@ module _ (tree : List ℕ) (l at left : ℕ) (mark : letters tree at ≡ marks.S
 
   module _ {class limit : ℕ} {span : Span} (sp : span ≡ span-of tree (at + 2)) {before open-mem mid : Mem} {out out′ : List ℕ} {r : Step} (o : Gave class limit l deeper begin-scope tt before open-mem)
       (w : Walked class limit l (at + 12) (stmts-at tree (word16 tree (at + 10)) (left - 1) l (at + 12)) (compile-stmts limit) open-mem out mid out′ r) where
-    pub block-stop : {x : Refusal} → r ≡ Stop x → Walked class limit l at (stmt-at tree left l at) (compile-stmt limit) before out mid out′ r
+    pub block-stop : {x : Why} → r ≡ Stop x → Walked class limit l at (stmt-at tree left l at) (compile-stmt limit) before out mid out′ r
     block-stop q = record {
       did = λ s n h.
           let b = block-at tree (word16 tree 2) left (funs-left l) at mark h in

@@ -13,10 +13,10 @@ use Rattle.tree_laws.proofs.Later.{later-stmt}
 use Rattle.state.specs.Layout.{levels, deepest, depth-place, level-words}
 use Rattle.steps.specs.View.{Mem, mem, Fit, depth-at}
 use Rattle.steps.specs.declared.Step.{Step}
-use Rattle.expr_parts.specs.Exprs.{There}
+use Rattle.expr_laws.specs.Exprs.{There}
 use Rattle.stmt_output_laws.specs.Output.{funs-left, stmt-at, stmts-at, Walked, Ready}
 use Rattle.stmt_output_laws.proofs.Growing.{plain}
-use Rattle.stmt_plain.specs.Plain.{Plainly}
+use Rattle.stmt_plain_laws.specs.Plain.{Plainly}
 use Rattle.stmt_loops.specs.Loops.{cond-at, Conditioned, incr-at, Incremented}
 use Rattle.stmt_loops.specs.declared.Cond.{Cond}
 

@@ -8,7 +8,6 @@ use native.Mathlib.Omega.{arith}
 use native.Mathlib.Nat.{le-refl}
 use lib.Dec.{ltb}
 use Rattle.rules.specs.declared.Span.{Span}
-use Rattle.rules.specs.declared.Refusal.{Refusal}
 use Rattle.rules.specs.Tree.{Stmt, StmtClass, Superclass, Methods}
 use Rattle.rules.specs.Reader.{got}
 use Rattle.rules.specs.TreeFile.{maybe, read-superclass, read-method}
@@ -20,18 +19,19 @@ use Rattle.steps.specs.View.{Mem, depth-at, steady, Refused, Did}
 use Rattle.steps.specs.declared.Step.{Step}
 use Rattle.steps.specs.declared.Step.the-variants.{Next, Stop}
 use Rattle.steps.proofs.Steps.{went, valued, stuck, refused-seq}
-use Rattle.expr_parts.specs.Exprs.{There}
+use Rattle.expr_laws.specs.Exprs.{There}
 use Rattle.steps.proofs.Monad.{on-to}
 use Rattle.stmt_output_laws.specs.Output.{funs-left, stmt-at, method-at, methods-at, Grew, Walked, Ready}
 use Rattle.stmt_output_laws.specs.Parts.{open-class, close-class, compile-method}
 use Rattle.stmt_output_laws.proofs.Growing.{Run, of-gave, of-grew, run-seq, run-refused-seq, grown, reached, refused}
 use Rattle.stmt_output_laws.proofs.Growing.{stopped, conclude, ready-after, Onward, onward-start, onward-step, onward-refused, onward-done}
-use Rattle.stmt_classes.specs.Classes.{inner, opening, closing, ClassHead, InnerClass, ClassOpened, ClassClosed}
-use Rattle.stmt_classes.proofs.Cut.{class-then-pop, class-grown, closes, free-closing, some-count}
+use Rattle.stmt_heads.specs.Classes.{inner, opening, closing, ClassHead, InnerClass, ClassOpened, ClassClosed}
+use Rattle.stmt_laws.proofs.ClassCut.{class-then-pop, class-grown, closes, free-closing, some-count}
 use Rattle.stmt_laws.proofs.Calls.{same-on}
 use Rattle.stmt_laws.proofs.Cuts.{no-methods-cut, methods-cut}
 use Rattle.stmt_laws.proofs.Blocks.{by-parts}
 use Rattle.fields.specs.Marks as marks
+use Rattle.steps.specs.declared.Why.{Why}
 
 -- ## The walk over the methods
 
@@ -68,12 +68,12 @@ module _ {class limit l count left from : ℕ} {tree : List ℕ} {before : Mem} 
       → compile-methods limit (w .to methods n r .others) s ≡ (compile-method limit (head-of r h .thing) >> compile-methods limit (head-of r h .others)) s
   cut-here r h s = ap (λ (z : Methods). compile-methods limit z s) (head-of r h .is) ∙ methods-cut limit (head-of r h .thing .0) (head-of r h .thing .1) (head-of r h .others) s
 
-  like-refused : {methods : Methods} {n : ℕ} (r : methods-at tree count left l from ≡ got methods n) (h : 0 < more) {x : Refusal} → Refused class l (compile-method limit (head-of r h .thing)) now x
+  like-refused : {methods : Methods} {n : ℕ} (r : methods-at tree count left l from ≡ got methods n) (h : 0 < more) {x : Why} → Refused class l (compile-method limit (head-of r h .thing)) now x
       → Refused class l (compile-methods limit (w .to methods n r .others)) now x
   like-refused r h f = let g = refused-seq f (compile-methods limit (head-of r h .others)) in record { refuses = λ rest q. cut-here r h _ ∙ g .refuses rest q }
 
   module _ {now′ : Mem} {out″ : List ℕ} {a : Step} (b : Walked class limit l next (method-at tree left l next) (compile-method limit) now out′ now′ out″ a) where
-    pub row-stop : 0 < more → {x : Refusal} → a ≡ Stop x → (methods : Methods) (n : ℕ) → methods-at tree count left l from ≡ got methods n → Refused class l (compile-methods limit methods) before x
+    pub row-stop : 0 < more → {x : Why} → a ≡ Stop x → (methods : Methods) (n : ℕ) → methods-at tree count left l from ≡ got methods n → Refused class l (compile-methods limit methods) before x
     row-stop h q methods n r = let i = head-of r h in onward-refused (w .to methods n r .onward) (like-refused r h (refused (b .did (i .thing) (i .mid) (i .head)) q))
 
     module _ {v : ℕ} (h : 0 < more) (q : a ≡ Next v) where
@@ -158,7 +158,7 @@ module _ (tree : List ℕ) (l at left : ℕ) (mark : letters tree at ≡ marks.S
     whole : {s : Stmt} {n : ℕ} (h : stmt-at tree left l at ≡ got s n) → s ≡ StmtClass span (word16 tree (at + 10)) (parts h .super) (parts h .methods)
     whole h = parts h .is ∙ ap (λ (z : Span). StmtClass z (word16 tree (at + 10)) (parts h .super) (parts h .methods)) (sym sp)
 
-    pub class-stop : (out : List ℕ) {x : Refusal} → ra ≡ Stop x → Walked class limit l at (stmt-at tree left l at) (compile-stmt limit) before out m1 out ra
+    pub class-stop : (out : List ℕ) {x : Why} → ra ≡ Stop x → Walked class limit l at (stmt-at tree left l at) (compile-stmt limit) before out m1 out ra
     class-stop out q = record {
       did = λ s n h. by-parts (whole h) (class-then-pop limit span (word16 tree (at + 10)) (parts h .super) (parts h .methods)) (stopped q (refused-seq (refused-seq (stuck (opened h) q) _) _));
     }
@@ -195,7 +195,7 @@ module _ (tree : List ℕ) (l at left : ℕ) (mark : letters tree at ≡ marks.S
         rows : {s : Stmt} {n : ℕ} (h : stmt-at tree left l at ≡ got s n) → methods-at tree (word16 tree (at + 13)) (left - 1) l first ≡ got (parts h .methods) n
         rows h = ap (methods-at tree (word16 tree (at + 13)) (left - 1) l) (here h) ∙ parts h .row-is
 
-        pub class-stop-2 : 0 < more → {m3 : Mem} {out3 : List ℕ} {rb : Step} {x : Refusal}
+        pub class-stop-2 : 0 < more → {m3 : Mem} {out3 : List ℕ} {rb : Step} {x : Why}
             → Walked inner-class limit l next (method-at tree (left - 1) l next) (compile-method limit) m2 out2 m3 out3 rb → rb ≡ Stop x
             → Walked class limit l at (stmt-at tree left l at) (compile-stmt limit) before out m3 out3 rb
         class-stop-2 g {rb = rb} {x = x} b q = record {

@@ -9,7 +9,6 @@ use native.Mathlib.Nat.{le-refl, le-trans}
 use lib.Dec.{eqb}
 use borrow.Author.Tests.{eqb-true, eqb-false}
 use Rattle.rules.specs.declared.Span.{Span}
-use Rattle.rules.specs.declared.Refusal.{Refusal}
 use Rattle.rules.specs.Tree.{Expr, Stmt, Stmts, StmtWhile, StmtFor}
 use Rattle.rules.specs.Reader.{got, Reader}
 use Rattle.rules.specs.TreeFile.{maybe, maybe-stmt, read-expr, read-stmt, read-stmts}
@@ -22,7 +21,7 @@ use Rattle.steps.specs.View.{Mem, Fit, code-len, depth-at, steady, deeper, shal
 use Rattle.steps.specs.declared.Step.{Step}
 use Rattle.steps.specs.declared.Step.the-variants.{Next, Stop}
 use Rattle.steps.proofs.Steps.{went, still, valued, stuck, went-to, placed, stuck-to, refused-seq, refused-bind, one-up-one-down}
-use Rattle.expr_parts.specs.Exprs.{There, expr-at, Ran}
+use Rattle.expr_laws.specs.Exprs.{There, expr-at, Ran}
 use Rattle.stmt_jumps.specs.Jumps.{open-jump}
 use Rattle.steps.proofs.Monad.{on-to}
 use Rattle.stmt_output_laws.specs.Output.{funs-left, stmt-at, stmts-at, Grew, Worked, Walked, Ready}
@@ -35,6 +34,7 @@ use Rattle.stmt_laws.proofs.Cuts.{for-cut}
 use Rattle.stmt_laws.proofs.Blocks.{by-parts, begun, less-deep, over-zero, free-shallower}
 use Rattle.stmt_laws.proofs.Ifs.{none-row, one-row, no-deeper, eleven-on}
 use Rattle.fields.specs.Marks as marks
+use Rattle.steps.specs.declared.Why.{Why}
 
 small : (k : ℕ) → k < 2 → (k ≡ 1 → ⊥) → k ≡ 0
 small k h g = omega arith
@@ -75,7 +75,7 @@ module _ (tree : List ℕ) (l at left : ℕ) (mark : letters tree at ≡ marks.S
     init-did : {s : Stmt} {n : ℕ} (h : stmt-at tree left l at ≡ got s n) → Worked class limit l (at + 11) (parts h .mid₁) (compile-stmts limit (parts h .init)) m0 out m1 out1 ra
     init-did h = w .did (parts h .init) (parts h .mid₁) (init-row h)
 
-    pub for-stop : (sp : span ≡ span-of tree (at + 2)) {x : Refusal} → ra ≡ Stop x → Walked class limit l at (stmt-at tree left l at) (compile-stmt limit) before out m1 out1 ra
+    pub for-stop : (sp : span ≡ span-of tree (at + 2)) {x : Why} → ra ≡ Stop x → Walked class limit l at (stmt-at tree left l at) (compile-stmt limit) before out m1 out1 ra
     for-stop sp q = record {
       did = λ s n h. by-parts (whole span sp h) (for-cut limit span (parts h .init) (parts h .cond) (parts h .body) (parts h .incr))
           (stopped q (run-refused-seq scope _ (refused-seq (refused (init-did h) q) _)));
@@ -105,7 +105,7 @@ module _ (tree : List ℕ) (l at left : ℕ) (mark : letters tree at ≡ marks.S
         tested : {s : Stmt} {n : ℕ} (h : stmt-at tree left l at ≡ got s n) → ConditionedAs class limit l (parts h .mid₂) (parts h .cond) span m1 m2 (b .some) (b .place) (b .step)
         tested h = t .did (parts h .cond) (parts h .mid₂) (cond-read h)
 
-        pub for-stop-2 : (sp : span ≡ span-of tree (at + 2)) {x : Refusal} → b .step ≡ Stop x → Walked class limit l at (stmt-at tree left l at) (compile-stmt limit) before out m2 out1 (b .step)
+        pub for-stop-2 : (sp : span ≡ span-of tree (at + 2)) {x : Why} → b .step ≡ Stop x → Walked class limit l at (stmt-at tree left l at) (compile-stmt limit) before out m2 out1 (b .step)
         for-stop-2 sp q = record {
           did = λ s n h. by-parts (whole span sp h) (for-cut limit span (parts h .init) (parts h .cond) (parts h .body) (parts h .incr))
               (stopped q
@@ -145,7 +145,7 @@ module _ (tree : List ℕ) (l at left : ℕ) (mark : letters tree at ≡ marks.S
             body-did : {s : Stmt} {n : ℕ} (h : stmt-at tree left l at ≡ got s n) → Worked class limit l n2 (parts h .mid₃) (compile-stmt limit (parts h .body)) m2 out1 m3 out3 rd
             body-did h = d .did (parts h .body) (parts h .mid₃) (ap (read-stmt tree (word16 tree 2) (left - 1) (funs-left l)) (passed h .1) ∙ parts h .three)
 
-            pub for-stop-3 : (sp : span ≡ span-of tree (at + 2)) {x : Refusal} → rd ≡ Stop x → Walked class limit l at (stmt-at tree left l at) (compile-stmt limit) before out m3 out3 rd
+            pub for-stop-3 : (sp : span ≡ span-of tree (at + 2)) {x : Why} → rd ≡ Stop x → Walked class limit l at (stmt-at tree left l at) (compile-stmt limit) before out m3 out3 rd
             for-stop-3 sp q = record {
               did = λ s n h. by-parts (whole span sp h) (for-cut limit span (parts h .init) (parts h .cond) (parts h .body) (parts h .incr))
                   (stopped q (run-refused-seq scope _ (run-refused-seq (first h) _ (run-refused (asked {k = parts h .mid₁}) _ (run-refused (second h) _ (refused-seq (refused (body-did h) q) _))))));
@@ -165,7 +165,7 @@ module _ (tree : List ℕ) (l at left : ℕ) (mark : letters tree at ≡ marks.S
               for-incr-there h = record { thing = parts (h .is) .incr; next = h .next; is = incr-read (h .is) }
 
               module _ {m4 : Mem} {re : Step} (e : Incremented class limit l (incr-at tree (word8 tree (at + 10)) (left - 1) n3) span m3 m4 re) where
-                pub for-stop-4 : (sp : span ≡ span-of tree (at + 2)) {x : Refusal} → re ≡ Stop x → Walked class limit l at (stmt-at tree left l at) (compile-stmt limit) before out m4 out3 re
+                pub for-stop-4 : (sp : span ≡ span-of tree (at + 2)) {x : Why} → re ≡ Stop x → Walked class limit l at (stmt-at tree left l at) (compile-stmt limit) before out m4 out3 re
                 for-stop-4 sp q = record {
                   did = λ s n h. by-parts (whole span sp h) (for-cut limit span (parts h .init) (parts h .cond) (parts h .body) (parts h .incr))
                       (stopped q
@@ -193,7 +193,7 @@ module _ (tree : List ℕ) (l at left : ℕ) (mark : letters tree at ≡ marks.S
                   for-place h q = still (b .place) (still (b .place) (passed (h .is) .2 q) (third (h .is) .gave)) (fourth (h .is) .gave)
 
                   module _ {m5 : Mem} {rf : Step} (f : Did class limit l n4 steady (close-loop limit start (place-of (b .some) (b .place)) span) m4 m5 rf) where
-                    pub for-stop-5 : (sp : span ≡ span-of tree (at + 2)) {x : Refusal} → rf ≡ Stop x → Walked class limit l at (stmt-at tree left l at) (compile-stmt limit) before out m5 out3 rf
+                    pub for-stop-5 : (sp : span ≡ span-of tree (at + 2)) {x : Why} → rf ≡ Stop x → Walked class limit l at (stmt-at tree left l at) (compile-stmt limit) before out m5 out3 rf
                     for-stop-5 sp q = record {
                       did = λ s n h. by-parts (whole span sp h) (for-cut limit span (parts h .init) (parts h .cond) (parts h .body) (parts h .incr))
                           (stopped q

@@ -8,7 +8,6 @@ use native.Mathlib.Nat.{le-refl, le-trans}
 use lib.ListN.{length, getD}
 use Rattle.rules.specs.Limits.{max-tree}
 use Rattle.rules.specs.declared.Span.{Span}
-use Rattle.rules.specs.declared.Refusal.{Refusal}
 use Rattle.rules.specs.declared.Refusal.the-variants.{TreeForm}
 use Rattle.rules.specs.Tree.{Stmt, StmtFun, Stmts, Fun, fun}
 use Rattle.rules.specs.Reader.{got, many}
@@ -24,7 +23,7 @@ use Rattle.steps.specs.View.{Mem, mem, t-of, Rest, view, Agrees, Fit, code-len,
 use Rattle.steps.specs.declared.Step.{Step}
 use Rattle.steps.specs.declared.Step.the-variants.{Next, Stop}
 use Rattle.steps.proofs.Steps.{seq-ok, seq-err, refused-seq}
-use Rattle.expr_parts.specs.Exprs.{There}
+use Rattle.expr_laws.specs.Exprs.{There}
 use Rattle.steps.proofs.Monad.{on-to}
 use Rattle.stmt_output_laws.specs.Output.{funs-left, stmt-at, stmts-at, fun-at, largest, Holds, Added, more, grow, Grew, WorkedAs, Worked, Walked, Ready}
 use Rattle.stmt_output_laws.specs.Output as output
@@ -35,6 +34,8 @@ use Rattle.stmt_functions.proofs.Cut.{function-cut}
 use Rattle.stmt_laws.proofs.Cuts.{fun-cut}
 use Rattle.stmt_laws.proofs.Blocks.{by-parts}
 use Rattle.fields.specs.Marks as marks
+use Rattle.steps.specs.Why.{refusal-of}
+use Rattle.steps.specs.declared.Why.{Why}
 
 -- ## Numbers
 
@@ -103,7 +104,7 @@ module _ (tree : List ℕ) (l at left kind : ℕ) (span : Span) where
     opens : {f : Fun} {n : ℕ} (h : fun-at tree left l at ≡ got f n) → FunctionOpenedAs l (parts h .mid) (open-function (type-of kind) (word16 tree (at + 10)) (parts h .params) span) t t1 ra
     opens h = a .did (parts h .params) (parts h .mid) (parts h .row-is)
 
-    pub function-stop : {class limit : ℕ} (code spans out : List ℕ) {x : Refusal} → ra ≡ Stop x
+    pub function-stop : {class limit : ℕ} (code spans out : List ℕ) {x : Why} → ra ≡ Stop x
         → Walked class limit l at (fun-at tree left l at) (λ f. compile-function limit f (type-of kind) span) (mem t code spans) out (mem t1 code spans) out ra
     function-stop {class} {limit} code spans out {x} q = record {
       did = λ f n h.
@@ -154,7 +155,7 @@ module _ (tree : List ℕ) (l at left kind : ℕ) (span : Span) where
         agreed : {f : Fun} {n : ℕ} (h : fun-at tree left l at ≡ got f n) → suc l < levels → (rest : Rest) → Agrees class (mem t code spans) rest → Agrees class (mem t1 code spans) rest
         agreed h low rest g = record { innermost = g .innermost; made = g .made ∙ sym (image-kept h low image-at (le-refl image-at)) }
 
-        pub function-stop-2 : suc l < levels → {x : Refusal} → rb ≡ Stop x
+        pub function-stop-2 : suc l < levels → {x : Why} → rb ≡ Stop x
             → Walked class limit l at (fun-at tree left l at) (λ f. compile-function limit f (type-of kind) span) (mem t code spans) out m2 out2 rb
         function-stop-2 low q = record {
           did = λ f n h.
@@ -235,7 +236,7 @@ module _ (tree : List ℕ) (l at left kind : ℕ) (span : Span) where
                   added = added-function h d;
                 }
 
-            refuses : {f : Fun} {n : ℕ} (h : fun-at tree left l at ≡ got f n) {x : Refusal} → ((rest : Rest) → Agrees class m2 rest → close-function limit span (view m2 (suc l) rest) ≡ err x)
+            refuses : {f : Fun} {n : ℕ} (h : fun-at tree left l at ≡ got f n) {x : Why} → ((rest : Rest) → Agrees class m2 rest → close-function limit span (view m2 (suc l) rest) ≡ err (refusal-of x))
                 → Refused class l (open-function (type-of kind) (word16 tree (at + 10)) (parts h .params) span >> (compile-stmts limit (parts h .body) >> close-function limit span))
                 (mem t code spans) x
             refuses h z = record {
@@ -293,7 +294,7 @@ module _ (tree : List ℕ) (l at left : ℕ) (mark : letters tree at ≡ marks.S
     fun-whole : {s : Stmt} {n : ℕ} (h : stmt-at tree left l at ≡ got s n) → s ≡ StmtFun span (stmt-parts h .function)
     fun-whole h = stmt-parts h .is ∙ ap (λ (z : Span). StmtFun z (stmt-parts h .function)) (sym sp)
 
-    pub fun-stop : {x : Refusal} → ra ≡ Stop x → Walked class limit l at (stmt-at tree left l at) (compile-stmt limit) before out m1 out1 ra
+    pub fun-stop : {x : Why} → ra ≡ Stop x → Walked class limit l at (stmt-at tree left l at) (compile-stmt limit) before out m1 out1 ra
     fun-stop q = record { did = λ s n h. by-parts (fun-whole h) (fun-cut limit span (stmt-parts h .function)) (stopped q (refused-seq (refused (function-did h) q) _)) }
 
     pub fun-fit : {n1 : ℕ} → There (stmt-at tree left l at) → ra ≡ Next n1 → Fit m1 l limit
@@ -350,7 +351,7 @@ module _ (tree : List ℕ) (l at left : ℕ) where
     unfolding compile-method
     by-method {f = f} q w = worked-like (λ z. ap (λ (s : Span × Fun). compile-method limit s z) (q ∙ ap (λ (x : Span). (x, f)) (sym sp))) w
 
-    pub method-stop : {x : Refusal} → ra ≡ Stop x → Walked class limit l at (output.method-at tree left l at) (compile-method limit) before out m1 out1 ra
+    pub method-stop : {x : Why} → ra ≡ Stop x → Walked class limit l at (output.method-at tree left l at) (compile-method limit) before out m1 out1 ra
     method-stop q = record { did = λ s n h. by-method (method-parts h .is) (stopped q (refused-seq (refused (method-did h) q) _)) }
 
     pub method-fit : {n1 : ℕ} → There (output.method-at tree left l at) → ra ≡ Next n1 → Fit m1 l limit

@@ -10,7 +10,6 @@ use native.Mathlib.Omega.{arith}
 use native.Mathlib.Nat.{le-refl}
 use Rattle.rules.specs.Base.{lookup}
 use Rattle.rules.specs.declared.Span.{Span}
-use Rattle.rules.specs.declared.Refusal.{Refusal}
 use Rattle.rules.specs.Tree.{Stmt, Stmts, StmtIf, []ˢ, _∷ˢ_}
 use Rattle.rules.specs.Reader.{got, Reader, go-on, return, _>>=_}
 use Rattle.rules.specs.TreeFile.{flags, maybe-stmt, read-expr, read-stmt, read-stmts}
@@ -23,7 +22,7 @@ use Rattle.steps.specs.View.{Mem, Fit, code-len, depth-at, steady, Gave, Refuse
 use Rattle.steps.specs.declared.Step.{Step}
 use Rattle.steps.specs.declared.Step.the-variants.{Next, Stop}
 use Rattle.steps.proofs.Steps.{went, still, valued, stuck, went-to, placed, stuck-to, refused-seq, refused-bind}
-use Rattle.expr_parts.specs.Exprs.{There, expr-at, Ran}
+use Rattle.expr_laws.specs.Exprs.{There, expr-at, Ran}
 use Rattle.stmt_jumps.specs.Jumps.{open-jump, turn-jump}
 use Rattle.steps.proofs.Monad.{on-to}
 use Rattle.stmt_output_laws.specs.Output.{funs-left, stmt-at, stmts-at, Grew, Worked, Walked, Ready}
@@ -31,6 +30,7 @@ use Rattle.stmt_output_laws.proofs.Growing.{Run, free-steady, of-gave, of-grew,
 use Rattle.stmt_laws.proofs.Cuts.{if-cut}
 use Rattle.stmt_laws.proofs.Blocks.{by-parts}
 use Rattle.fields.specs.Marks as marks
+use Rattle.steps.specs.declared.Why.{Why}
 
 -- a part that may be missing is a row of none or one
 pub none-row : (stmt : Reader Stmt) (at : ℕ) → read-stmts 0 stmt at ≡ maybe-stmt false stmt at
@@ -67,7 +67,7 @@ module _ (tree : List ℕ) (l at left : ℕ) (mark : letters tree at ≡ marks.S
   whole span sp h = parts h .is ∙ ap (λ (z : Span). StmtIf z (parts h .cond) (parts h .yes-part) (parts h .no-part)) (sym sp)
 
   module _ (span : Span) {class limit : ℕ} {before m1 : Mem} {ra : Step} (a : Ran class limit l (expr-at tree (left - 1) (at + 11)) before m1 ra) where
-    pub if-stop : (sp : span ≡ span-of tree (at + 2)) (out : List ℕ) {x : Refusal} → ra ≡ Stop x → Walked class limit l at (stmt-at tree left l at) (compile-stmt limit) before out m1 out ra
+    pub if-stop : (sp : span ≡ span-of tree (at + 2)) (out : List ℕ) {x : Why} → ra ≡ Stop x → Walked class limit l at (stmt-at tree left l at) (compile-stmt limit) before out m1 out ra
     if-stop sp out q = record {
       did = λ s n h. by-parts (whole span sp h) (if-cut limit span (parts h .cond) (parts h .yes-part) (parts h .no-part))
           (stopped q (refused-seq (stuck (a .did (parts h .cond) (parts h .mid) (parts h .one)) q) _));
@@ -92,7 +92,7 @@ module _ (tree : List ℕ) (l at left : ℕ) (mark : letters tree at ≡ marks.S
           (went (a .did (parts h .cond) (parts h .mid) (parts h .one)) qa)
 
       module _ {m2 : Mem} {rb : Step} (b : Opened class limit l steady (open-jump limit span) m1 m2 rb) where
-        pub if-stop-2 : (sp : span ≡ span-of tree (at + 2)) (out : List ℕ) {x : Refusal} → rb ≡ Stop x → Walked class limit l at (stmt-at tree left l at) (compile-stmt limit) before out m2 out rb
+        pub if-stop-2 : (sp : span ≡ span-of tree (at + 2)) (out : List ℕ) {x : Why} → rb ≡ Stop x → Walked class limit l at (stmt-at tree left l at) (compile-stmt limit) before out m2 out rb
         if-stop-2 sp out q = record {
           did = λ s n h. by-parts (whole span sp h) (if-cut limit span (parts h .cond) (parts h .yes-part) (parts h .no-part))
               (stopped q (run-refused-seq (first out h) _ (refused-bind (stuck-to b q) _)));
@@ -112,7 +112,7 @@ module _ (tree : List ℕ) (l at left : ℕ) (mark : letters tree at ≡ marks.S
             then-did : {s : Stmt} {n : ℕ} (h : stmt-at tree left l at ≡ got s n) → Worked class limit l n1 (parts h .late) (compile-stmt limit (parts h .yes-part)) m2 out m3 out3 rd
             then-did h = d .did (parts h .yes-part) (parts h .late) (ap (read-stmt tree (word16 tree 2) (left - 1) (funs-left l)) (here h) ∙ parts h .two)
 
-            pub if-stop-3 : (sp : span ≡ span-of tree (at + 2)) {x : Refusal} → rd ≡ Stop x → Walked class limit l at (stmt-at tree left l at) (compile-stmt limit) before out m3 out3 rd
+            pub if-stop-3 : (sp : span ≡ span-of tree (at + 2)) {x : Why} → rd ≡ Stop x → Walked class limit l at (stmt-at tree left l at) (compile-stmt limit) before out m3 out3 rd
             if-stop-3 sp q = record {
               did = λ s n h. by-parts (whole span sp h) (if-cut limit span (parts h .cond) (parts h .yes-part) (parts h .no-part))
                   (stopped q (run-refused-seq (first out h) _ (run-refused (second out) _ (refused-seq (refused (then-did h) q) _))));
@@ -140,7 +140,7 @@ module _ (tree : List ℕ) (l at left : ℕ) (mark : letters tree at ≡ marks.S
               if-fit-2 h = third (h .is) .gave .ahead .fit
 
               module _ {m4 : Mem} {re : Step} (e : Opened class limit l steady (turn-jump limit j span) m3 m4 re) where
-                pub if-stop-4 : (sp : span ≡ span-of tree (at + 2)) {x : Refusal} → re ≡ Stop x → Walked class limit l at (stmt-at tree left l at) (compile-stmt limit) before out m4 out3 re
+                pub if-stop-4 : (sp : span ≡ span-of tree (at + 2)) {x : Why} → re ≡ Stop x → Walked class limit l at (stmt-at tree left l at) (compile-stmt limit) before out m4 out3 re
                 if-stop-4 sp q = record {
                   did = λ s n h. by-parts (whole span sp h) (if-cut limit span (parts h .cond) (parts h .yes-part) (parts h .no-part))
                       (stopped q (run-refused-seq (first out h) _ (run-refused (second out) _ (run-refused-seq (third h) _ (refused-bind (stuck-to e q) _)))));
@@ -170,7 +170,7 @@ module _ (tree : List ℕ) (l at left : ℕ) (mark : letters tree at ≡ marks.S
                     else-did : {s : Stmt} {n : ℕ} (h : stmt-at tree left l at ≡ got s n) → Worked class limit l n2 n (compile-stmts limit (parts h .no-part)) m4 out3 m5 out5 rf
                     else-did {s} {n} h = f .did (parts h .no-part) n (row-of h)
 
-                    pub if-stop-5 : (sp : span ≡ span-of tree (at + 2)) {x : Refusal} → rf ≡ Stop x → Walked class limit l at (stmt-at tree left l at) (compile-stmt limit) before out m5 out5 rf
+                    pub if-stop-5 : (sp : span ≡ span-of tree (at + 2)) {x : Why} → rf ≡ Stop x → Walked class limit l at (stmt-at tree left l at) (compile-stmt limit) before out m5 out5 rf
                     if-stop-5 sp q = record {
                       did = λ s n h. by-parts (whole span sp h) (if-cut limit span (parts h .cond) (parts h .yes-part) (parts h .no-part))
                           (stopped q

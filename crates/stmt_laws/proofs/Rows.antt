@@ -3,7 +3,6 @@ use mathlib.Core.Path.{_≡_, refl, sym, ap, subst, _∙_}
 use mathlib.Core.List.{List, []}
 use Prim.Native.Nat.{ℕ, suc, _+_, _-_, _*_, _≤_, _<_}
 use native.Mathlib.Omega.{arith}
-use Rattle.rules.specs.declared.Refusal.{Refusal}
 use Rattle.rules.specs.Tree.{Stmt, Stmts, []ˢ, _∷ˢ_}
 use Rattle.rules.specs.Reader.{got}
 use Rattle.rules.specs.TreeFile.{read-stmt, read-stmts}
@@ -15,10 +14,11 @@ use Rattle.steps.specs.View.{Mem, Fit, depth-at, Refused}
 use Rattle.steps.specs.declared.Step.{Step}
 use Rattle.steps.specs.declared.Step.the-variants.{Next, Stop}
 use Rattle.steps.proofs.Steps.{refused-seq}
-use Rattle.expr_parts.specs.Exprs.{There}
+use Rattle.expr_laws.specs.Exprs.{There}
 use Rattle.stmt_output_laws.specs.Output.{funs-left, stmt-at, stmts-at, Grew, Worked, Walked, Ready}
 use Rattle.stmt_output_laws.proofs.Growing.{of-grew, ready-after, grown, reached, refused, worked, stopped, Onward, onward-start, onward-step, onward-refused, onward-done}
 use Rattle.stmt_laws.proofs.Cuts.{none-cut, row-cut}
+use Rattle.steps.specs.declared.Why.{Why}
 
 -- what is left of a row from `from` on, of which `stmts` is the whole
 pub record Remains (class limit l : ℕ) (tree : List ℕ) (left from : ℕ) (stmts : Stmts) (n : ℕ) (before : Mem) (out : List ℕ) (now : Mem) (out′ : List ℕ) (next more : ℕ) : Type 0 where
@@ -49,12 +49,12 @@ module _ {class limit l count left from : ℕ} {tree : List ℕ} {before : Mem} 
       → compile-stmts limit (w .to stmts n r .others) s ≡ (compile-stmt limit (head-of r h .one) >> compile-stmts limit (head-of r h .others)) s
   cut-here r h s = ap (λ (z : Stmts). compile-stmts limit z s) (head-of r h .is) ∙ row-cut limit (head-of r h .one) (head-of r h .others) s
 
-  like-refused : {stmts : Stmts} {n : ℕ} (r : stmts-at tree count left l from ≡ got stmts n) (h : 0 < more) {x : Refusal} → Refused class l (compile-stmt limit (head-of r h .one)) now x
+  like-refused : {stmts : Stmts} {n : ℕ} (r : stmts-at tree count left l from ≡ got stmts n) (h : 0 < more) {x : Why} → Refused class l (compile-stmt limit (head-of r h .one)) now x
       → Refused class l (compile-stmts limit (w .to stmts n r .others)) now x
   like-refused r h f = let g = refused-seq f (compile-stmts limit (head-of r h .others)) in record { refuses = λ rest q. cut-here r h _ ∙ g .refuses rest q }
 
   module _ {now′ : Mem} {out″ : List ℕ} {a : Step} (b : Walked class limit l next (stmt-at tree left l next) (compile-stmt limit) now out′ now′ out″ a) where
-    pub row-stop : 0 < more → {x : Refusal} → a ≡ Stop x → Walked class limit l from (stmts-at tree count left l from) (compile-stmts limit) before out now′ out″ a
+    pub row-stop : 0 < more → {x : Why} → a ≡ Stop x → Walked class limit l from (stmts-at tree count left l from) (compile-stmts limit) before out now′ out″ a
     row-stop h q = record {
       did = λ stmts n r.
           let i = head-of r h in

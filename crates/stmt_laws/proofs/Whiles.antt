@@ -8,7 +8,6 @@ use native.Mathlib.Omega.{arith}
 use native.Mathlib.Nat.{le-refl, le-trans}
 use lib.Dec.{eqb}
 use Rattle.rules.specs.declared.Span.{Span}
-use Rattle.rules.specs.declared.Refusal.{Refusal}
 use Rattle.rules.specs.Tree.{Expr, Stmt, Stmts, StmtWhile, StmtFor}
 use Rattle.rules.specs.Reader.{got, Reader}
 use Rattle.rules.specs.TreeFile.{maybe, maybe-stmt, read-expr, read-stmt, read-stmts}
@@ -21,7 +20,7 @@ use Rattle.steps.specs.View.{Mem, Fit, code-len, depth-at, steady, deeper, shal
 use Rattle.steps.specs.declared.Step.{Step}
 use Rattle.steps.specs.declared.Step.the-variants.{Next, Stop}
 use Rattle.steps.proofs.Steps.{went, still, valued, stuck, went-to, placed, stuck-to, refused-seq, refused-bind, one-up-one-down}
-use Rattle.expr_parts.specs.Exprs.{There, expr-at, Ran}
+use Rattle.expr_laws.specs.Exprs.{There, expr-at, Ran}
 use Rattle.stmt_jumps.specs.Jumps.{open-jump}
 use Rattle.steps.proofs.Monad.{on-to}
 use Rattle.stmt_output_laws.specs.Output.{funs-left, stmt-at, stmts-at, Grew, Worked, Walked, Ready}
@@ -32,6 +31,7 @@ use Rattle.stmt_laws.proofs.Blocks.{by-parts}
 use Rattle.stmt_laws.proofs.Calls.{ten-on}
 use Rattle.stmt_laws.proofs.Ifs.{no-deeper}
 use Rattle.fields.specs.Marks as marks
+use Rattle.steps.specs.declared.Why.{Why}
 
 module _ (tree : List ℕ) (l at left : ℕ) (mark : letters tree at ≡ marks.SW) where
   abbrev parts : {s : Stmt} {n : ℕ} → stmt-at tree left l at ≡ got s n
@@ -49,7 +49,7 @@ module _ (tree : List ℕ) (l at left : ℕ) (mark : letters tree at ≡ marks.S
     asked out = told-run out fit (le-refl at) ask
 
     module _ {m1 : Mem} {ra : Step} (a : Ran class limit l (expr-at tree (left - 1) (at + 10)) before m1 ra) where
-      pub while-stop : (sp : span ≡ span-of tree (at + 2)) (out : List ℕ) {x : Refusal} → ra ≡ Stop x → Walked class limit l at (stmt-at tree left l at) (compile-stmt limit) before out m1 out ra
+      pub while-stop : (sp : span ≡ span-of tree (at + 2)) (out : List ℕ) {x : Why} → ra ≡ Stop x → Walked class limit l at (stmt-at tree left l at) (compile-stmt limit) before out m1 out ra
       while-stop sp out q = record {
         did = λ s n h. by-parts (whole span sp h) (while-cut limit span (parts h .cond) (parts h .body))
             (stopped q (run-refused (asked out) _ (refused-seq (stuck (a .did (parts h .cond) (parts h .mid) (parts h .one)) q) _)));
@@ -74,7 +74,7 @@ module _ (tree : List ℕ) (l at left : ℕ) (mark : letters tree at ≡ marks.S
             (went (a .did (parts h .cond) (parts h .mid) (parts h .one)) qa)
 
         module _ {m2 : Mem} {rb : Step} (b : Opened class limit l steady (open-jump limit span) m1 m2 rb) where
-          pub while-stop-2 : (sp : span ≡ span-of tree (at + 2)) (out : List ℕ) {x : Refusal} → rb ≡ Stop x → Walked class limit l at (stmt-at tree left l at) (compile-stmt limit) before out m2 out rb
+          pub while-stop-2 : (sp : span ≡ span-of tree (at + 2)) (out : List ℕ) {x : Why} → rb ≡ Stop x → Walked class limit l at (stmt-at tree left l at) (compile-stmt limit) before out m2 out rb
           while-stop-2 sp out q = record {
             did = λ s n h. by-parts (whole span sp h) (while-cut limit span (parts h .cond) (parts h .body))
                 (stopped q (run-refused (asked out) _ (run-refused-seq (first out h) _ (refused-bind (stuck-to b q) _))));
@@ -94,7 +94,7 @@ module _ (tree : List ℕ) (l at left : ℕ) (mark : letters tree at ≡ marks.S
               body-did : {s : Stmt} {n : ℕ} (h : stmt-at tree left l at ≡ got s n) → Worked class limit l n1 n (compile-stmt limit (parts h .body)) m2 out m3 out3 rd
               body-did {s} {n} h = d .did (parts h .body) n (ap (read-stmt tree (word16 tree 2) (left - 1) (funs-left l)) (here h) ∙ parts h .two)
 
-              pub while-stop-3 : (sp : span ≡ span-of tree (at + 2)) {x : Refusal} → rd ≡ Stop x → Walked class limit l at (stmt-at tree left l at) (compile-stmt limit) before out m3 out3 rd
+              pub while-stop-3 : (sp : span ≡ span-of tree (at + 2)) {x : Why} → rd ≡ Stop x → Walked class limit l at (stmt-at tree left l at) (compile-stmt limit) before out m3 out3 rd
               while-stop-3 sp q = record {
                 did = λ s n h. by-parts (whole span sp h) (while-cut limit span (parts h .cond) (parts h .body))
                     (stopped q (run-refused (asked out) _ (run-refused-seq (first out h) _ (run-refused (second out) _ (refused-seq (refused (body-did h) q) _)))));

@@ -8,7 +8,6 @@ use native.Mathlib.Omega.{arith}
 use lib.Dec.{eqb}
 use borrow.Author.Tests.{eq-eqb, ne-eqb}
 use Rattle.rules.specs.declared.Span.{Span}
-use Rattle.rules.specs.declared.Refusal.{Refusal}
 use Rattle.rules.specs.Tree.{Expr}
 use Rattle.rules.specs.Reader.{got, Reader}
 use Rattle.rules.specs.TreeFile.{maybe}
@@ -19,11 +18,12 @@ use Rattle.steps.specs.View.{Mem, Fit, steady, Gave, Refused, Did, Opened}
 use Rattle.steps.specs.declared.Step.{Step}
 use Rattle.steps.specs.declared.Step.the-variants.{Next, Stop}
 use Rattle.steps.proofs.Steps.{went, valued, stuck, went-to, placed, stuck-to, next-at, halt, then-on, refused-bind, refused-seq, gave-bind, gave-seq, gave-refused-seq}
-use Rattle.expr_parts.specs.Exprs.{There, Somewhere, expr-at, Ran}
+use Rattle.expr_laws.specs.Exprs.{There, Somewhere, expr-at, Ran}
 use Rattle.stmt_jumps.specs.Jumps.{open-jump}
 use Rattle.steps.proofs.Monad.{on-to, returned, nothing}
 use Rattle.stmt_jumps.proofs.Jumps.{open-cut}
 use Rattle.stmt_loops.specs.Loops.{cond-at, incr-at, CondThere, IncrThere, ConditionedAs, Conditioned, Incremented}
+use Rattle.steps.specs.declared.Why.{Why}
 
 -- ## What the flag k announces
 
@@ -57,7 +57,7 @@ module _ {class limit l : ℕ} (span : Span) {before now : Mem} {b : Step} (d : 
       let h = gave-bind g (λ j. return (some j)) (returned (some place) (g .ahead .fit)) in
       record { comes = λ rest q. jump-cut limit span _ ∙ h .comes rest q; agrees = h .agrees; ahead = h .ahead }
 
-  jump-refused : {x : Refusal} → b ≡ Stop x → Refused class l (emit-jump limit op.JUMP-IF-FALSE span >>= λ j. emit-op limit op.POP span >> return (some j)) before x
+  jump-refused : {x : Why} → b ≡ Stop x → Refused class l (emit-jump limit op.JUMP-IF-FALSE span >>= λ j. emit-op limit op.POP span >> return (some j)) before x
   jump-refused z = record { refuses = λ rest q. jump-cut limit span _ ∙ refused-bind (stuck-to d z) (λ j. return (some j)) .refuses rest q }
 
 -- ## The condition
@@ -79,7 +79,7 @@ module _ {class limit l : ℕ} {span : Span} (tree : List ℕ) (parts left at : 
 
   module _ (q : parts / 2 % 2 ≡ 1) where
     -- a refusal on the way
-    stopped : {now : Mem} {b : Step} {y : Refusal} → b ≡ Stop y → ((e : Expr) (n : ℕ) → expr-at tree left at ≡ got e n → Refused class l (for-cond limit (some e) span) before y)
+    stopped : {now : Mem} {b : Step} {y : Why} → b ≡ Stop y → ((e : Expr) (n : ℕ) → expr-at tree left at ≡ got e n → Refused class l (for-cond limit (some e) span) before y)
         → Conditioned class limit l (cond-at tree parts left at) span before now (record { step = b; some = false; place = 0 })
     stopped {now} {y = y} z f = record {
       did = λ cond n r.
@@ -89,12 +89,12 @@ module _ {class limit l : ℕ} {span : Span} (tree : List ℕ) (parts left at : 
     }
 
     module _ {mid : Mem} {a : Step} (x : Ran class limit l (expr-at tree left at) before mid a) where
-      pub cond-stop : {y : Refusal} → a ≡ Stop y → Conditioned class limit l (cond-at tree parts left at) span before mid (record { step = a; some = false; place = 0 })
+      pub cond-stop : {y : Why} → a ≡ Stop y → Conditioned class limit l (cond-at tree parts left at) span before mid (record { step = a; some = false; place = 0 })
       unfolding for-cond
       cond-stop z = stopped z (λ e n r. refused-seq (stuck (x .did e n r) z) _)
 
       module _ {v : ℕ} (z : a ≡ Next v) {now : Mem} {b : Step} (d : Opened class limit l steady (open-jump limit span) mid now b) where
-        pub cond-stop-2 : {y : Refusal} → b ≡ Stop y → Conditioned class limit l (cond-at tree parts left at) span before now (record { step = b; some = false; place = 0 })
+        pub cond-stop-2 : {y : Why} → b ≡ Stop y → Conditioned class limit l (cond-at tree parts left at) span before now (record { step = b; some = false; place = 0 })
         unfolding for-cond
         cond-stop-2 z′ = stopped z′ (λ e n r. gave-refused-seq (went (x .did e n r) z) _ (jump-refused span d z′))
 
@@ -131,7 +131,7 @@ module _ {class limit l : ℕ} {span : Span} (tree : List ℕ) (parts left at : 
     }
 
     module _ {mid : Mem} {a : Step} (x : Ran class limit l (expr-at tree left at) before mid a) where
-      pub incr-stop : {y : Refusal} → a ≡ Stop y → Incremented class limit l (incr-at tree parts left at) span before mid a
+      pub incr-stop : {y : Why} → a ≡ Stop y → Incremented class limit l (incr-at tree parts left at) span before mid a
       unfolding for-incr
       incr-stop z = some-incr (λ e n r. halt _ (x .did e n r) z)
 

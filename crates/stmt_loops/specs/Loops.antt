@@ -16,7 +16,7 @@ use Rattle.fields.specs.Words.{word16}
 use Rattle.steps.specs.View.{Mem, code-len, steady, Gave, Refused, Did}
 use Rattle.steps.specs.declared.Step.{Step}
 use Rattle.steps.specs.declared.Step.the-variants.{Next, Stop}
-use Rattle.expr_parts.specs.Exprs.{There}
+use Rattle.expr_laws.specs.Exprs.{There}
 use Rattle.stmt_loops.specs.declared.Cond.{Cond}
 
 -- ## What is read: the byte has 2 for a condition and 4 for an increment

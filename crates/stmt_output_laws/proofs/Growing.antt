@@ -6,7 +6,6 @@ use Prim.Native.Nat.{ℕ, _+_, _*_, _-_, _≤_}
 use native.Mathlib.Omega.{arith}
 use native.Mathlib.Nat.{le-refl, le-trans}
 use lib.ListN.{length, getD}
-use Rattle.rules.specs.declared.Refusal.{Refusal}
 use Rattle.rules.specs.Chunk.{ObjectFunction}
 use Rattle.rules.specs.Compiler.{Compiler, Outcome, ok, Compile, go-on, _>>=_, _>>_}
 use Rattle.state.specs.Layout.{deepest, image-at}
@@ -16,6 +15,7 @@ use Rattle.steps.specs.declared.Step.the-variants.{Next, Stop}
 use Rattle.steps.proofs.Steps.{gave-bind, gave-seq, gave-refused, gave-refused-seq, ahead-then}
 use Rattle.steps.proofs.Jumps.{ahead-none}
 use Rattle.stmt_output_laws.specs.Output.{largest, Holds, Added, more, grow, Grew, WorkedAs, Worked, Ready}
+use Rattle.steps.specs.declared.Why.{Why}
 
 -- ## Another turn
 
@@ -83,7 +83,8 @@ more-none rest = ap (λ (fs : List ObjectFunction). record { classes = rest .cla
 
 module _ {class limit l : ℕ} {before now : Mem} where
   -- a step that finishes none
-  pub of-gave : {at n : ℕ} {e : Turn} {A : Type 0} {m : Compile A} {v : A} (out : List ℕ) → e .aloof ≡ true → at ≤ n → Gave class limit l e m v before now → Run class limit l at n e m v before out now out
+  pub of-gave : {at n : ℕ} {e : Turn} {A : Type 0} {m : Compile A} {v : A} (out : List ℕ) → e .aloof ≡ true → at ≤ n → Gave class limit l e m v before now → Run
+      class limit l at n e m v before out now out
   of-gave {e = e} out a h g =
       record {
         made = [];
@@ -112,14 +113,16 @@ module _ {class limit l : ℕ} {before now : Mem} where
 
 -- ## One after the other
 
-joined : {class limit l : ℕ} (e f : Turn) (free : Free f) {B : Type 0} {w : B} {before now : Mem} {x : Compile B} (a b : List ObjectFunction) → Gave class limit l ((e ⨾ grow a) ⨾ (f ⨾ grow b)) x w before now
+joined : {class limit l : ℕ} (e f : Turn) (free : Free f) {B : Type 0} {w : B} {before now : Mem} {x : Compile B} (a b : List ObjectFunction) → Gave class limit
+    l ((e ⨾ grow a) ⨾ (f ⨾ grow b)) x w before now
     → Gave class limit l ((e ⨾ f) ⨾ grow (a ++ b)) x w before now
 joined e f free a b g =
     turned {e = (e ⨾ grow a) ⨾ (f ⨾ grow b)} {f = (e ⨾ f) ⨾ grow (a ++ b)} (λ d. refl) (λ c. refl)
     (λ x. ap (more b) (free .past a (e .rest x)) ∙ more-more a b (f .rest (e .rest x)))
     (and-second (e .aloof && f .aloof)) g
 
-module _ {class limit l at mid n : ℕ} {e f : Turn} (free : Free f) {A B : Type 0} {m : Compile A} {v : A} {w : B} {before : Mem} {out : List ℕ} {between : Mem} {out′ : List ℕ} {now : Mem} {out″ : List ℕ} where
+module _ {class limit l at mid n : ℕ} {e f : Turn} (free : Free f) {A B : Type 0} {m : Compile A} {v : A} {w : B} {before : Mem} {out : List ℕ} {between : Mem}
+    {out′ : List ℕ} {now : Mem} {out″ : List ℕ} where
   pub run-bind : (next : A → Compile B) → Run class limit l at mid e m v before out between out′ → Run (e .class class) limit l mid n f (next v) w between out′ now out″
       → Run class limit l at n (e ⨾ f) (m >>= next) w before out now out″
   run-bind next r s = record { made = r .made ++ s .made; gave = joined e f free (r .made) (s .made) (gave-bind (r .gave) next (s .gave)); added = added-then (r .added) (s .added) }
@@ -129,11 +132,12 @@ module _ {class limit l at mid n : ℕ} {e f : Turn} (free : Free f) {A B : Type
   run-seq next r s = record { made = r .made ++ s .made; gave = joined e f free (r .made) (s .made) (gave-seq (r .gave) next (s .gave)); added = added-then (r .added) (s .added) }
 
 -- a refusal after a run
-module _ {class limit l at n : ℕ} {e : Turn} {A B : Type 0} {m : Compile A} {v : A} {before : Mem} {out : List ℕ} {now : Mem} {out′ : List ℕ} (r : Run class limit l at n e m v before out now out′) where
-  pub run-refused : (next : A → Compile B) {x : Refusal} → Refused (e .class class) l (next v) now x → Refused class l (m >>= next) before x
+module _ {class limit l at n : ℕ} {e : Turn} {A B : Type 0} {m : Compile A} {v : A} {before : Mem} {out : List ℕ} {now : Mem} {out′ : List ℕ}
+    (r : Run class limit l at n e m v before out now out′) where
+  pub run-refused : (next : A → Compile B) {x : Why} → Refused (e .class class) l (next v) now x → Refused class l (m >>= next) before x
   run-refused next h = gave-refused (r .gave) next h
 
-  pub run-refused-seq : (next : Compile B) {x : Refusal} → Refused (e .class class) l next now x → Refused class l (m >> next) before x
+  pub run-refused-seq : (next : Compile B) {x : Why} → Refused (e .class class) l next now x → Refused class l (m >> next) before x
   run-refused-seq next h = gave-refused-seq (r .gave) next h
 
 -- ## Answers
@@ -145,13 +149,13 @@ module _ {class limit l at n : ℕ} {m : Compile Unit} {before : Mem} {out : Lis
   pub reached : {v : ℕ} → Worked class limit l at n m before out now out′ r → r ≡ Next v → v ≡ n
   reached d q = subst (λ (s : Step). WorkedAs class limit l at n m before out now out′ s) q (d .does) .1
 
-  pub refused : {x : Refusal} → Worked class limit l at n m before out now out′ r → r ≡ Stop x → Refused class l m before x
+  pub refused : {x : Why} → Worked class limit l at n m before out now out′ r → r ≡ Stop x → Refused class l m before x
   refused d q = subst (λ (s : Step). WorkedAs class limit l at n m before out now out′ s) q (d .does)
 
   pub worked : {v : ℕ} → r ≡ Next v → v ≡ n → Grew class limit l at n m before out now out′ → Worked class limit l at n m before out now out′ r
   worked q h g = record { does = subst (λ (s : Step). WorkedAs class limit l at n m before out now out′ s) (sym q) (g, h) }
 
-  pub stopped : {x : Refusal} → r ≡ Stop x → Refused class l m before x → Worked class limit l at n m before out now out′ r
+  pub stopped : {x : Why} → r ≡ Stop x → Refused class l m before x → Worked class limit l at n m before out now out′ r
   stopped q h = record { does = subst (λ (s : Step). WorkedAs class limit l at n m before out now out′ s) (sym q) h }
 
 -- a statement that finishes no function
@@ -181,7 +185,7 @@ ready-after {l = l} {left′ = left′} y r h =
 
 module _ {class limit l at n : ℕ} {m : Compile Unit} {before : Mem} {out : List ℕ} {now : Mem} {out′ : List ℕ} where
   module _ {inner k : ℕ} {f : Turn} {last : Compile Unit} {mid : Mem} (g : Gave inner limit k f last tt mid now → Grew class limit l at n m before out now out′)
-      (h : (x : Refusal) → Refused inner k last mid x → Refused class l m before x) where
+      (h : (x : Why) → Refused inner k last mid x → Refused class l m before x) where
     conclude-as : (r : Step) → Did inner limit k n f last mid now r → WorkedAs class limit l at n m before out now out′ r
     conclude-as (Next v) d = (g (d .does .0), d .does .1)
     conclude-as (Stop x) d = h x (d .does)
@@ -190,7 +194,7 @@ module _ {class limit l at n : ℕ} {m : Compile Unit} {before : Mem} {out : Lis
     conclude {r} d = record { does = conclude-as r d }
 
   module _ {inner from : ℕ} {last : Compile Unit} {mid : Mem} {mid-out : List ℕ} (g : Grew inner limit l from n last mid mid-out now out′ → Grew class limit l at n m before out now out′)
-      (h : (x : Refusal) → Refused inner l last mid x → Refused class l m before x) where
+      (h : (x : Why) → Refused inner l last mid x → Refused class l m before x) where
     conclude-worked-as : (r : Step) → Worked inner limit l from n last mid mid-out now out′ r → WorkedAs class limit l at n m before out now out′ r
     conclude-worked-as (Next v) d = (g (d .does .0), d .does .1)
     conclude-worked-as (Stop x) d = h x (d .does)
@@ -216,7 +220,8 @@ module _ {class limit l at n : ℕ} {m m′ : Compile Unit} {before : Mem} {out 
   worked-like {r} d = record { does = like-as r d }
 
 -- a question to the state
-pub told-run : {class limit l at n : ℕ} {A : Type 0} {m : Compile A} {v : A} {now : Mem} (out : List ℕ) → Fit now l limit → at ≤ n → Told class l m v now → Run class limit l at n steady m v now out now out
+pub told-run : {class limit l at n : ℕ} {A : Type 0} {m : Compile A} {v : A} {now : Mem} (out : List ℕ) → Fit now l limit → at ≤ n → Told class l m v now → Run
+    class limit l at n steady m v now out now out
 told-run out fit h w = of-gave out refl h (record { comes = w .says; agrees = λ rest q. q; ahead = ahead-none fit })
 
 -- ## A walk over a row: from `before`, p comes to what q comes to from `now`, and functions were finished on the way
@@ -240,7 +245,7 @@ module _ {class limit l at : ℕ} {p : Compile Unit} {before : Mem} {out : List 
       }
 
   module _ {next : ℕ} {q : Compile Unit} {now : Mem} {out′ : List ℕ} (w : Onward class limit l at next p q before out now out′) where
-    pub onward-refused : {x : Refusal} → Refused class l q now x → Refused class l p before x
+    pub onward-refused : {x : Why} → Refused class l q now x → Refused class l p before x
     onward-refused h = record { refuses = λ rest g. w .same rest g ∙ h .refuses (more (w .made) rest) (w .agrees rest g) }
 
     -- one more is done, and q′ is left

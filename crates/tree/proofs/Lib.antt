@@ -1,5 +1,4 @@
--- Laws of the rules' reader. Whole says where it gets to in a file, Found and SoundFile what stands in a file that it read, for a walk over the same
+-- Laws of the rules' reader. Whole says where it gets to in a file, SoundFile what stands in a file that it read, for a walk over the same
 -- bytes.
 pub mod Whole
-pub mod Found
 pub mod SoundFile

@@ -23,7 +23,7 @@ use Rattle.tree.specs.Checked.{place-or-0, script-of, checked, checked-f
 use Rattle.tree.specs.declared.Script.{Script}
 use Rattle.tree.specs.declared.Checked.{Checked}
 use Rattle.tree.proofs.Whole.{file-cut, mark-not, too-many, from-names, from-stmts}
-use Rattle.tree.proofs.Found.{first, got-thing, got-next}
+use Rattle.tree_laws.proofs.Taken.{first, got-thing, got-next}
 use Rattle.fields.specs.Marks as marks
 
 pub record SoundFile (tree : List ℕ) (depth funs : ℕ) (script : Script) : Type 0 where

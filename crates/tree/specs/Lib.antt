@@ -1,2 +1,3 @@
 -- What the file as a whole comes to.
 pub mod Checked
+pub mod Read

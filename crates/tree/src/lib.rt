@@ -3,7 +3,11 @@
 ghost use mathlib.Core.Path.{_≡_};
 ghost use Rattle.rules.specs.TreeFile.{read-tree};
 ghost use Rattle.tree.specs.Checked.{ends, checked, checked-file};
+ghost use Rattle.tree.specs.Read.{read-answer};
+use answers::accepted;
+use answers::refused;
 use fields::Mark;
+use rules::Answer;
 use rules::Limit;
 use rules::Refusal;
 use tree_names::check_names;
@@ -70,4 +74,14 @@ pub fn read(tree: &[u8]) -> Checked
         return Checked::Bad(Refusal::TreeTooLong);
     }
     read_within(tree, Limit::DEPTH, Limit::FUNS)
+}
+
+// The reader's answer to a file, whatever the compiler would make of it: 0, or 2 to 5 with the place in `at`.
+pub fn answer(tree: &[u8]) -> Answer
+    ensures { λ r. ⌜ r ≡ read-answer (now (tree .entry)) ⌝ }
+{
+    match read(tree) {
+        Checked::Sound(_) => accepted(0),
+        Checked::Bad(r) => refused(r),
+    }
 }

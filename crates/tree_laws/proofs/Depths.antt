@@ -93,7 +93,8 @@ module _ (tree : List ℕ) (names : ℕ) where
   method-whole : {one more : Reader Stmt} → Covers one more → (funs start : ℕ) → Covers (method-record tree names one funs start) (method-record tree names more funs start)
   unfolding method-record
   method-whole c funs start =
-      after (mark-is tree (TreeForm start) marks.SF) _ _ (after (need _ (TooManyOpen start)) _ _ (then (span tree (TreeForm start)) _ _ (λ s. both-do (fun-covers c (TreeForm start)) _ _ (λ f. same _))))
+      after (mark-is tree (TreeForm start) marks.SF) _ _
+      (after (need _ (TooManyOpen start)) _ _ (then (span tree (TreeForm start)) _ _ (λ s. both-do (fun-covers c (TreeForm start)) _ _ (λ f. same _))))
 
   super-up : (d : ℕ) → Covers (read-superclass tree names d) (read-superclass tree names (suc d))
   unfolding read-superclass

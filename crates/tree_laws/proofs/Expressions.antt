@@ -80,7 +80,8 @@ module _ (tree : List ℕ) (names : ℕ) where
   opened d at r = r
 
   -- the mark, and what follows it
-  marked : (expr : Reader Expr) (x : Refusal) (at : ℕ) {e : Expr} {n : ℕ} → expr-record tree names expr x at ≡ got e n → First (expr-mark tree names x at) (λ kind. span tree x >>= expr-fields tree names expr x kind) e n
+  marked : (expr : Reader Expr) (x : Refusal) (at : ℕ) {e : Expr} {n : ℕ} → expr-record tree names expr x at ≡ got e n → First (expr-mark tree names x at)
+      (λ kind. span tree x >>= expr-fields tree names expr x kind) e n
   unfolding expr-record _>>=_
   marked expr x at r = first (expr-mark tree names x at) _ r
 
@@ -422,7 +423,8 @@ module _ (tree : List ℕ) (names : ℕ) where
   number-of at {lit} i r =
       let o = first (u64 tree (TreeForm at) (at + 11)) (λ bits. need (leb bits max-bits) (TreeForm at) >> return (LitNumber bits)) r in
       let f = shift (nineteen at) (found tree (a-u64 tree) (o .is)) in
-      let x = passed (leb (word64 tree (at + 11)) max-bits) (TreeForm at) (LitNumber (word64 tree (at + 11))) (at + 19) (on (λ bits. need (leb bits max-bits) (TreeForm at) >> return (LitNumber bits)) o f) in
+      let x = passed (leb (word64 tree (at + 11)) max-bits) (TreeForm at) (LitNumber (word64 tree (at + 11))) (at + 19)
+      (on (λ bits. need (leb bits max-bits) (TreeForm at) >> return (LitNumber bits)) o f) in
       record { bound = f .bound; end = x .on; small = leb-true _ _ (x .test); is = i ∙ ap (Literal (span-of tree (at + 2))) (x .is) }
 
   pub number-at : (at : ℕ) {e : Expr} {n : ℕ} → LiteralAt at e n → word8 tree (at + 10) ≡ 3 → NumberAt at e n
@@ -442,7 +444,8 @@ module _ (tree : List ℕ) (names : ℕ) where
   string-at at i q = string-of at (i .is) (kind-is at i 4 a-string refl q)
 
   -- no other kind is left
-  pub last-kind : (at : ℕ) {e : Expr} {n : ℕ} → LiteralAt at e n → (word8 tree (at + 10) ≡ 0 → ⊥) → (word8 tree (at + 10) ≡ 1 → ⊥) → (word8 tree (at + 10) ≡ 2 → ⊥) → (word8 tree (at + 10) ≡ 3 → ⊥) → word8 tree (at + 10) ≡ 4
+  pub last-kind : (at : ℕ) {e : Expr} {n : ℕ} → LiteralAt at e n → (word8 tree (at + 10) ≡ 0 → ⊥) → (word8 tree (at + 10) ≡ 1 → ⊥) →
+      (word8 tree (at + 10) ≡ 2 → ⊥) → (word8 tree (at + 10) ≡ 3 → ⊥) → word8 tree (at + 10) ≡ 4
   unfolding literal-kinds
   last-kind at i a b c d =
       ⊎-elim (λ h. absurd (a h)) (λ h.

@@ -179,13 +179,18 @@ module _ (tree : List ℕ) where
     -- ## Statements
 
     superclass-later : (d : ℕ) → Later (length tree) 0 (read-superclass tree names d)
-    superclass-later d = record { ends = λ at e. let z = superclass-at tree names d at e .end in omega arith; within = λ at g e. found-in (superclass-at tree names d at e .bound) (superclass-at tree names d at e .end) }
+    superclass-later d = record {
+      ends = λ at e. let z = superclass-at tree names d at e .end in omega arith;
+      within = λ at g e. found-in
+          (superclass-at tree names d at e .bound) (superclass-at tree names d at e .end);
+    }
 
     fun-later : {x : ℕ} {inner : Reader Stmt} → Later (length tree) x inner → (r : Refusal) → Later (length tree) 6 (fun-fields tree names inner r)
     unfolding fun-fields
     fun-later h r = then (a-name r) (λ n. then (a-field (a-u16 tree) r) (λ k. then (names-later r k) (λ ns. then (a-field (a-u16 tree) r) (λ k. on (stmts-later h k) (λ ss. nothing _)))))
 
-    stmt-fields-later : (read : Children) → Later (length tree) 0 (read .expr) → Later (length tree) 0 (read .superclass) → Later (length tree) 0 (read .stmt) → Later (length tree) 0 (read .inner) → Later (length tree) 0 (read .one-method)
+    stmt-fields-later : (read : Children) → Later (length tree) 0 (read .expr) → Later (length tree) 0 (read .superclass) → Later (length tree) 0 (read .stmt) →
+        Later (length tree) 0 (read .inner) → Later (length tree) 0 (read .one-method)
         → (x : Refusal) (k : StmtMark) (s : Span) → Later (length tree) 0 (stmt-fields tree names read x k s)
     unfolding stmt-fields block-fields class-fields expression-fields if-fields for-fields print-fields return-fields var-stmt-fields while-fields
     stmt-fields-later read e c s i m x SB p = on (a-field (a-u16 tree) x) (λ n. on (stmts-later s n) (λ ss. nothing _))

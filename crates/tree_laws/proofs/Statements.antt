@@ -69,7 +69,7 @@ pub maybe-stmt-no : (stmt : Reader Stmt) (at : ℕ) {ss : Stmts} {n : ℕ} → m
 unfolding maybe-stmt return
 maybe-stmt-no stmt at r = (sym (got-thing r), sym (got-next r))
 
-same-some : {A : Type 0} {a b : A} → some a ≡ some b → a ≡ b
+pub same-some : {A : Type 0} {a b : A} → some a ≡ some b → a ≡ b
 same-some e = cc
 
 -- a flag's byte
@@ -302,7 +302,8 @@ module _ (tree : List ℕ) (names : ℕ) where
       let y = first (stmt (x .next)) _ (x .rest) in
       record { cond = x .thing; mid = x .next; body = y .thing; one = x .is; two = moved (y .is) (got-next (y .rest)); is = sym (got-thing (y .rest)) }
 
-  pub while-at : (d funs at : ℕ) {s : Stmt} {n : ℕ} → letters tree at ≡ marks.SW → read-stmt tree names d funs at ≡ got s n → WhileAt (read-expr tree names (d - 1)) (read-stmt tree names (d - 1) funs) at s n
+  pub while-at : (d funs at : ℕ) {s : Stmt} {n : ℕ} → letters tree at ≡ marks.SW → read-stmt tree names d funs at ≡ got s n → WhileAt
+      (read-expr tree names (d - 1)) (read-stmt tree names (d - 1) funs) at s n
   unfolding stmt-fields lookup stmt-marks
   while-at d funs at m r = while-of (read-expr tree names (d - 1)) (read-stmt tree names (d - 1) funs) at (fields-at d funs at marks.SW SW refl m r)
 
@@ -366,7 +367,8 @@ module _ (tree : List ℕ) (names : ℕ) where
         is = sym (got-thing (z .rest));
       }
 
-  pub if-at : (d funs at : ℕ) {s : Stmt} {n : ℕ} → letters tree at ≡ marks.SI → read-stmt tree names d funs at ≡ got s n → IfAt (read-expr tree names (d - 1)) (read-stmt tree names (d - 1) funs) at s n
+  pub if-at : (d funs at : ℕ) {s : Stmt} {n : ℕ} → letters tree at ≡ marks.SI → read-stmt tree names d funs at ≡ got s n → IfAt (read-expr tree names (d - 1))
+      (read-stmt tree names (d - 1) funs) at s n
   unfolding stmt-fields lookup stmt-marks
   if-at d funs at m r = if-of (read-expr tree names (d - 1)) (read-stmt tree names (d - 1) funs) at (fields-at d funs at marks.SI SI refl m r)
 
@@ -474,7 +476,8 @@ module _ (tree : List ℕ) (names : ℕ) where
         is = sym (got-thing (w .rest));
       }
 
-  pub for-at : (d funs at : ℕ) {s : Stmt} {n : ℕ} → letters tree at ≡ marks.SO → read-stmt tree names d funs at ≡ got s n → ForAt (read-expr tree names (d - 1)) (read-stmt tree names (d - 1) funs) at s n
+  pub for-at : (d funs at : ℕ) {s : Stmt} {n : ℕ} → letters tree at ≡ marks.SO → read-stmt tree names d funs at ≡ got s n → ForAt (read-expr tree names (d - 1))
+      (read-stmt tree names (d - 1) funs) at s n
   unfolding stmt-fields lookup stmt-marks
   for-at d funs at m r = for-of (read-expr tree names (d - 1)) (read-stmt tree names (d - 1) funs) at (fields-at d funs at marks.SO SO refl m r)
 
@@ -518,7 +521,8 @@ module _ (tree : List ℕ) (names : ℕ) where
     pub one : fun-fields tree names inner (TreeForm at) (at + 10) ≡ got function n
     pub is : s ≡ StmtFun (span-of tree (at + 2)) function
 
-  fun-stmt-of : (inner : Reader Stmt) (funs at : ℕ) {s : Stmt} {n : ℕ} → 0 < funs → (fun-fields tree names inner (TreeForm at) >>= λ f. return (StmtFun (span-of tree (at + 2)) f)) (at + 10) ≡ got s n → FunStmtAt inner funs at s n
+  fun-stmt-of : (inner : Reader Stmt) (funs at : ℕ) {s : Stmt} {n : ℕ} → 0 < funs →
+      (fun-fields tree names inner (TreeForm at) >>= λ f. return (StmtFun (span-of tree (at + 2)) f)) (at + 10) ≡ got s n → FunStmtAt inner funs at s n
   unfolding _>>=_ return
   fun-stmt-of inner funs at h r =
       let x = first (fun-fields tree names inner (TreeForm at) (at + 10)) _ r in
@@ -592,7 +596,8 @@ module _ (tree : List ℕ) (names : ℕ) where
     pub row-is : read-methods (word16 tree (at + 13)) one-method mid ≡ got methods n
     pub is : s ≡ StmtClass (span-of tree (at + 2)) (word16 tree (at + 10)) super methods
 
-  class-of : (superclass : Reader Superclass) (one-method : Reader (Span × Fun)) (at : ℕ) {s : Stmt} {n : ℕ} → class-fields tree names superclass one-method (TreeForm at) (span-of tree (at + 2)) (at + 10) ≡ got s n
+  class-of : (superclass : Reader Superclass) (one-method : Reader (Span × Fun)) (at : ℕ) {s : Stmt} {n : ℕ} → class-fields tree names superclass one-method
+      (TreeForm at) (span-of tree (at + 2)) (at + 10) ≡ got s n
       → ClassAt superclass one-method at s n
   unfolding class-fields _>>=_ return
   class-of superclass one-method at r =
@@ -616,7 +621,8 @@ module _ (tree : List ℕ) (names : ℕ) where
         is = sym (got-thing (y .rest));
       }
 
-  pub class-at : (d funs at : ℕ) {s : Stmt} {n : ℕ} → letters tree at ≡ marks.SC → read-stmt tree names d funs at ≡ got s n → ClassAt (read-superclass tree names (d - 1)) (read-method tree names (d - 1) funs) at s n
+  pub class-at : (d funs at : ℕ) {s : Stmt} {n : ℕ} → letters tree at ≡ marks.SC → read-stmt tree names d funs at ≡ got s n → ClassAt
+      (read-superclass tree names (d - 1)) (read-method tree names (d - 1) funs) at s n
   unfolding stmt-fields lookup stmt-marks
   class-at d funs at m r = class-of (read-superclass tree names (d - 1)) (read-method tree names (d - 1) funs) at (fields-at d funs at marks.SC SC refl m r)
 

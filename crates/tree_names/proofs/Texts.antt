@@ -16,7 +16,7 @@ use Rattle.rules.specs.declared.Refusal.the-variants.{TreeForm}
 use Rattle.rules.specs.Reader.{Read, got, bad, Reader, go-on, _>>=_, _>>_, return, here, need, u8, many}
 use Rattle.rules.specs.TreeFile.{fixed-names, rises, differs, read-name, read-names}
 use Rattle.fields.specs.Words.{word16, letters}
-use Rattle.fields.proofs.Reading.{a-u8, a-u16, then-on, then-bad, mark-is-it, mark-is-not, mark-is-cut}
+use Rattle.fields.proofs.Reading.{a-u8, a-u16, then-on, then-bad, mark-is-it, mark-is-not, mark-is-cut, moved}
 use Rattle.tree_small.specs.Places.{place}
 use Rattle.tree_names.specs.Names.{text, last-name, NameRead}
 use Rattle.tree_small.specs.declared.Step.{Step}
@@ -52,17 +52,14 @@ module _ (a b : List ℕ) (i : ℕ) where
 
 -- ## The bytes of a text
 
-shift : {A : Type 0} {a : A} {m n : ℕ} → m ≡ n → got a m ≡ got a n
-shift {a = a} e = ap (got a) e
-
 module _ (tree : List ℕ) (fault : Refusal) where
   many-bytes : (k at : ℕ) → at + k ≤ length tree → many k (u8 tree fault) at ≡ got (take k (drop at tree)) (at + k)
   unfolding many _>>=_ go-on return
-  many-bytes zero at h = shift (omega arith)
+  many-bytes zero at h = moved (omega arith)
   many-bytes (suc k) at h =
       then-on _ (a-u8 tree .whole fault at (omega arith)) ∙ then-on _ (many-bytes k (at + 1) (omega arith)) ∙
       ap (λ (l : List ℕ). got (getD tree at 0 ∷ take k l) (at + 1 + k)) (ap (λ (n : ℕ). drop n tree) (add-one at)) ∙
-      ap (λ (l : List ℕ). got (take (suc k) l) (at + 1 + k)) (sym (drop-cons tree at 0 (omega arith))) ∙ shift (omega arith)
+      ap (λ (l : List ℕ). got (take (suc k) l) (at + 1 + k)) (sym (drop-cons tree at 0 (omega arith))) ∙ moved (omega arith)
 
   short-if : {B : Type 0} (t : Bool) (at : ℕ) (f : ℕ → Reader B) → leb (at + 1) (length tree) ≡ t → (at + 1 ≤ length tree → f (getD tree at 0) (at + 1) ≡ bad fault)
       → go-on (u8 tree fault at) f ≡ bad fault

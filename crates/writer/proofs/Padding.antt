@@ -4,6 +4,7 @@ use mathlib.Core.List.{List, [], _∷_, _++_, append-assoc, append-nil}
 use Prim.Native.Nat.{ℕ, zero, suc, _+_, _-_, _*_, _/_, _%_, _^_, _≤_, _<_}
 use native.Mathlib.Omega.{arith}
 use lib.ListN.{length, length-append, length-set, set, replicate}
+use Rattle.rules.proofs.Numbers.{le-length}
 use Rattle.rules.specs.Base.{le}
 use Rattle.rules.specs.Chunk.{Run, Constant, CN, CS, CF}
 use Rattle.rules.specs.Image.{join, run-bytes, constant-bytes}
@@ -125,11 +126,6 @@ pub le-none : (left m : ℕ) → left ≡ 0 → le left m ≡ []
 unfolding le
 le-none left m e = rw e
 
-pub length-le : (count n : ℕ) → length (le count n) ≡ count
-unfolding le
-length-le zero n = refl
-length-le (suc count) n = ap suc (length-le count (n / 256))
-
 pub stretch-more : {A : Type 0} (g : ℕ → A) (from left : ℕ) → 0 < left → stretch g from left ≡ g from ∷ stretch g (from + 1) (left - 1)
 unfolding stretch
 stretch-more g from zero l = absurd (omega arith)
@@ -161,23 +157,12 @@ constant-short (CN bits) = omega arith
 constant-short (CS name) = omega arith
 constant-short (CF number) = omega arith
 
--- ## What a constant's word stands for
-
-pub number-word : (w : ℕ) → w < 2 ^ 63 → constantOf w ≡ CN w
-number-word w l = rw (lt-ltb w (2 ^ 63) l)
-
-pub string-word : (w : ℕ) → 2 ^ 63 ≤ w → w < 2 ^ 63 + 2 ^ 32 → constantOf w ≡ CS (w - 2 ^ 63)
-string-word w g l = rw (le-ltb w (2 ^ 63) g, lt-ltb w (2 ^ 63 + 2 ^ 32) l)
-
-pub function-word : (w : ℕ) → 2 ^ 63 + 2 ^ 32 ≤ w → constantOf w ≡ CF (w - (2 ^ 63 + 2 ^ 32))
-function-word w g = rw (le-ltb w (2 ^ 63) (omega arith), le-ltb w (2 ^ 63 + 2 ^ 32) g)
-
 pub as-constant : {out out′ : List ℕ} {at r : ℕ} {a b : Constant} → a ≡ b → Put out out′ at (constant-bytes b) r → Put out out′ at (constant-bytes a) r
 as-constant {out} {out′} {at} {r} {a} {b} e p = subst (λ (v : Constant). Put out out′ at (constant-bytes v) r) (sym e) p
 
 -- where a number and a row of records end
 pub le-next : {out out′ : List ℕ} {at r : ℕ} (count n : ℕ) → Put out out′ at (le count n) r → r ≡ at + count
-le-next {at = at} count n p = p .next ∙ ap (λ (k : ℕ). at + k) (length-le count n)
+le-next {at = at} count n p = p .next ∙ ap (λ (k : ℕ). at + k) (le-length count n)
 
 pub constants-next : {out out′ : List ℕ} {at r : ℕ} (g : ℕ → Constant) (from count : ℕ) → Put out out′ at (join constant-bytes (stretch g from count)) r → r ≤ at + count * 10
 unfolding join stretch

@@ -1,5 +1,5 @@
 //! Timings beside the port, in one process over the same bytes: the two sides in turn, the least of several rounds.
-//! Built by `bench` with the archive of `rt staticlib c_entry` and without the checks that the other commands run with.
+//! Built by `bench` with the archive of `rt staticlib puffbramble` and without the checks that the other commands run with.
 
 use std::hint::black_box;
 
@@ -18,7 +18,7 @@ pub struct Answer {
     pub length: u64,
 }
 
-#[link(name = "c_entry", kind = "static")]
+#[link(name = "puffbramble", kind = "static")]
 extern "C" {
     fn puffbramble_read(tree: *const u8, length: usize) -> Answer;
     fn puffbramble_check(image: *const u8, length: usize) -> Answer;

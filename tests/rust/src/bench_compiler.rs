@@ -7,7 +7,7 @@ use std::hint::black_box;
 use crate::bench::{timed, Answer, BAR, ROUND_BYTES};
 use crate::scripts::SCRIPTS;
 
-#[link(name = "c_entry", kind = "static")]
+#[link(name = "puffbramble", kind = "static")]
 extern "C" {
     fn puffbramble_compile(
         tree: *const u8,

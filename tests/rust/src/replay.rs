@@ -70,11 +70,11 @@ pub fn program(folder: &Path, cases: &[(Case, Answer)]) -> io::Result<()> {
     runs.push(("answer-2".to_string(), one_name(PROGRAM_MOST + 1), b"2\n".to_vec()));
     let of_p2 = runs[0].clone();
     for (name, tree, output) in runs {
-        fs::create_dir_all(folder.join("program"))?;
-        fs::write(folder.join("program").join(format!("{name}.tree")), tree)?;
-        fs::write(folder.join("program").join(format!("{name}.out")), output)?;
+        fs::create_dir_all(folder.join("cases"))?;
+        fs::write(folder.join("cases").join(format!("{name}.tree")), tree)?;
+        fs::write(folder.join("cases").join(format!("{name}.out")), output)?;
     }
-    write(folder, "puffbramble", (of_p2.1, of_p2.2))
+    write(folder, "program", (of_p2.1, of_p2.2))
 }
 
 /// A script with no statement and one name, so many bytes long.

@@ -23,8 +23,8 @@ mul-area c = search needs
 slice-write-area : tie.Need-slice-write-area Inv-loop μ-loop
 slice-write-area c = search needs
 
-add-i : tie.Need-add-i Inv-loop μ-loop
-add-i c = search needs
+add-half : tie.Need-add-half Inv-loop μ-loop
+add-half c = search needs
 
 loop-less : tie.Need-loop-less Inv-loop μ-loop
 loop-less c = search needs
@@ -47,7 +47,7 @@ clear32-spec =
     loop-holds
     mul-area
     slice-write-area
-    add-i
+    add-half
     loop-less
     loop-again
     same-length

@@ -20,8 +20,8 @@ loop-holds c = none _
 slice-write-area : tie.Need-slice-write-area Inv-loop μ-loop
 slice-write-area c = search needs
 
-add-i : tie.Need-add-i Inv-loop μ-loop
-add-i c = search needs
+add-byte : tie.Need-add-byte Inv-loop μ-loop
+add-byte c = search needs
 
 loop-less : tie.Need-loop-less Inv-loop μ-loop
 loop-less c = search needs
@@ -43,7 +43,7 @@ clear8-spec =
     μ-loop
     loop-holds
     slice-write-area
-    add-i
+    add-byte
     loop-less
     loop-again
     same-length

@@ -1,8 +1,5 @@
--- `compile` meets its contract. Assumes nothing.
-use mathlib.Core.Path.{sym, ap, _∙_}
-use Rattle.entry.specs.Whole.{answer-of, output-of}
+-- `compile` meets its contract.
 use Rattle.entry.proofs.Answers.{answered}
-use Rattle.entry.proofs.Zeros.{cleared-as}
 use borrow.Author.Needs.{needs}
 use Rattle.entry.proofs.compile.Statement.{statement}
 use Rattle.entry.proofs.compile.Tie as tie
@@ -10,29 +7,8 @@ use Rattle.entry.proofs.compile.Tie as tie
 compile-lent-requires : tie.Need-compile-lent-requires
 compile-lent-requires c κs = search needs
 
-clear64-requires : tie.Need-clear64-requires
-clear64-requires c κs = search needs
-
-clear8-requires : tie.Need-clear8-requires
-clear8-requires c κs = search needs
-
-clear32-requires : tie.Need-clear32-requires
-clear32-requires c κs = search needs
-
-enum-known-made : tie.Need-enum-known-made
-enum-known-made c = search needs
-
-accepted-requires : tie.Need-accepted-requires
-accepted-requires c κs = search needs
-
-enum-known-made-2 : tie.Need-enum-known-made-2
-enum-known-made-2 c = search needs
-
-clear8-requires-2 : tie.Need-clear8-requires-2
-clear8-requires-2 c κs = search needs
-
-refused-requires : tie.Need-refused-requires
-refused-requires c κs = search needs
+end-call-requires : tie.Need-end-call-requires
+end-call-requires c κs = search needs
 
 same-length : tie.Need-same-length
 same-length c = search needs
@@ -48,23 +24,14 @@ same-length-4 c = search needs
 
 -- ## Places
 
-abbrev clear32-of-at-match-keys1 : tie.At-match-keys1 → tie.After-clear32
-clear32-of-at-match-keys1 c = c .before .before .before
+abbrev end-call-of-slice-known9 : tie.After-slice-known9 → tie.After-end-call
+end-call-of-slice-known9 c = c .before .before
 
-abbrev clear32-of-accepted : tie.After-accepted → tie.After-clear32
-clear32-of-accepted c = clear32-of-at-match-keys1 (c .before .before .before)
+abbrev end-call-of-code2 : tie.After-code2 → tie.After-end-call
+end-call-of-code2 c = end-call-of-slice-known9 (c .before .before .before)
 
-abbrev clear8-of-code2 : tie.After-code2 → tie.After-clear8
-clear8-of-code2 c = c .before
-
-abbrev clear8-of-clear32 : tie.After-clear32 → tie.After-clear8
-clear8-of-clear32 c = clear8-of-code2 (c .before .before .before)
-
-abbrev clear64-of-table2 : tie.After-table2 → tie.After-clear64
-clear64-of-table2 c = c .before
-
-abbrev clear64-of-clear8 : tie.After-clear8 → tie.After-clear64
-clear64-of-clear8 c = clear64-of-table2 (c .before .before .before)
+abbrev end-call-of-slice-known12 : tie.After-slice-known12 → tie.After-end-call
+end-call-of-slice-known12 c = end-call-of-code2 (c .before .before .before)
 
 abbrev compile-lent-of-out : tie.After-out → tie.After-compile-lent
 compile-lent-of-out c = c .before
@@ -75,8 +42,11 @@ compile-lent-of-slice-known6 c = compile-lent-of-out (c .before .before .before)
 abbrev compile-lent-of-spans : tie.After-spans → tie.After-compile-lent
 compile-lent-of-spans c = compile-lent-of-slice-known6 (c .before .before .before)
 
-abbrev compile-lent-of-clear64 : tie.After-clear64 → tie.After-compile-lent
-compile-lent-of-clear64 c = compile-lent-of-spans (c .before .before .before)
+abbrev compile-lent-of-end-call-arg2 : tie.After-end-call-arg2 → tie.After-compile-lent
+compile-lent-of-end-call-arg2 c = compile-lent-of-spans (c .before .before .before)
+
+abbrev compile-lent-of-end-call : tie.After-end-call → tie.After-compile-lent
+compile-lent-of-end-call c = compile-lent-of-end-call-arg2 (c .before .before .before)
 
 abbrev start-of-shared-slice-known : tie.After-shared-slice-known → tie.Start
 start-of-shared-slice-known c = c .before
@@ -90,128 +60,33 @@ start-of-compile-lent-arg2 c = start-of-slice-known3 (c .before .before .before)
 abbrev start-of-compile-lent : tie.After-compile-lent → tie.Start
 start-of-compile-lent c = start-of-compile-lent-arg2 (c .before .before .before)
 
-abbrev start-of-clear64 : tie.After-clear64 → tie.Start
-start-of-clear64 c = start-of-compile-lent (compile-lent-of-clear64 c)
+abbrev start-of-end-call : tie.After-end-call → tie.Start
+start-of-end-call c = start-of-compile-lent (compile-lent-of-end-call c)
 
-abbrev start-of-clear8 : tie.After-clear8 → tie.Start
-start-of-clear8 c = start-of-clear64 (clear64-of-clear8 c)
+abbrev start-of-slice-known12 : tie.After-slice-known12 → tie.Start
+start-of-slice-known12 c = start-of-end-call (end-call-of-slice-known12 c)
 
-abbrev start-of-clear32 : tie.After-clear32 → tie.Start
-start-of-clear32 c = start-of-clear8 (clear8-of-clear32 c)
-
-abbrev start-of-accepted : tie.After-accepted → tie.Start
-start-of-accepted c = start-of-clear32 (clear32-of-accepted c)
-
-abbrev compile-lent-of-clear8 : tie.After-clear8 → tie.After-compile-lent
-compile-lent-of-clear8 c = compile-lent-of-clear64 (clear64-of-clear8 c)
-
-abbrev compile-lent-of-clear32 : tie.After-clear32 → tie.After-compile-lent
-compile-lent-of-clear32 c = compile-lent-of-clear8 (clear8-of-clear32 c)
-
-abbrev compile-lent-of-accepted : tie.After-accepted → tie.After-compile-lent
-compile-lent-of-accepted c = compile-lent-of-clear32 (clear32-of-accepted c)
-
-abbrev clear64-of-clear32 : tie.After-clear32 → tie.After-clear64
-clear64-of-clear32 c = clear64-of-clear8 (clear8-of-clear32 c)
-
-abbrev clear64-of-accepted : tie.After-accepted → tie.After-clear64
-clear64-of-accepted c = clear64-of-clear32 (clear32-of-accepted c)
-
-abbrev clear8-of-accepted : tie.After-accepted → tie.After-clear8
-clear8-of-accepted c = clear8-of-clear32 (clear32-of-accepted c)
-
-abbrev made2-of-clear82 : tie.After-clear82 → tie.After-made2
-made2-of-clear82 c = c .before .before .before
-
-abbrev made2-of-refused : tie.After-refused → tie.After-made2
-made2-of-refused c = made2-of-clear82 (c .before .before .before)
-
-abbrev clear32-of-spans2 : tie.After-spans2 → tie.After-clear32
-clear32-of-spans2 c = c .before
-
-abbrev clear32-of-made2 : tie.After-made2 → tie.After-clear32
-clear32-of-made2 c = clear32-of-spans2 (c .before .before .before)
-
-abbrev start-of-made2 : tie.After-made2 → tie.Start
-start-of-made2 c = start-of-clear32 (clear32-of-made2 c)
-
-abbrev start-of-refused : tie.After-refused → tie.Start
-start-of-refused c = start-of-made2 (made2-of-refused c)
-
-abbrev compile-lent-of-made2 : tie.After-made2 → tie.After-compile-lent
-compile-lent-of-made2 c = compile-lent-of-clear32 (clear32-of-made2 c)
-
-abbrev compile-lent-of-refused : tie.After-refused → tie.After-compile-lent
-compile-lent-of-refused c = compile-lent-of-made2 (made2-of-refused c)
-
-abbrev clear64-of-made2 : tie.After-made2 → tie.After-clear64
-clear64-of-made2 c = clear64-of-clear32 (clear32-of-made2 c)
-
-abbrev clear64-of-refused : tie.After-refused → tie.After-clear64
-clear64-of-refused c = clear64-of-made2 (made2-of-refused c)
-
-abbrev clear8-of-made2 : tie.After-made2 → tie.After-clear8
-clear8-of-made2 c = clear8-of-clear32 (clear32-of-made2 c)
-
-abbrev clear8-of-refused : tie.After-refused → tie.After-clear8
-clear8-of-refused c = clear8-of-made2 (made2-of-refused c)
-
-abbrev clear32-of-refused : tie.After-refused → tie.After-clear32
-clear32-of-refused c = clear32-of-made2 (made2-of-refused c)
+abbrev compile-lent-of-slice-known12 : tie.After-slice-known12 → tie.After-compile-lent
+compile-lent-of-slice-known12 c = compile-lent-of-end-call (end-call-of-slice-known12 c)
 
 -- ## Needs
 
 returns : tie.Need-returns
 returns c =
-    let a = start-of-accepted c .args in answered (a .tree .now) (a .table .now) (a .code .now) (a .spans .now) (a .out .now)
-    (compile-lent-of-accepted c .compile-lent .ensures) (compile-lent-of-accepted c .compile-lent .kept .1 .0)
-    (c .accepted .ensures ∙ ap answer-of (sym (c .before .before .made .given .1))) (ap (output-of _) (sym (c .before .before .made .given .1)))
-    (cleared-as (compile-lent-of-accepted c .compile-lent .kept .1 .1 .0) (clear64-of-accepted c .clear64 .ensures))
-    (cleared-as (compile-lent-of-accepted c .compile-lent .kept .1 .1 .1 .0) (clear8-of-accepted c .clear8 .ensures))
-    (cleared-as (compile-lent-of-accepted c .compile-lent .kept .1 .1 .1 .1 .0) (clear32-of-accepted c .clear32 .ensures))
-
-same-length-5 : tie.Need-same-length-5
-same-length-5 c = search needs
-
-same-length-6 : tie.Need-same-length-6
-same-length-6 c = search needs
-
-same-length-7 : tie.Need-same-length-7
-same-length-7 c = search needs
-
-same-length-8 : tie.Need-same-length-8
-same-length-8 c = search needs
-
-returns-2 : tie.Need-returns-2
-returns-2 c =
-    let a = start-of-refused c .args in answered (a .tree .now) (a .table .now) (a .code .now) (a .spans .now) (a .out .now)
-    (compile-lent-of-refused c .compile-lent .ensures) (compile-lent-of-refused c .compile-lent .kept .1 .0)
-    (c .refused .ensures ∙ ap answer-of (sym (made2-of-refused c .made2 .given .1)))
-    (c .before .before .before .clear82 .ensures ∙ ap (output-of _) (sym (made2-of-refused c .made2 .given .1)))
-    (cleared-as (compile-lent-of-refused c .compile-lent .kept .1 .1 .0) (clear64-of-refused c .clear64 .ensures))
-    (cleared-as (compile-lent-of-refused c .compile-lent .kept .1 .1 .1 .0) (clear8-of-refused c .clear8 .ensures))
-    (cleared-as (compile-lent-of-refused c .compile-lent .kept .1 .1 .1 .1 .0) (clear32-of-refused c .clear32 .ensures))
+    let a = start-of-slice-known12 c .args in
+    let z = compile-lent-of-slice-known12 c .compile-lent .last in
+    let k = compile-lent-of-slice-known12 c .compile-lent .kept in answered (a .tree .now) (a .table .now) (a .code .now) (a .spans .now) (a .out .now)
+    (z .1 .1 .0) (z .1 .1 .1 .0) (z .1 .1 .1 .1 .0) (z .1 .0)
+    (compile-lent-of-slice-known12 c .compile-lent .ensures) (k .1 .1 .0) (k .1 .1 .1 .0) (k .1 .1 .1 .1 .0) (k .1 .0) (end-call-of-slice-known12 c .end-call .ensures)
 
 pub compile-spec : {M : Type 1} → statement M
 compile-spec =
     tie.close
     (tie.spec
     compile-lent-requires
-    clear64-requires
-    clear8-requires
-    clear32-requires
-    enum-known-made
-    accepted-requires
-    enum-known-made-2
-    clear8-requires-2
-    refused-requires
+    end-call-requires
     same-length
     same-length-2
     same-length-3
     same-length-4
-    returns
-    same-length-5
-    same-length-6
-    same-length-7
-    same-length-8
-    returns-2)
+    returns)

@@ -1,4 +1,4 @@
--- `compile_lent` meets its contract. Assumes nothing.
+-- `compile_lent` meets its contract.
 use mathlib.Core.Path.{refl, sym, _∙_}
 use lib.Seq.{length-take-le}
 use Rattle.tree.proofs.SoundFile.{refused-file}
@@ -6,6 +6,7 @@ use Rattle.entry.proofs.Answers.{written-refused, written-as, table-sho
 use borrow.Author.Needs.{needs}
 use Rattle.entry.proofs.compile_lent.Statement.{statement}
 use Rattle.entry.proofs.compile_lent.Tie as tie
+use Rattle.state.specs.Layout.{table-words}
 
 -- ## Places
 
@@ -102,12 +103,12 @@ slice-relend-prefix-compile-sound : tie.Need-slice-relend-prefix-compile-sound
 slice-relend-prefix-compile-sound c = search needs
 
 slice-aggregate-compile-sound : tie.Need-slice-aggregate-compile-sound
-slice-aggregate-compile-sound c = sym (length-take-le 17412 (start-of-compile-sound-arg2 c .args .table .now) (else1-of-compile-sound-arg2 c .if1 .left))
+slice-aggregate-compile-sound c = sym (length-take-le table-words (start-of-compile-sound-arg2 c .args .table .now) (else1-of-compile-sound-arg2 c .if1 .left))
 
 compile-sound-requires : tie.Need-compile-sound-requires
 compile-sound-requires c κs = (
   sym (read-of-compile-sound-arg4 c .read .ensures) ∙ script-of-compile-sound-arg4 c .script .given .1,
-  length-take-le 17412
+  length-take-le table-words
       (start-of-compile-sound-arg4 c .args .table .now) (else1-of-compile-sound-arg4 c .if1 .left),
 )
 

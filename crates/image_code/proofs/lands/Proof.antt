@@ -12,23 +12,51 @@ use Rattle.image_code.proofs.lands.Tie as tie
 shared-slice-read-op : tie.Need-shared-slice-read-op
 shared-slice-read-op c = search needs
 
+-- ## Places
+
+abbrev start-of-shared-slice-known : tie.After-shared-slice-known → tie.Start
+start-of-shared-slice-known c = c .before
+
+abbrev start-of-then1 : tie.Then1 → tie.Start
+start-of-then1 c = start-of-shared-slice-known (c .before .before .before)
+
+abbrev start-of-else1 : tie.Else1 → tie.Start
+start-of-else1 c = start-of-shared-slice-known (c .before .before .before)
+
+abbrev start-of-wide : tie.After-wide → tie.Start
+start-of-wide c = start-of-else1 (c .before .before .before)
+
+abbrev start-of-then3 : tie.Then3 → tie.Start
+start-of-then3 c = start-of-wide (c .before .before .before)
+
+abbrev start-of-shared-slice-known6 : tie.After-shared-slice-known6 → tie.Start
+start-of-shared-slice-known6 c = start-of-then3 (c .before .before .before)
+
+abbrev start-of-else3 : tie.Else3 → tie.Start
+start-of-else3 c = start-of-wide (c .before .before .before)
+
+abbrev start-of-shared-slice-known7 : tie.After-shared-slice-known7 → tie.Start
+start-of-shared-slice-known7 c = start-of-else3 (c .before .before .before)
+
+-- ## Needs
+
 returns : tie.Need-returns
 returns c =
     let early = c in
-    let begin = early .before .before .before in
+    let begin = start-of-then1 early in
     no-jump (kinds-in (begin .args .kinds .now)) (begin .args .code .now) (begin .args .at) _ refl (λ l u. omega (arith, early .if1 .taken))
 
 returns-2 : tie.Need-returns-2
 returns-2 c =
     let early = c .before in
-    let begin = early .before .before .before in
+    let begin = start-of-else1 early in
     no-jump (kinds-in (begin .args .kinds .now)) (begin .args .code .now) (begin .args .at) _ refl (λ l u. omega (arith, c .if2 .taken))
 
 add-wide : tie.Need-add-wide
 add-wide c =
     let late = c in
     let early = late .before in
-    let begin = early .before .before .before in
+    let begin = start-of-else1 early in
     let r = jump-room (kinds-in (begin .args .kinds .now)) (begin .args .code .now) (begin .args .at) _ refl (early .if1 .left) (late .if2 .left) (begin .pre .1 .0) in
     omega (arith, r)
 
@@ -36,7 +64,7 @@ shared-slice-read-wide : tie.Need-shared-slice-read-wide
 shared-slice-read-wide c =
     let late = c .before in
     let early = late .before in
-    let begin = early .before .before .before in
+    let begin = start-of-else1 early in
     let r = jump-room (kinds-in (begin .args .kinds .now)) (begin .args .code .now) (begin .args .at) _ refl (early .if1 .left) (late .if2 .left) (begin .pre .1 .0) in
     omega (arith, r)
 
@@ -47,7 +75,7 @@ add-wide-2 : tie.Need-add-wide-2
 add-wide-2 c =
     let late = c .before .before in
     let early = late .before in
-    let begin = early .before .before .before in
+    let begin = start-of-else1 early in
     let r = jump-room (kinds-in (begin .args .kinds .now)) (begin .args .code .now) (begin .args .at) _ refl (early .if1 .left) (late .if2 .left) (begin .pre .1 .0) in
     omega (arith, r)
 
@@ -55,7 +83,7 @@ shared-slice-read-wide-2 : tie.Need-shared-slice-read-wide-2
 shared-slice-read-wide-2 c =
     let late = c .before .before .before in
     let early = late .before in
-    let begin = early .before .before .before in
+    let begin = start-of-else1 early in
     let r = jump-room (kinds-in (begin .args .kinds .now)) (begin .args .code .now) (begin .args .at) _ refl (early .if1 .left) (late .if2 .left) (begin .pre .1 .0) in
     omega (arith, r)
 
@@ -75,7 +103,7 @@ add-next c =
     let way1 = c .before .before .before in
     let late = way1 .before in
     let early = late .before in
-    let begin = early .before .before .before in
+    let begin = start-of-else1 early in
     let r = jump-room (kinds-in (begin .args .kinds .now)) (begin .args .code .now) (begin .args .at) _ refl (early .if1 .left) (late .if2 .left) (begin .pre .1 .0) in
     omega (arith, r)
 
@@ -85,7 +113,7 @@ add-to c =
     let first = second .before .before in
     let late = first .before .before in
     let early = late .before in
-    let begin = early .before .before .before in
+    let begin = start-of-else1 early in
     let far = first .wide .result + 256 * second .wide2 .result in
     let r = jump-room (kinds-in (begin .args .kinds .now)) (begin .args .code .now) (begin .args .at) _ refl (early .if1 .left) (late .if2 .left) (begin .pre .1 .0) in
     omega (arith, r, first .wide .ensures .1, second .wide2 .ensures .1)
@@ -96,7 +124,7 @@ returns-3 c =
     let first = second .before .before in
     let late = first .before .before in
     let early = late .before in
-    let begin = early .before .before .before in
+    let begin = start-of-else1 early in
     let far = first .wide .result + 256 * second .wide2 .result in
     let is-far : far ≡ getD (begin .args .code .now) (begin .args .at + 1) 0 + 256 * getD (begin .args .code .now) (begin .args .at + 2) 0 =
     omega (arith, first .wide .ensures .0, second .wide2 .ensures .0) in
@@ -108,15 +136,15 @@ returns-4 c =
     let first = second .before .before in
     let late = first .before .before in
     let early = late .before in
-    let begin = early .before .before .before in
+    let begin = start-of-else1 early in
     let far = first .wide .result + 256 * second .wide2 .result in
     let is-far : far ≡ getD (begin .args .code .now) (begin .args .at + 1) 0 + 256 * getD (begin .args .code .now) (begin .args .at + 2) 0 =
     omega (arith, first .wide .ensures .0, second .wide2 .ensures .0) in
     ahead-past (kinds-in (begin .args .kinds .now)) (begin .args .code .now) (begin .args .at) _ refl far is-far (early .if1 .left) (c .before .before .if3 .taken) (c .if5 .taken)
 
-element-copy-out-result : tie.Need-element-copy-out-result
-element-copy-out-result c =
-    omega arith
+shared-slice-read-result : tie.Need-shared-slice-read-result
+shared-slice-read-result c =
+    start-of-shared-slice-known6 c .pre .1 .1 .1 _ (omega arith)
 
 returns-5 : tie.Need-returns-5
 returns-5 c =
@@ -125,12 +153,12 @@ returns-5 c =
     let first = second .before .before in
     let late = first .before .before in
     let early = late .before in
-    let begin = early .before .before .before in
+    let begin = start-of-else1 early in
     let far = first .wide .result + 256 * second .wide2 .result in
     let is-far : far ≡ getD (begin .args .code .now) (begin .args .at + 1) 0 + 256 * getD (begin .args .code .now) (begin .args .at + 2) 0 =
     omega (arith, first .wide .ensures .0, second .wide2 .ensures .0) in
     let small : far ≤ 65535 = omega (arith, first .wide .ensures .1, second .wide2 .ensures .1) in
-    ahead-near (kinds-in (begin .args .kinds .now)) (begin .args .code .now) (begin .args .at) _ refl far is-far (begin .args .ring .now) (begin .pre .1 .1) small (early .if1 .left)
+    ahead-near (kinds-in (begin .args .kinds .now)) (begin .args .code .now) (begin .args .at) _ refl far is-far (begin .args .ring .now) (begin .pre .1 .1 .0) small (early .if1 .left)
     (c .before .before .before .if3 .taken) (omega arith)
 
 returns-6 : tie.Need-returns-6
@@ -139,7 +167,7 @@ returns-6 c =
     let first = second .before .before in
     let late = first .before .before in
     let early = late .before in
-    let begin = early .before .before .before in
+    let begin = start-of-else1 early in
     let far = first .wide .result + 256 * second .wide2 .result in
     let is-far : far ≡ getD (begin .args .code .now) (begin .args .at + 1) 0 + 256 * getD (begin .args .code .now) (begin .args .at + 2) 0 =
     omega (arith, first .wide .ensures .0, second .wide2 .ensures .0) in
@@ -151,16 +179,16 @@ returns-7 c =
     let first = second .before .before in
     let late = first .before .before in
     let early = late .before in
-    let begin = early .before .before .before in
+    let begin = start-of-else1 early in
     let far = first .wide .result + 256 * second .wide2 .result in
     let is-far : far ≡ getD (begin .args .code .now) (begin .args .at + 1) 0 + 256 * getD (begin .args .code .now) (begin .args .at + 2) 0 =
     omega (arith, first .wide .ensures .0, second .wide2 .ensures .0) in
     back-past (kinds-in (begin .args .kinds .now)) (begin .args .code .now) (begin .args .at) _ refl far is-far
     (omega (arith, late .if2 .left, c .before .before .if3 .left)) (c .before .if6 .left) (c .if7 .taken)
 
-element-copy-out-result-2 : tie.Need-element-copy-out-result-2
-element-copy-out-result-2 c =
-    omega arith
+shared-slice-read-result-2 : tie.Need-shared-slice-read-result-2
+shared-slice-read-result-2 c =
+    start-of-shared-slice-known7 c .pre .1 .1 .1 _ (omega arith)
 
 returns-8 : tie.Need-returns-8
 returns-8 c =
@@ -169,12 +197,12 @@ returns-8 c =
     let first = second .before .before in
     let late = first .before .before in
     let early = late .before in
-    let begin = early .before .before .before in
+    let begin = start-of-else1 early in
     let far = first .wide .result + 256 * second .wide2 .result in
     let is-far : far ≡ getD (begin .args .code .now) (begin .args .at + 1) 0 + 256 * getD (begin .args .code .now) (begin .args .at + 2) 0 =
     omega (arith, first .wide .ensures .0, second .wide2 .ensures .0) in
     let small : far ≤ 65535 = omega (arith, first .wide .ensures .1, second .wide2 .ensures .1) in
-    back-near (kinds-in (begin .args .kinds .now)) (begin .args .code .now) (begin .args .at) _ refl far is-far (begin .args .ring .now) (begin .pre .1 .1) small
+    back-near (kinds-in (begin .args .kinds .now)) (begin .args .code .now) (begin .args .at) _ refl far is-far (begin .args .ring .now) (begin .pre .1 .1 .0) small
     (omega (arith, late .if2 .left, c .before .before .before .if3 .left)) (c .before .before .if6 .left) (c .before .if7 .left)
 
 pub lands-spec : {M : Type 1} → statement M
@@ -196,9 +224,9 @@ lands-spec =
     add-to
     returns-3
     returns-4
-    element-copy-out-result
+    shared-slice-read-result
     returns-5
     returns-6
     returns-7
-    element-copy-out-result-2
+    shared-slice-read-result-2
     returns-8)

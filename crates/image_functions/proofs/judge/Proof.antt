@@ -7,23 +7,31 @@ use borrow.Author.Needs.{needs}
 use Rattle.image_functions.proofs.judge.Statement.{statement}
 use Rattle.image_functions.proofs.judge.Tie as tie
 
-judge-few-requires : tie.Need-judge-few-requires
-judge-few-requires c κs = c .before .before .pre
+judge-small-requires : tie.Need-judge-small-requires
+judge-small-requires c κs = (c .before .before .pre .0, (c .before .before .pre .1, c .if1 .taken))
 
 returns : tie.Need-returns
-returns c = c .judge-few .ensures
+returns c = c .judge-small .ensures
 
-judge-many-requires : tie.Need-judge-many-requires
-judge-many-requires c κs = c .before .before .pre
+judge-few-requires : tie.Need-judge-few-requires
+judge-few-requires c κs = c .before .before .before .pre
 
 returns-2 : tie.Need-returns-2
-returns-2 c = c .judge-many .ensures
+returns-2 c = c .judge-few .ensures
+
+judge-many-requires : tie.Need-judge-many-requires
+judge-many-requires c κs = c .before .before .before .pre
+
+returns-3 : tie.Need-returns-3
+returns-3 c = c .judge-many .ensures
 
 pub judge-spec : {M : Type 1} → statement M
 judge-spec =
     tie.close
     (tie.spec
-    judge-few-requires
+    judge-small-requires
     returns
+    judge-few-requires
+    returns-2
     judge-many-requires
-    returns-2)
+    returns-3)

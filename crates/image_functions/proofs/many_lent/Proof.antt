@@ -7,8 +7,18 @@ use borrow.Author.Needs.{needs}
 use Rattle.image_functions.proofs.many_lent.Statement.{statement}
 use Rattle.image_functions.proofs.many_lent.Tie as tie
 
+-- ## Places
+
+abbrev start-of-shared-slice-known : tie.After-shared-slice-known → tie.Start
+start-of-shared-slice-known c = c .before
+
+abbrev start-of-judge-with-arg3 : tie.After-judge-with-arg3 → tie.Start
+start-of-judge-with-arg3 c = start-of-shared-slice-known (c .before .before .before)
+
+-- ## Needs
+
 judge-with-requires : tie.Need-judge-with-requires
-judge-with-requires c κs = (c .before .before .pre .0, c .before .before .pre .1 .0)
+judge-with-requires c κs = (start-of-judge-with-arg3 c .pre .0, (omega (arith, start-of-judge-with-arg3 c .pre .1 .0), λ p h. omega (arith, start-of-judge-with-arg3 c .pre .1 .1)))
 
 returns : tie.Need-returns
 returns c = c .judge-with .ensures

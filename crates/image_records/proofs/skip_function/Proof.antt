@@ -339,7 +339,8 @@ returns-4 c =
 add-t11 : tie.Need-add-t11
 add-t11 c =
     let d = (coded (start-of-known-told4 c .args .s .now) ((h-of-known-told4 c .h .given .0 .0) .code) (mark-at-of-known-told4 c .mark-at .given .0 .0)
-    (c .before .first .given .0 .0) (sym (c .before .first .given .1) ∙ code-placed (c .before .before .before))) in omega (arith, d .within, wide322-of-known-told4 c .wide322 .ensures .0, start-of-known-told4 c .good)
+    (c .before .first .given .0 .0) (sym (c .before .first .given .1) ∙ code-placed (c .before .before .before))) in omega
+    (arith, d .within, wide322-of-known-told4 c .wide322 .ensures .0, start-of-known-told4 c .good)
 
 returns-5 : tie.Need-returns-5
 unfolding place-told
@@ -352,7 +353,8 @@ returns-5 c =
     (runs-read (mark-at-of-known-told4 c) .value) (mark-at-of-known-told4 c .mark-at .given .0 .0)
     (runs-read (mark-at-of-known-told4 c) .is) (c .before .first .given .0 .0)
     (coded (start-of-known-told4 c .args .s .now) ((h-of-known-told4 c .h .given .0 .0) .code) (mark-at-of-known-told4 c .mark-at .given .0 .0)
-    (c .before .first .given .0 .0) (sym (c .before .first .given .1) ∙ code-placed (c .before .before .before)))) ∙ ap (λ (n : ℕ). At (c .before .first .given .0 .0 + n)) (sym (wide322-of-known-told4 c .wide322 .ensures .0)))
+    (c .before .first .given .0 .0) (sym (c .before .first .given .1) ∙ code-placed (c .before .before .before)))) ∙ ap
+    (λ (n : ℕ). At (c .before .first .given .0 .0 + n)) (sym (wide322-of-known-told4 c .wide322 .ensures .0)))
 
 pub skip-function-spec : {M : Type 1} → statement M
 skip-function-spec =

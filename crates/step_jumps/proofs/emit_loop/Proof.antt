@@ -4,6 +4,7 @@ use mathlib.Core.List.{[]}
 use borrow.Author.Tests.{le-leb, lt-leb}
 use borrow.Author.Needs.{needs}
 use Rattle.rules.specs.Compiler.{emit-op, emit-loop}
+use Rattle.steps.specs.Why.{refusal-of}
 use Rattle.steps.proofs.Steps.{went, halt, then-on, stop, ask, ask-seq, ask-refused, refused-seq, passed, failed}
 use Rattle.steps.specs.View.{code-len}
 use Rattle.step_jumps.proofs.emit_loop.Statement.{statement}
@@ -187,19 +188,19 @@ enum-told3-of-slice-known12 c = enum-told3-of-emit-op3 (emit-op3-of-slice-known1
 
 -- ## Needs
 
-add-distance : tie.Need-add-distance
+add-back : tie.Need-add-back
 unfolding code-len
-add-distance c = omega (arith, c .code-length .ensures .is [] [], start-of-code-length c .pre .0 .coded .within, start-of-code-length c .pre .0 .coded .roomCode)
+add-back c = omega (arith, c .code-length .ensures .is [] [], start-of-code-length c .pre .0 .coded .within, start-of-code-length c .pre .0 .coded .roomCode)
 
-sub-distance : tie.Need-sub-distance
+sub-back : tie.Need-sub-back
 unfolding code-len
-sub-distance c = omega (arith, c .code-length .ensures .is [] [], start-of-code-length c .pre .1)
+sub-back c = omega (arith, c .code-length .ensures .is [] [], start-of-code-length c .pre .1)
 
 same-length : tie.Need-same-length
 same-length c = search needs
 
 returns : tie.Need-returns
-unfolding emit-loop emit-op
+unfolding emit-loop emit-op refusal-of
 returns c =
     λ class. let a = start-of-then1 c .args in stop _ (ask-refused (c .before .code-length .ensures .says class (a .code .now) (a .spans .now)) _
     (refused-seq (failed _ (lt-leb _ _ (c .if1 .taken))) _))
@@ -285,8 +286,8 @@ emit-loop-spec =
     tie.close
     (tie.spec
     code-length-requires
-    add-distance
-    sub-distance
+    add-back
+    sub-back
     same-length
     returns
     emit-op-requires

@@ -1,4 +1,5 @@
--- `emit_upvalues` meets its contract. The loop's invariant: the upvalues that are left come to the same from where the loop stands as all of them from where it began. The measure is how many are left. Assumes nothing.
+-- `emit_upvalues` meets its contract. The loop's invariant: the upvalues that are left come to the same from where the loop stands as all of them
+-- from where it began. The measure is how many are left. Assumes nothing.
 use Rattle.step_returns.proofs.Closures as ways
 use Rattle.steps.specs.View.{mem}
 use mathlib.Core.Path.{_≡_, refl}

@@ -1,4 +1,5 @@
--- `declare_params` meets its contract. The loop's invariant: the names that are left come to the same from where the loop stands as all of them from where it began. The measure is how many are left. Assumes nothing.
+-- `declare_params` meets its contract. The loop's invariant: the names that are left come to the same from where the loop stands as all of them from
+-- where it began. The measure is how many are left. Assumes nothing.
 use mathlib.Core.Path.{_≡_, refl}
 use native.Mathlib.Omega.{arith}
 use lib.ListN.{length}

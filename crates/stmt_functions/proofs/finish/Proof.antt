@@ -1,11 +1,12 @@
 -- `finish` meets its contract. Assumes nothing.
-use Prim.Native.Nat.{ℕ, _-_}
+use Prim.Native.Nat.{ℕ, _-_, _+_}
 use native.Mathlib.Omega.{arith}
 use lib.Seq.{getD-set-other}
 use borrow.Author.Needs.{needs, below-set}
 use Rattle.stmt_functions.proofs.Records.{filed}
 use Rattle.stmt_functions.proofs.finish.Statement.{statement}
 use Rattle.stmt_functions.proofs.finish.Tie as tie
+use Rattle.state.specs.Layout.{image-at}
 
 slice-read-long : tie.Need-slice-read-long
 slice-read-long c = search needs
@@ -39,13 +40,20 @@ start-of-slice-known5 c = start-of-put-function (c .before .before .before)
 -- ## Needs
 
 slice-read-t : tie.Need-slice-read-t
-slice-read-t c = below-set ℕ (start-of-slice-known5 c .args .t .now) 17410 17411 (c .before .before .before .put-function .result - 6) (omega (arith, start-of-slice-known5 c .pre .0 .wf .size))
+slice-read-t c = below-set ℕ (start-of-slice-known5 c .args .t .now) image-at (image-at + 1) (c .before .before .before .put-function .result - 6)
+    (omega (arith, start-of-slice-known5 c .pre .0 .wf .size))
 
 add-t : tie.Need-add-t
-add-t c = omega (arith, getD-set-other (start-of-slice-known5 c .args .t .now) 17411 17410 (c .before .before .before .put-function .result - 6) 0 (omega arith), start-of-slice-known5 c .pre .1)
+add-t c = omega (
+  arith,
+  getD-set-other (start-of-slice-known5 c .args .t .now) (image-at + 1) image-at (c .before .before .before .put-function .result - 6) 0
+      (omega arith),
+  start-of-slice-known5 c .pre .1,
+)
 
 slice-write-t-2 : tie.Need-slice-write-t-2
-slice-write-t-2 c = below-set ℕ (start-of-slice-known5 c .args .t .now) 17410 17411 (c .before .before .before .put-function .result - 6) (omega (arith, start-of-slice-known5 c .pre .0 .wf .size))
+slice-write-t-2 c = below-set ℕ (start-of-slice-known5 c .args .t .now) image-at (image-at + 1) (c .before .before .before .put-function .result - 6)
+    (omega (arith, start-of-slice-known5 c .pre .0 .wf .size))
 
 same-length : tie.Need-same-length
 same-length c = search needs

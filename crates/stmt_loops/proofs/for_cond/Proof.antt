@@ -1,7 +1,7 @@
 -- The condition, and the jump past the loop. The places first, each over the one before: of a call `-asked` is the place where it is made, `-left` the call
 -- from where its areas have come back, `-went` and `-halted` the call once its answer is known.
 use borrow.Author.Needs.{needs}
-use Rattle.expr_parts.specs.Exprs.{Somewhere}
+use Rattle.expr_laws.specs.Exprs.{Somewhere}
 use Rattle.expressions.proofs.Arms.{ran-fit}
 use Rattle.stmt_loops.proofs.Loops.{cond-expr, cond-none, cond-stop, cond-stop-2, cond-done}
 use Rattle.stmt_loops.proofs.for_cond.Statement.{statement}

@@ -1,7 +1,7 @@
 -- The increment, and its value is dropped. The places first, each over the one before: of a call `-asked` is the place where it is made, `-left` the call
 -- from where its areas have come back, `-went` and `-halted` the call once its answer is known.
 use borrow.Author.Needs.{needs}
-use Rattle.expr_parts.specs.Exprs.{Somewhere}
+use Rattle.expr_laws.specs.Exprs.{Somewhere}
 use Rattle.expressions.proofs.Arms.{ran-fit}
 use Rattle.stmt_loops.proofs.Loops.{incr-expr, incr-none, incr-stop, incr-done}
 use Rattle.stmt_loops.proofs.for_incr.Statement.{statement}

@@ -3,7 +3,7 @@
 use mathlib.Core.Path.{sym, _∙_}
 use native.Mathlib.Omega.{arith}
 use borrow.Author.Needs.{needs}
-use Rattle.stmt_plain.proofs.Values.{bound, last-return}
+use Rattle.stmt_plain_laws.proofs.Values.{bound, last-return}
 use Rattle.stmt_plain.proofs.compile_plain.Statement.{statement}
 use Rattle.stmt_plain.proofs.compile_plain.Tie as tie
 

@@ -55,7 +55,8 @@ unfolding all expr-marks
 returns-4 c =
     sym (known-not expr-marks (start-of-at-match-rest c .args .tree .now) (start-of-at-match-rest c .args .at)
     (there (c .before .before .before .has .ensures) (c .before .before .if1 .left)) (c .before .mark-at .ensures)
-    (outside (marks.EV ∷ marks.EA ∷ marks.EC ∷ marks.EG ∷ marks.EI ∷ marks.EL ∷ marks.EP ∷ marks.ES ∷ marks.EU ∷ []) expr-marks (c .before .mark-at .result) refl (⊎-elim (c .match .rest .1) (c .match .rest .0 .1))))
+    (outside (marks.EV ∷ marks.EA ∷ marks.EC ∷ marks.EG ∷ marks.EI ∷ marks.EL ∷ marks.EP ∷ marks.ES ∷ marks.EU ∷ []) expr-marks (c .before .mark-at .result)
+    refl (⊎-elim (c .match .rest .1) (c .match .rest .0 .1))))
 
 pub expr-mark-spec : {M : Type 1} → statement M
 expr-mark-spec =

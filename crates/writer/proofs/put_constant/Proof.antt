@@ -1,5 +1,5 @@
 -- `put_constant`: a word is a number, a name or a function, by its size.
-use Rattle.writer.proofs.Padding.{as-constant, number-word, string-word, function-word}
+use Rattle.writer.proofs.Padding.{as-constant}
 use native.Mathlib.Omega.{arith}
 use borrow.Author.Needs.{needs}
 use Rattle.writer.proofs.put_constant.Statement.{statement}
@@ -9,6 +9,7 @@ use Rattle.writer.proofs.put_constant.Lts as lts
 use Rattle.writer.proofs.put_function_number.Reads as put-function-number-reads
 use Rattle.writer.proofs.put_number.Reads as put-number-reads
 use Rattle.writer.proofs.put_string.Reads as put-string-reads
+use Rattle.state.proofs.Words.{number-word, string-word, function-word}
 
 put-number-requires : tie.Need-put-number-requires
 put-number-requires c κs = search needs

@@ -1,7 +1,8 @@
 -- `put_run`: the mark, the two ends of the span and the count.
 use Rattle.rules.specs.Image.{run-bytes}
 use Rattle.rules.specs.Base.{le}
-use Rattle.writer.proofs.Padding.{put-then, length-le}
+use Rattle.writer.proofs.Padding.{put-then}
+use Rattle.rules.proofs.Numbers.{le-length}
 use native.Mathlib.Omega.{arith}
 use borrow.Author.Needs.{needs}
 use Rattle.writer.proofs.put_run.Statement.{statement}
@@ -70,7 +71,7 @@ put-le-of-slice-known5 c = put-le-of-put-le2 (put-le2-of-slice-known5 c)
 -- ## Needs
 
 put-le-requires-2 : tie.Need-put-le-requires-2
-put-le-requires-2 c κs = omega (arith, put-mark-of-put-le-arg2 c .put-mark .ensures .next, c .before .before .before .put-le .ensures .next, length-le 4 (start-of-put-le-arg2 c .args .start))
+put-le-requires-2 c κs = omega (arith, put-mark-of-put-le-arg2 c .put-mark .ensures .next, c .before .before .before .put-le .ensures .next, le-length 4 (start-of-put-le-arg2 c .args .start))
 
 put-le-requires-3 : tie.Need-put-le-requires-3
 put-le-requires-3 c κs =
@@ -78,10 +79,10 @@ put-le-requires-3 c κs =
       arith,
       put-mark-of-put-le-arg3 c .put-mark .ensures .next,
       put-le-of-put-le-arg3 c .put-le .ensures .next,
-      length-le 4
+      le-length 4
           (start-of-put-le-arg3 c .args .start),
       c .before .before .before .put-le2 .ensures .next,
-      length-le 4 (start-of-put-le-arg3 c .args .end),
+      le-length 4 (start-of-put-le-arg3 c .args .end),
     )
 
 same-length : tie.Need-same-length

@@ -4,7 +4,7 @@ use mathlib.Core.Path.{refl, _∙_}
 use Prim.Native.Nat.{ℕ}
 use native.Mathlib.Omega.{arith}
 use borrow.Author.Needs.{needs}
-use Rattle.expr_parts.proofs.Calls.{walk-start, walk-there, walk-step}
+use Rattle.expr_laws.proofs.Calls.{walk-start, walk-there, walk-step}
 use Rattle.expressions.proofs.Arms as ways
 use Rattle.expressions.proofs.+compile_expr.Lts-compile_expr as lts
 use Rattle.expressions.proofs.+compile_expr.Proof.Shared.{here, mark-5, spanned-5, start-5}

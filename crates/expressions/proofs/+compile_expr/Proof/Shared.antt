@@ -10,20 +10,20 @@ use borrow.Fn.PlainCycle.{Measures, is, falls, and}
 use Rattle.fields.specs.Words.{letters}
 use Rattle.steps.specs.View.{mem}
 use Rattle.tree_laws.proofs.Expressions.{any-at}
-use Rattle.expr_parts.specs.Exprs.{expr-at}
-use Rattle.expr_parts.proofs.Calls.{Walk}
+use Rattle.expr_laws.specs.Exprs.{expr-at}
+use Rattle.expr_laws.proofs.Calls.{Walk}
 use Rattle.expressions.proofs.Arms as ways
 use Rattle.expressions.proofs.compile_expr.Reads as own
 use Rattle.expressions.proofs.compile_expr.Kinds as kinds
 use Rattle.expressions.proofs.+compile_expr.Lts-compile_expr as lts
-use Rattle.expr_parts.proofs.after_right.Reads as after-right
-use Rattle.expr_parts.proofs.before_right.Reads as before-right
-use Rattle.expr_parts.proofs.call_close.Reads as call-close
-use Rattle.expr_parts.proofs.call_open.Reads as call-open
-use Rattle.expr_parts.proofs.call_parts.Reads as call-parts
-use Rattle.expr_parts.proofs.compile_super.Reads as compile-super
+use Rattle.expr_operators.proofs.after_right.Reads as after-right
+use Rattle.expr_operators.proofs.before_right.Reads as before-right
+use Rattle.expr_calls.proofs.call_close.Reads as call-close
+use Rattle.expr_calls.proofs.call_open.Reads as call-open
+use Rattle.expr_calls.proofs.call_parts.Reads as call-parts
+use Rattle.expr_super.proofs.compile_super.Reads as compile-super
 use Rattle.expressions.proofs.literal.Reads as literal
-use Rattle.expr_parts.proofs.prefix_op.Reads as prefix-op
+use Rattle.expr_operators.proofs.prefix_op.Reads as prefix-op
 use Rattle.fields.proofs.mark_at.Reads as mark-at
 use Rattle.fields.proofs.span_at.Reads as span-at
 use Rattle.fields.proofs.u16_at.Reads as u16-at

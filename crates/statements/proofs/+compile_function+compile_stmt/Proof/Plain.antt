@@ -2,7 +2,7 @@
 -- where it is made, `-left` the call from where its areas have come back, `-went` and `-halted` the call once its answer is known.
 use mathlib.Core.Path.{_∙_}
 use Prim.Native.Nat.{ℕ}
-use Rattle.stmt_plain.specs.Plain.{NoOther}
+use Rattle.stmt_plain_laws.specs.Plain.{NoOther}
 use Rattle.statements.proofs.Walks as walks
 use Rattle.statements.proofs.+compile_function+compile_stmt.Lts-compile_stmt as lts
 use Rattle.statements.proofs.+compile_function+compile_stmt.Proof.Shared.{here, spanned-7, start-7}

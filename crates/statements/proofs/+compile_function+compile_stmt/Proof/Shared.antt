@@ -18,10 +18,10 @@ use Rattle.statements.proofs.compile_function.Reads as function-reads
 use Rattle.statements.proofs.compile_function.Kinds as function-kinds
 use Rattle.statements.proofs.+compile_function+compile_stmt.Lts-compile_stmt as lts
 use Rattle.statements.proofs.+compile_function+compile_stmt.Lts-compile_function as function-lts
-use Rattle.stmt_classes.proofs.close_class.Reads as close-class
-use Rattle.stmt_classes.proofs.inner_class.Reads as inner-class
-use Rattle.stmt_classes.proofs.method_kind.Reads as method-kind
-use Rattle.stmt_classes.proofs.open_class.Reads as open-class
+use Rattle.stmt_class_close.proofs.close_class.Reads as close-class
+use Rattle.stmt_heads.proofs.inner_class.Reads as inner-class
+use Rattle.stmt_heads.proofs.method_kind.Reads as method-kind
+use Rattle.stmt_class_open.proofs.open_class.Reads as open-class
 use Rattle.stmt_functions.proofs.close_function.Reads as close-function
 use Rattle.stmt_functions.proofs.open_function.Reads as open-function
 use Rattle.expressions.proofs.compile_expr.Reads as compile-expr

@@ -1,0 +1,2 @@
+-- What a call leaves, part by part.
+pub mod Ends

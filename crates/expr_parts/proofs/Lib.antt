@@ -1,3 +1,0 @@
--- The laws of the arms: one for each way out of a function of src/.
-pub mod Operators
-pub mod Calls

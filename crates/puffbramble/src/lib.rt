@@ -1,0 +1,64 @@
+// What C and Rust programs call: include/puffbramble.h says the same for them. A slice comes as a pointer and a number of elements, and an
+// answer goes back as a struct of five numbers. Nothing is decided here: each function hands on to the one that is proved against the rules.
+ghost use mathlib.Core.Path.{_≡_};
+ghost use lib.ListN.{length};
+ghost use Rattle.rules.specs.Entry as rules;
+ghost use Rattle.rules.specs.Checker.{check, code-answer, span-of};
+ghost use Rattle.image.specs.Counted.{code-part};
+ghost use Rattle.spans.specs.Words.{runs-of};
+ghost use Rattle.tree.specs.Read.{read-answer};
+use rules::Answer;
+
+// 0 with the image's length in `length`, or a refusal. The output has the image and then zeros, or only zeros; the work areas end all zero.
+#[no_mangle]
+pub extern "C" fn puffbramble_compile(
+    tree: &[u8],
+    out: &mut [u8],
+    table: &mut [u64],
+    code: &mut [u8],
+    spans: &mut [u32],
+) -> Answer
+    ensures { λ r. ⌜ record { answer = r; output = now (out .exit); table = now (table .exit); code = now (code .exit); spans = now (spans .exit) } ≡ rules.compile (now (tree .entry)) (record { table-words = length (now (table .entry)); code-bytes = length (now (code .entry)); span-words = length (now (spans .entry)); output-bytes = length (now (out .entry)) }) ⌝ }
+{
+    entry::compile(tree, out, table, code, spans)
+}
+
+// 0, or 2 to 5 with the place in `at`.
+#[no_mangle]
+pub extern "C" fn puffbramble_read(tree: &[u8]) -> Answer
+    ensures { λ r. ⌜ r ≡ read-answer (now (tree .entry)) ⌝ }
+{
+    tree::answer(tree)
+}
+
+// 0 with the number of instructions in `length`, or 40.
+#[no_mangle]
+pub extern "C" fn puffbramble_check(image: &[u8]) -> Answer
+    ensures { λ r. ⌜ r ≡ check (now (image .entry)) ⌝ }
+{
+    image::check(image)
+}
+
+// The lookup's number: 0, 40 or 41.
+#[no_mangle]
+pub extern "C" fn puffbramble_code_answer(image: &[u8], k: usize) -> Answer
+    ensures { λ r. ⌜ r ≡ code-answer (now (image .entry)) k ⌝ }
+{
+    image::code_answer(image, k)
+}
+
+// Where the code of function `k` stands in the image: 0 with its place in `at`, its end in `end` and its length in `length`; 40 or 41.
+#[no_mangle]
+pub extern "C" fn puffbramble_code_of(image: &[u8], k: usize) -> Answer
+    ensures { λ r. ⌜ r ≡ code-part (now (image .entry)) k ⌝ }
+{
+    image::code_part(image, k)
+}
+
+// 0 with the span in `at` and `end`, or 42.
+#[no_mangle]
+pub extern "C" fn puffbramble_span_of(words: &[u32], offset: usize) -> Answer
+    ensures { λ r. ⌜ r ≡ span-of (runs-of (now (words .entry))) offset ⌝ }
+{
+    spans::span_of_words(words, offset)
+}

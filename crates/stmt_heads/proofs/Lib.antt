@@ -1,0 +1,2 @@
+-- The laws of a class's head: what stands in its record.
+pub mod Heads

@@ -1,0 +1,2 @@
+-- The laws of a statement's value, one for each way out of the functions that compile it.
+pub mod Values
