@@ -1,6 +1,6 @@
 // The image writer: records put behind what the output holds so far. Where the output has no room the length is counted on, so that the
 // length needed is known in the end. Room for a constant, a run or a stretch of code is tested once, and `set_*` set its bytes with no
-// test more; `put_*` test at each byte, for what is too short to gain by it, and for the record that does not fit and those behind it.
+// test more; `put_*` test at each byte, for what a function or an image has once, and for the record that does not fit and those behind it.
 ghost use mathlib.Core.Path.{_≡_};
 ghost use mathlib.Core.List.{[], _∷_, _++_};
 ghost use Prim.Native.Nat.{_+_, _*_, _/_, _%_, _≤_, _<_};
