@@ -129,12 +129,6 @@ module _ {A : Type 0} (g : ℕ → A) (lo hi : ℕ) (t t′ : List ℕ) (b c : �
   entry-kept : (i : ℕ) → i < getD t c 0 → g (getD t′ (b + i) 0) ≡ g (getD t (b + i) 0)
   entry-kept i h = ap g (kept-off lo hi t t′ (b + i) k (λ x y. off (b + i) (omega arith) (omega arith) x y))
 
-  pub vec-kept : vec g t′ b c ≡ vec g t b c
-  vec-kept = ap (row _) count-kept ∙ row-cong _ _ _ entry-kept
-
-  pub pile-kept : pile g t′ b c ≡ pile g t b c
-  pile-kept = ap (stack _) count-kept ∙ stack-cong _ _ _ entry-kept
-
 pub kept-then : (lo hi : ℕ) (t t′ : List ℕ) (j v : ℕ) → Kept lo hi t t′ → lo ≤ j → j < hi → Kept lo hi t (set t′ j v)
 kept-then lo hi t t′ j v k a b = record {
   below = λ i l. getD-set-other t′ j i v 0 (omega arith) ∙ k .below i l;

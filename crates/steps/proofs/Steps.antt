@@ -159,15 +159,6 @@ pub then-to : {class limit l n v : ℕ} {e f : Turn} {m : Compile Unit} (next : 
     mid r → r ≡ Next v → Opened (e .class class) limit l f next mid now r′ → Opened class limit l (e ⨾ f) (m >> next) before now r′
 then-to next d q d′ = opened-seq (went d q) next d′
 
--- from a place on
-pub halt-at : {class limit l k : ℕ} {e f : Turn} {m : Compile ℕ} (next : ℕ → Compile Unit) {before now : Mem} {r : Step} {x : Why} → Opened class limit l e
-    m before now r → r ≡ Stop x → Did class limit l k f (m >>= next) before now r
-halt-at next d q = stopped q (refused-bind (stuck-to d q) next)
-
-pub then-at : {class limit l k v : ℕ} {e f : Turn} {m : Compile ℕ} (next : ℕ → Compile Unit) {before mid now : Mem} {r r′ : Step} → Opened class limit l e m
-    before mid r → r ≡ Next v → Did (e .class class) limit l k f (next v) mid now r′ → Did class limit l k (e ⨾ f) (m >>= next) before now r′
-then-at next d q d′ = did-bind (went-to d q) next d′
-
 -- a question first
 module _ {class l : ℕ} {A : Type 0} {m : Compile A} {v : A} {before : Mem} (w : Told class l m v before) where
   ask-as : {limit k : ℕ} {e : Turn} (next : A → Compile Unit) {now : Mem} (r : Step) → Did class limit l k e (next v) before now r → DidAs class limit l k e (m >>= next) before now r
@@ -189,10 +180,6 @@ module _ {class l : ℕ} {A : Type 0} {m : Compile A} {v : A} {before : Mem} (w 
   pub ask-refused : {B : Type 0} (next : A → Compile B) {x : Why} → Refused class l (next v) before x → Refused class l (m >>= next) before x
   unfolding _>>=_ go-on
   ask-refused next h = record { refuses = λ rest q. ap (λ (o : Outcome A). go-on o next) (w .says rest q) ∙ h .refuses rest q }
-
-  pub ask-gave : {B : Type 0} {limit : ℕ} {e : Turn} (next : A → Compile B) {b : B} {now : Mem} → Gave class limit l e (next v) b before now → Gave class limit l e (m >>= next) b before now
-  unfolding _>>=_ go-on
-  ask-gave next h = record { comes = λ rest q. ap (λ (o : Outcome A). go-on o next) (w .says rest q) ∙ h .comes rest q; agrees = h .agrees; ahead = h .ahead }
 
 -- a question whose answer is thrown away
 module _ {class l : ℕ} {A : Type 0} {m : Compile A} {v : A} {before : Mem} (w : Told class l m v before) where
@@ -235,10 +222,6 @@ module _ {A B : Type 0} (m : Compile A) (x : Compiler) where
   pub seq-err : {r : Refusal} (next : Compile B) → m x ≡ err r → (m >> next) x ≡ err r
   unfolding _>>_ go-on
   seq-err next e = ap (λ (o : Outcome A). go-on o (λ _. next)) e
-
-  pub bind-err : {r : Refusal} (next : A → Compile B) → m x ≡ err r → (m >>= next) x ≡ err r
-  unfolding _>>=_ go-on
-  bind-err next e = ap (λ (o : Outcome A). go-on o next) e
 
 -- ## A choice, another name, another turn
 

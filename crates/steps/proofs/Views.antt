@@ -51,10 +51,6 @@ pub view-len : (m : Mem) (l : ℕ) (rest : Rest) → length (view m l rest .ctx 
 unfolding view code-len
 view-len (mem t code spans) l rest = ops-length t code spans l (codeEnd t) (runsEnd t)
 
-pub view-depth : (m : Mem) (l : ℕ) (rest : Rest) → view m l rest .ctx .scope-depth ≡ depth-at m l
-unfolding view depth-at ctxAt
-view-depth (mem t code spans) l rest = refl
-
 -- ## What a step leaves alone
 
 pub still-agrees : {class : ℕ} {before now : Mem} {rest : Rest} → getD (t-of now) image-at 0 ≡ getD (t-of before) image-at 0 → Agrees class before rest → Agrees class now rest

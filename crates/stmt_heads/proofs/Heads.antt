@@ -71,10 +71,6 @@ module _ (tree : List ℕ) (at d : ℕ) {has : Bool} {super : Option Superclass}
       let i = maybe-no (read-superclass tree (word16 tree 2) d) (at + 15) q in
       record { is = i .0; end = i .1 }
 
-  -- the methods stand after the head
-  pub head-ends : at + 15 ≤ mid
-  head-ends = ⊎-elim (λ z. let e = without-super (λ h. omega arith) .end in omega arith) (λ z. let e = with-super z .end in omega arith) (flag-is _ look)
-
   -- the scope of `super` is there to be ended
   pub some-depth : (x : ℕ) {y : ℕ} → y ≡ (if is-some super then x + 1 else x) → word8 tree (at + 12) ≡ 1 → 0 < y
   some-depth x {y} e h =

@@ -37,9 +37,6 @@ less-deep d left h g = omega arith
 pub over-zero : (d : ℕ) {e : ℕ} → e ≡ d + 1 → 0 < e
 over-zero d q = omega arith
 
-pub free-deeper : Free deeper
-free-deeper = record { past = λ made rest. refl }
-
 pub free-shallower : Free shallower
 free-shallower = record { past = λ made rest. refl }
 

@@ -7,6 +7,5 @@ pub mod Fors
 pub mod Rows
 pub mod Functions
 pub mod ClassCut
-pub mod ClassWhole
 pub mod Classes
 pub mod Calls

@@ -193,15 +193,6 @@ module _ {class limit l at n : ℕ} {m : Compile Unit} {before : Mem} {out : Lis
     pub conclude : {r : Step} → Did inner limit k n f last mid now r → Worked class limit l at n m before out now out′ r
     conclude {r} d = record { does = conclude-as r d }
 
-  module _ {inner from : ℕ} {last : Compile Unit} {mid : Mem} {mid-out : List ℕ} (g : Grew inner limit l from n last mid mid-out now out′ → Grew class limit l at n m before out now out′)
-      (h : (x : Why) → Refused inner l last mid x → Refused class l m before x) where
-    conclude-worked-as : (r : Step) → Worked inner limit l from n last mid mid-out now out′ r → WorkedAs class limit l at n m before out now out′ r
-    conclude-worked-as (Next v) d = (g (d .does .0), d .does .1)
-    conclude-worked-as (Stop x) d = h x (d .does)
-
-    pub conclude-worked : {r : Step} → Worked inner limit l from n last mid mid-out now out′ r → Worked class limit l at n m before out now out′ r
-    conclude-worked {r} d = record { does = conclude-worked-as r d }
-
 -- a step that comes to another from every state
 module _ {class limit l at n : ℕ} {m m′ : Compile Unit} {before : Mem} {out : List ℕ} {now : Mem} {out′ : List ℕ} (h : (s : Compiler) → m′ s ≡ m s) where
   like-as : (r : Step) → Worked class limit l at n m before out now out′ r → WorkedAs class limit l at n m′ before out now out′ r

@@ -253,14 +253,3 @@ module _ (tree : List ℕ) where
 
     pub later-method : (d funs at : ℕ) {m : Span × Fun} {n : ℕ} → read-method tree names d funs at ≡ got m n → at + 16 ≤ n
     later-method d funs at e = level d .method funs .ends at e
-
-    pub later-methods : (count d funs at : ℕ) {ms : Methods} {n : ℕ} → read-methods count (read-method tree names d funs) at ≡ got ms n → at ≤ n
-    later-methods count d funs at e = plain at _ (methods-later (level d .method funs) count .ends at e)
-
-    -- a function's fields start ten bytes into its record
-    pub later-fun : {inner : Reader Stmt} {x : ℕ} → Later (length tree) x inner → (at : ℕ) {f : Fun} {n : ℕ} → fun-fields tree names inner (TreeForm at) (at + 10) ≡ got f n → at + 16 ≤ n
-    later-fun h at e = sixteen at _ (fun-later h (TreeForm at) .ends (at + 10) e)
-
-    -- what reads its body goes on
-    pub later-body : (d funs : ℕ) → Later (length tree) 10 (read-stmt tree names d funs)
-    later-body d funs = level d .stmt funs

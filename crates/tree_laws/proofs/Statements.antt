@@ -61,14 +61,6 @@ pub record OneStmtAt (stmt : Reader Stmt) (at : ℕ) (ss : Stmts) (n : ℕ) : Ty
   pub one : stmt at ≡ got thing n
   pub is : ss ≡ thing ∷ˢ []ˢ
 
-pub maybe-stmt-yes : (stmt : Reader Stmt) (at : ℕ) {ss : Stmts} {n : ℕ} → maybe-stmt true stmt at ≡ got ss n → OneStmtAt stmt at ss n
-unfolding maybe-stmt _>>=_ return
-maybe-stmt-yes stmt at r = let x = first (stmt at) _ r in record { thing = x .thing; one = moved (x .is) (got-next (x .rest)); is = sym (got-thing (x .rest)) }
-
-pub maybe-stmt-no : (stmt : Reader Stmt) (at : ℕ) {ss : Stmts} {n : ℕ} → maybe-stmt false stmt at ≡ got ss n → (ss ≡ []ˢ) × (n ≡ at)
-unfolding maybe-stmt return
-maybe-stmt-no stmt at r = (sym (got-thing r), sym (got-next r))
-
 pub same-some : {A : Type 0} {a b : A} → some a ≡ some b → a ≡ b
 same-some e = cc
 
@@ -245,15 +237,6 @@ module _ (tree : List ℕ) (names : ℕ) where
       ⊎-elim w (λ h. absurd (no-row _ h))
       (row _ _ _ _ h)) (row _ _ _ _ h)) (row _ _ _ _ h)) (row _ _ _ _ h)) (row _ _ _ _ h)) (row _ _ _ _ h)) (row _ _ _ _ h)) (row _ _ _ _ h)) (row _ _ _ _ h))
       (row _ _ _ _ (any-stmt-at d funs at r .look))
-
-  -- no other mark is left
-  pub class-left : (d funs at : ℕ) {s : Stmt} {n : ℕ} → read-stmt tree names d funs at ≡ got s n
-      → (letters tree at ≡ marks.SE → ⊥) → (letters tree at ≡ marks.SP → ⊥) → (letters tree at ≡ marks.SV → ⊥) → (letters tree at ≡ marks.SB → ⊥) → (letters tree at ≡ marks.SI → ⊥)
-      → (letters tree at ≡ marks.SW → ⊥) → (letters tree at ≡ marks.SO → ⊥) → (letters tree at ≡ marks.SR → ⊥) → (letters tree at ≡ marks.SF → ⊥)
-      → letters tree at ≡ marks.SC
-  class-left d funs at r e p v b i w o t f =
-      by-mark d funs at r (λ h. absurd (b h)) (λ h. h) (λ h. absurd (e h)) (λ h. absurd (f h)) (λ h. absurd (i h)) (λ h. absurd (o h)) (λ h. absurd (p h)) (λ h. absurd (t h)) (λ h. absurd (v h))
-      (λ h. absurd (w h))
 
   -- ## Fields
 

@@ -22,7 +22,7 @@ use Rattle.rules.specs.TreeFile.{StmtMark, SB, SC, SE, SF, SI, SO, SP, SR, SV, 
 use Rattle.fields.specs.Words.{word8, letters, span-of}
 use Rattle.fields.proofs.Reading.{a-u8, a-span, then-on, then-bad, bad-got, mark-is-it, mark-is-not, mark-is-cut}
 use Rattle.tree_small.specs.Places.{place, and-then, row, below, known-mark}
-use Rattle.tree_stmts.specs.Stmts.{method-marks, known-stmt, plain, body-from, stmt-place, kids-place, follow-head, children, BlockKids, ClassKids, FunKids, IfKids, ForKids, ReturnKids, VarKids, StmtKids, StmtOpens}
+use Rattle.tree_stmts.specs.Stmts.{method-marks, known-stmt, plain, body-from, stmt-place, kids-place, follow-head, announces, children, BlockKids, ClassKids, FunKids, IfKids, ForKids, ReturnKids, VarKids, StmtKids, StmtOpens}
 use Rattle.tree_small.specs.declared.Step.{Step}
 use Rattle.tree_stmts.specs.declared.Head.{Head}
 use Rattle.tree_small.proofs.Places.{chain, made, goes, stops, and-then-end, and-then-same, row-one, row-some, stmts-row, methods-row, many-row}
@@ -98,11 +98,7 @@ module _ (tree : List ℕ) (names depth : ℕ) where
   plain-place at cond body funs methods =
       and-then-same (row e-place cond at) _ _ (λ n. and-then-end (row (stmt-place tree names depth funs methods) body n))
 
-  -- expressions alone, and statements alone
-  plain-exprs : (at cond funs : ℕ) (methods : Bool) → follow-head tree names depth (plain at cond 0 funs methods) ≡ row e-place cond at
-  unfolding row
-  plain-exprs at cond funs methods = plain-place at cond 0 funs methods ∙ and-then-end (row e-place cond at)
-
+  -- statements alone
   plain-stmts : (at body funs : ℕ) (methods : Bool) → follow-head tree names depth (plain at 0 body funs methods) ≡ row (stmt-place tree names depth funs methods) body at
   unfolding row and-then
   plain-stmts at body funs methods = plain-place at 0 body funs methods
@@ -116,6 +112,40 @@ module _ (tree : List ℕ) (names depth : ℕ) where
   methods-place funs count at = methods-row (read-method tree names depth funs) count at
 
 -- ## By kind: what each way out of the fields announces
+
+module _ (tree : List ℕ) (start : ℕ) where
+  pub return-no : below tree 2 (TreeForm start) (start + 10) ≡ bad (TreeForm start) → ReturnKids tree start (Head.Bad (TreeForm start))
+  unfolding return-fields _>>=_ place follow-head
+  return-no e = record { whole = λ names depth s. ap place (then-bad _ (flag-no tree (TreeForm start) (start + 10) e)) }
+
+  pub return-is : {v at : ℕ} → v < 2 → below tree 2 (TreeForm start) (start + 10) ≡ got v at → ReturnKids tree start (Head.Exprs at v)
+  unfolding return-fields _>>=_ follow-head
+  return-is {v} {at} h e =
+      record {
+        whole = λ names depth s.
+            ap place (then-on _ (flag-is tree (TreeForm start) (start + 10) v h e)) ∙ made (maybe (eqb v 1) (read-expr tree names depth) at) _ ∙
+            maybe-count (read-expr tree names depth) v at h;
+      }
+
+  module _ (names : ℕ) where
+    pub var-unnamed : name tree names (TreeForm start) (start + 10) ≡ bad (TreeForm start) → VarKids tree names start (Head.Bad (TreeForm start))
+    unfolding var-stmt-fields _>>=_ place follow-head
+    var-unnamed e = record { whole = λ depth s. ap place (then-bad _ e) }
+
+    pub var-no : {nm next : ℕ} → name tree names (TreeForm start) (start + 10) ≡ got nm next → below tree 2 (TreeForm start) next ≡ bad (TreeForm start)
+        → VarKids tree names start (Head.Bad (TreeForm start))
+    unfolding var-stmt-fields _>>=_ place follow-head
+    var-no {next = next} e f = record { whole = λ depth s. ap place (then-on _ e ∙ then-bad _ (flag-no tree (TreeForm start) next f)) }
+
+    pub var-is : {nm next v at : ℕ} → name tree names (TreeForm start) (start + 10) ≡ got nm next → v < 2 → below tree 2 (TreeForm start) next ≡ got v at
+        → VarKids tree names start (Head.Exprs at v)
+    unfolding var-stmt-fields _>>=_ follow-head
+    var-is {nm} {next} {v} {at} e h f =
+        record {
+          whole = λ depth s.
+              ap place (then-on _ e ∙ then-on _ (flag-is tree (TreeForm start) next v h f)) ∙ made (maybe (eqb v 1) (read-expr tree names depth) at) _ ∙
+              maybe-count (read-expr tree names depth) v at h;
+        }
 
 module _ (tree : List ℕ) (start funs : ℕ) where
   pub block-no : u16 tree (TreeForm start) (start + 10) ≡ bad (TreeForm start) → BlockKids tree start funs (Head.Bad (TreeForm start))
@@ -188,39 +218,7 @@ module _ (tree : List ℕ) (start funs : ℕ) where
             for-from names depth v at s (mod-lt v (lit< tt)) (mod-lt (v / 2) (lit< tt)) (under-two v h) (needs tree (TreeForm start) (start + 10) 8 _ e);
       }
 
-  pub return-no : below tree 2 (TreeForm start) (start + 10) ≡ bad (TreeForm start) → ReturnKids tree start (Head.Bad (TreeForm start))
-  unfolding return-fields _>>=_ place follow-head
-  return-no e = record { whole = λ names depth s. ap place (then-bad _ (flag-no tree (TreeForm start) (start + 10) e)) }
-
-  pub return-is : {v at : ℕ} {r : Head} → v < 2 → below tree 2 (TreeForm start) (start + 10) ≡ got v at → r ≡ plain at v 0 funs false → ReturnKids tree start r
-  unfolding return-fields _>>=_
-  return-is {v} {at} h e q =
-      record {
-        whole = λ names depth s.
-            ap place (then-on _ (flag-is tree (TreeForm start) (start + 10) v h e)) ∙ made (maybe (eqb v 1) (read-expr tree names depth) at) _ ∙
-            maybe-count (read-expr tree names depth) v at h ∙ sym (plain-exprs tree names depth at v funs false) ∙ ap (follow-head tree names depth) (sym q);
-      }
-
   module _ (names : ℕ) where
-    pub var-unnamed : name tree names (TreeForm start) (start + 10) ≡ bad (TreeForm start) → VarKids tree names start (Head.Bad (TreeForm start))
-    unfolding var-stmt-fields _>>=_ place follow-head
-    var-unnamed e = record { whole = λ depth s. ap place (then-bad _ e) }
-
-    pub var-no : {nm next : ℕ} → name tree names (TreeForm start) (start + 10) ≡ got nm next → below tree 2 (TreeForm start) next ≡ bad (TreeForm start)
-        → VarKids tree names start (Head.Bad (TreeForm start))
-    unfolding var-stmt-fields _>>=_ place follow-head
-    var-no {next = next} e f = record { whole = λ depth s. ap place (then-on _ e ∙ then-bad _ (flag-no tree (TreeForm start) next f)) }
-
-    pub var-is : {nm next v at : ℕ} {r : Head} → name tree names (TreeForm start) (start + 10) ≡ got nm next → v < 2 → below tree 2 (TreeForm start) next ≡ got v at
-        → r ≡ plain at v 0 funs false → VarKids tree names start r
-    unfolding var-stmt-fields _>>=_
-    var-is {nm} {next} {v} {at} e h f q =
-        record {
-          whole = λ depth s.
-              ap place (then-on _ e ∙ then-on _ (flag-is tree (TreeForm start) next v h f)) ∙ made (maybe (eqb v 1) (read-expr tree names depth) at) _ ∙
-              maybe-count (read-expr tree names depth) v at h ∙ sym (plain-exprs tree names depth at v funs false) ∙ ap (follow-head tree names depth) (sym q);
-        }
-
     -- ## A class
 
     module _ (depth : ℕ) where
@@ -325,11 +323,11 @@ body-is funs p e = p ∙ sym (ap (λ q. body-from q funs) e)
 -- ## By the mark
 
 -- one expression, whatever is made of it
-one-expr : (tree : List ℕ) (names depth funs at : ℕ) {r : Head} → r ≡ plain at 1 0 funs false → {B : Type 0} (make : Expr → B)
+one-expr : (tree : List ℕ) (names depth at : ℕ) {r : Head} → r ≡ Head.Exprs at 1 → {B : Type 0} (make : Expr → B)
     → place (go-on (read-expr tree names depth at) (λ e. return (make e))) ≡ follow-head tree names depth r
-one-expr tree names depth funs at q make =
-    made (read-expr tree names depth at) make ∙ sym (row-one (e-place tree names depth) at) ∙ sym (plain-exprs tree names depth at 1 funs false) ∙
-    ap (follow-head tree names depth) (sym q)
+unfolding follow-head
+one-expr tree names depth at q make =
+    made (read-expr tree names depth at) make ∙ sym (row-one (e-place tree names depth) at) ∙ ap (follow-head tree names depth) (sym q)
 
 module _ (tree : List ℕ) (names depth funs start : ℕ) {mark : ℕ} {r : Head} where
   announce : (code : ℕ) (kind : StmtMark) → lookup code stmt-marks ≡ some kind → mark ≡ code
@@ -371,10 +369,10 @@ module _ (tree : List ℕ) (names depth funs start : ℕ) {mark : ℕ} {r : Head
   unfolding lookup stmt-marks stmt-fields children
   by-var b e = announce marks.SV SV refl e (b .whole depth)
 
-  pub by-expr : r ≡ plain (start + 10) 1 0 funs false → (mark ≡ marks.SE) ⊎ (mark ≡ marks.SP) → StmtKids tree names depth funs mark start r
+  pub by-expr : r ≡ Head.Exprs (start + 10) 1 → (mark ≡ marks.SE) ⊎ (mark ≡ marks.SP) → StmtKids tree names depth funs mark start r
   unfolding lookup stmt-marks stmt-fields children expression-fields print-fields _>>=_
-  by-expr q (inl e) = announce marks.SE SE refl e (λ s. one-expr tree names depth funs (start + 10) q _)
-  by-expr q (inr e) = announce marks.SP SP refl e (λ s. one-expr tree names depth funs (start + 10) q _)
+  by-expr q (inl e) = announce marks.SE SE refl e (λ s. one-expr tree names depth (start + 10) q _)
+  by-expr q (inr e) = announce marks.SP SP refl e (λ s. one-expr tree names depth (start + 10) q _)
 
   a-while : r ≡ plain (start + 10) 1 1 funs false → mark ≡ marks.SW → StmtKids tree names depth funs mark start r
   unfolding lookup stmt-marks stmt-fields children while-fields _>>=_ stmt-place
@@ -615,8 +613,8 @@ module _ (tree : List ℕ) (names : ℕ) where
       sym (ap (λ (d : ℕ). go-on (fun-fields tree names (read-stmt tree names d (funs - 1)) (TreeForm at) (at + 10)) (λ f. return (span-of tree (at + 2), f))) p)
 
   pub opens-bad : (depth funs : ℕ) (method : Bool) (at : ℕ) {x : Refusal} → stmt-place tree names depth funs method at ≡ Step.Bad x → StmtOpens tree names depth funs method at (Head.Bad x)
-  unfolding follow-head
-  opens-bad depth funs method at e = record { whole = e; room = λ plan q. let z : _≡_ {A = ℕ} 0 1 = cc in absurd (omega arith) }
+  unfolding follow-head announces
+  opens-bad depth funs method at e = record { whole = e; room = λ q. let z : _≡_ {A = ℕ} 0 1 = cc in absurd (omega arith) }
 
   pub opens-kids : (depth funs : ℕ) (method : Bool) (at : ℕ) {m : ℕ} {r : Head} → StmtMarked tree at method m → (depth ≡ 0 → ⊥) → (m ≡ marks.SF → 0 < funs) → at + 10 ≤ length tree
       → StmtKids tree names (depth - 1) funs m at r → StmtOpens tree names depth funs method at r
@@ -624,7 +622,7 @@ module _ (tree : List ℕ) (names : ℕ) where
   opens-kids depth funs false at k z f h a =
       record {
         whole = ap place (stmt-is depth funs at (k .table) z f h) ∙ a .whole (k .table .kind) (k .table .look) (span-of tree (at + 2));
-        room = λ plan q. omega (arith, z);
+        room = λ q. omega (arith, z);
       }
   opens-kids depth funs true at {m} k z f h a =
       record {
@@ -633,8 +631,13 @@ module _ (tree : List ℕ) (names : ℕ) where
             made (fun-fields tree names (read-stmt tree names (depth - 1) (funs - 1)) (TreeForm at) (at + 10)) _ ∙
             sym (made (fun-fields tree names (read-stmt tree names (depth - 1) (funs - 1)) (TreeForm at) (at + 10)) _) ∙
             a .whole SF (fun-look m (method-letters m (k .table .look) .0)) (span-of tree (at + 2));
-        room = λ plan q. omega (arith, z);
+        room = λ q. omega (arith, z);
       }
+
+-- a record ends where what its head announces ends
+pub follows : {tree : List ℕ} {names depth funs : ℕ} {method : Bool} {at : ℕ} {answer head : Head} {end : Step}
+    → StmtOpens tree names depth funs method at answer → answer ≡ head → end ≡ follow-head tree names (depth - 1) head → end ≡ stmt-place tree names depth funs method at
+follows {tree} {names} {depth} o q e = e ∙ sym (o .whole ∙ ap (follow-head tree names (depth - 1)) q)
 
 -- ## The mark that the code finds
 

@@ -26,6 +26,12 @@ unfoldable pub plain : (at cond body funs : ℕ) → (methods : Bool) → Head
 plain at cond body funs methods =
     Head.Kids (record { at = at; init = 0; cond = cond; body = body; incr = 0; funs = funs; methods = methods })
 
+-- whether records are announced
+unfoldable pub announces : Head → Bool
+announces (Head.Kids plan) = true
+announces (Head.Exprs from count) = true
+announces (Head.Bad r) = false
+
 -- a function's body, after its number of statements
 unfoldable pub body-from : Read ℕ → (funs : ℕ) → Head
 body-from (got count next) funs = plain next 0 count funs false
@@ -47,6 +53,7 @@ module _ (tree : List ℕ) (names : ℕ) where
 
   unfoldable pub follow-head : (depth : ℕ) → Head → Step
   follow-head depth (Head.Kids plan) = kids-place depth plan
+  follow-head depth (Head.Exprs from count) = row (λ at. place (read-expr tree names depth at)) count from
   follow-head depth (Head.Bad r) = Step.Bad r
 
   -- what reads the children of a statement
@@ -96,4 +103,4 @@ pub record StmtKids (tree : List ℕ) (names depth funs mark start : ℕ) (answe
 
 pub record StmtOpens (tree : List ℕ) (names depth funs : ℕ) (method : Bool) (start : ℕ) (answer : Head) : Type 0 where
   pub whole : stmt-place tree names depth funs method start ≡ follow-head tree names (depth - 1) answer
-  pub room : (plan : Plan) → answer ≡ Head.Kids plan → 0 < depth
+  pub room : announces answer ≡ true → 0 < depth

@@ -30,8 +30,10 @@ pub struct Plan {
     pub methods: bool,
 }
 
+// Of a statement that holds expressions alone it says from where and how many, and no more: most statements are such, and a plan is long to hand on.
 pub enum Head {
     Kids(Plan),
+    Exprs(usize, usize),
     Bad(Refusal),
 }
 
@@ -182,17 +184,17 @@ fn for_kids(tree: &[u8], start: usize, funs: usize) -> Head
     })
 }
 
-fn return_kids(tree: &[u8], start: usize, funs: usize) -> Head
+fn return_kids(tree: &[u8], start: usize) -> Head
     requires { ⌜ start + 10 ≤ length (now tree) ⌝ }
     ensures { λ r. ⌜ ReturnKids (now (tree .entry)) start r ⌝ }
 {
     let Field::Is(has_value) = byte_at(tree, 2, start + 10) else {
         return Head::Bad(Refusal::TreeForm(start));
     };
-    planned(start + 11, has_value, 0, funs, false)
+    Head::Exprs(start + 11, has_value)
 }
 
-fn var_kids(tree: &[u8], names: u16, start: usize, funs: usize) -> Head
+fn var_kids(tree: &[u8], names: u16, start: usize) -> Head
     requires { ⌜ start + 10 ≤ length (now tree) ⌝ }
     ensures { λ r. ⌜ VarKids (now (tree .entry)) names start r ⌝ }
 {
@@ -202,7 +204,7 @@ fn var_kids(tree: &[u8], names: u16, start: usize, funs: usize) -> Head
     let Field::Is(has_value) = byte_at(tree, 2, start + 12) else {
         return Head::Bad(Refusal::TreeForm(start));
     };
-    planned(start + 13, has_value, 0, funs, false)
+    Head::Exprs(start + 13, has_value)
 }
 
 // What follows the span, by the mark. `depth` is what the children have.
@@ -213,12 +215,12 @@ fn stmt_kids(tree: &[u8], names: u16, depth: usize, funs: usize, mark: u16, star
     match mark {
         Mark::BLOCK => block_kids(tree, start, funs),
         Mark::CLASS => class_kids(tree, names, depth, start, funs),
-        Mark::EXPRESSION | Mark::PRINT => planned(start + 10, 1, 0, funs, false),
+        Mark::EXPRESSION | Mark::PRINT => Head::Exprs(start + 10, 1),
         Mark::FUN => fun_kids(tree, names, start, funs - 1),
         Mark::IF => if_kids(tree, start, funs),
         Mark::FOR => for_kids(tree, start, funs),
-        Mark::RETURN => return_kids(tree, start, funs),
-        Mark::VAR => var_kids(tree, names, start, funs),
+        Mark::RETURN => return_kids(tree, start),
+        Mark::VAR => var_kids(tree, names, start),
         _ => planned(start + 10, 1, 1, funs, false),
     }
 }
@@ -245,7 +247,7 @@ fn open_stmt(tree: &[u8], names: u16, depth: usize, funs: usize, method: bool, s
     stmt_kids(tree, names, depth - 1, funs, mark, start)
 }
 
-// A statement, or where `method` is set a method.
+// A statement, or where `method` is set a method. The answer of expressions is taken apart and made anew, as in `check_kids`.
 pub fn check_stmt(
     tree: &[u8],
     names: u16,
@@ -259,6 +261,13 @@ pub fn check_stmt(
     match open_stmt(tree, names, depth, funs, method, at) {
         Head::Bad(r) => Step::Bad(r),
         Head::Kids(plan) => check_kids(tree, names, depth - 1, plan),
+        Head::Exprs(from, count) => {
+            let exprs = check_exprs(tree, names, depth - 1, count, from);
+            let Step::At(at) = exprs else {
+                return exprs;
+            };
+            Step::At(at)
+        }
     }
 }
 

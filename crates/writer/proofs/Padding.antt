@@ -1,14 +1,16 @@
 -- Bytes put one after the other: a byte, and what two calls come to.
 use mathlib.Core.Path.{_≡_, refl, sym, ap, _∙_, subst}
+use mathlib.Core.Bool.{Bool, true}
 use mathlib.Core.List.{List, [], _∷_, _++_, append-assoc, append-nil}
 use Prim.Native.Nat.{ℕ, zero, suc, _+_, _-_, _*_, _/_, _%_, _^_, _≤_, _<_}
 use native.Mathlib.Omega.{arith}
 use lib.ListN.{length, length-append, length-set, set, replicate}
+use lib.Dec.{leb}
 use Rattle.rules.proofs.Numbers.{le-length}
 use Rattle.rules.specs.Base.{le}
 use Rattle.rules.specs.Chunk.{Run, Constant, CN, CS, CF}
 use Rattle.rules.specs.Image.{join, run-bytes, constant-bytes}
-use borrow.Author.Tests.{lt-ltb, le-ltb}
+use borrow.Author.Tests.{leb-true}
 use Rattle.state.specs.Layout.{constantOf}
 use Rattle.writer.specs.Put.{padded, Put, stretch, head-bytes}
 
@@ -88,6 +90,10 @@ put-nothing out at =
       size = refl;
       holds = λ bs k h. h ∙ ap (padded (length out)) (sym (append-nil bs));
     }
+
+-- what a test of room has shown where it holds
+pub has-room : (at size : ℕ) (out : List ℕ) {r : Bool} → r ≡ leb (at + size) (length out) → r ≡ true → at + size ≤ length out
+has-room at size out e h = leb-true (at + size) (length out) (sym e ∙ h)
 
 -- ## A loop: of `all`, what is left is still to be put
 

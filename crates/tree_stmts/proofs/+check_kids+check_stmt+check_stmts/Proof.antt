@@ -2,9 +2,10 @@
 use borrow.Author.Needs.{needs}
 use native.Mathlib.Omega.{arith}
 use mathlib.Core.Path.{_≡_, refl, sym, ap, _∙_}
-use Prim.Native.Nat.{_+_, _-_, _*_}
+use Prim.Native.Nat.{_+_, _*_}
 use Rattle.tree_small.specs.Places.{row}
-use Rattle.tree_stmts.specs.Stmts.{stmt-place, kids-place, follow-head}
+use Rattle.tree_stmts.specs.Stmts.{stmt-place, kids-place, follow-head, announces}
+use Rattle.tree_stmts.proofs.Statements.{follows}
 use Rattle.tree_small.proofs.Places.{goes, stops, row-none, row-stops, row-goes}
 use Prim.Native.Nat.{ℕ, _<_}
 use borrow.Fn.Kinds.{In, Out}
@@ -74,6 +75,8 @@ check-stmt-claims t = (
   open-stmt-reads.Learnt,
   check-kids-below t,
   check-kids.Post,
+  check-exprs-reads.Asked,
+  check-exprs-reads.Learnt,
 )
 
 abbrev check-stmt-here : (check-stmt-lts.Claims → In 1 check-stmt-kinds.ps → Out 1 check-stmt-kinds.ps check-stmt-kinds.r → Type 0) → ℕ → Type 0
@@ -253,17 +256,29 @@ start-of-open-stmt t c = c .before .before
 abbrev check-stmt-start-of-known-told2 : (t : ℕ) → check-stmt-here check-stmt-lts.After-known-told2 t → check-stmt-here check-stmt-lts.Start t
 check-stmt-start-of-known-told2 t c = start-of-open-stmt t (c .before .before .before)
 
-abbrev start-of-known-told : (t : ℕ) → check-stmt-here check-stmt-lts.After-known-told t → check-stmt-here check-stmt-lts.Start t
-start-of-known-told t c = start-of-open-stmt t (c .before .before .before)
-
 abbrev open-stmt-of-at-match-keys2 : (t : ℕ) → check-stmt-here check-stmt-lts.At-match-keys2 t → check-stmt-here check-stmt-lts.After-open-stmt t
 open-stmt-of-at-match-keys2 t c = c .before
 
 abbrev open-stmt-of-check-kids : (t : ℕ) → check-stmt-here check-stmt-lts.After-check-kids t → check-stmt-here check-stmt-lts.After-open-stmt t
 open-stmt-of-check-kids t c = open-stmt-of-at-match-keys2 t (c .before .before .before)
 
-abbrev start-of-check-kids : (t : ℕ) → check-stmt-here check-stmt-lts.After-check-kids t → check-stmt-here check-stmt-lts.Start t
-start-of-check-kids t c = open-stmt-of-check-kids t c .before .before
+abbrev open-stmt-of-at-match-keys3 : (t : ℕ) → check-stmt-here check-stmt-lts.At-match-keys3 t → check-stmt-here check-stmt-lts.After-open-stmt t
+open-stmt-of-at-match-keys3 t c = c .before
+
+abbrev from-of-check-exprs : (t : ℕ) → check-stmt-here check-stmt-lts.After-check-exprs t → check-stmt-here check-stmt-lts.After-from t
+from-of-check-exprs t c = c .before .before
+
+abbrev from-of-enum-told : (t : ℕ) → check-stmt-here check-stmt-lts.After-enum-told t → check-stmt-here check-stmt-lts.After-from t
+from-of-enum-told t c = from-of-check-exprs t (c .before .before)
+
+abbrev open-stmt-of-enum-told : (t : ℕ) → check-stmt-here check-stmt-lts.After-enum-told t → check-stmt-here check-stmt-lts.After-open-stmt t
+open-stmt-of-enum-told t c = open-stmt-of-at-match-keys3 t (from-of-enum-told t c .before)
+
+abbrev from-of-known-told4 : (t : ℕ) → check-stmt-here check-stmt-lts.After-known-told4 t → check-stmt-here check-stmt-lts.After-from t
+from-of-known-told4 t c = from-of-check-exprs t (c .before .before .before)
+
+abbrev open-stmt-of-known-told4 : (t : ℕ) → check-stmt-here check-stmt-lts.After-known-told4 t → check-stmt-here check-stmt-lts.After-open-stmt t
+open-stmt-of-known-told4 t c = open-stmt-of-at-match-keys3 t (from-of-known-told4 t c .before)
 
 -- ## Needs
 
@@ -334,24 +349,47 @@ check-stmt-enum-known-plan : (t : ℕ) → check-stmt-here check-stmt-lts.Need-e
 check-stmt-enum-known-plan t c = search needs
 
 check-stmt-sub-check-kids : (t : ℕ) → check-stmt-here check-stmt-lts.Need-sub-check-kids t
-check-stmt-sub-check-kids t c = omega (arith, c .before .before .before .open-stmt .ensures .room _ (c .before .plan .given .1))
+unfolding announces
+check-stmt-sub-check-kids t c = omega (arith, c .before .before .before .open-stmt .ensures .room (ap announces (c .before .plan .given .1)))
 
 check-stmt-check-kids-requires : (t : ℕ) → check-stmt-here check-stmt-lts.Need-check-kids-requires t
-check-stmt-check-kids-requires t c κs = (omega (arith, c .before .before .before .open-stmt .ensures .room _ (c .before .plan .given .1), check-stmt-start-of-known-told2 t c .pre .0), tt)
+unfolding announces
+check-stmt-check-kids-requires t c κs =
+    (omega (arith, c .before .before .before .open-stmt .ensures .room (ap announces (c .before .plan .given .1)), check-stmt-start-of-known-told2 t c .pre .0), tt)
+
+check-stmt-enum-known-from : (t : ℕ) → check-stmt-here check-stmt-lts.Need-enum-known-from t
+check-stmt-enum-known-from t c = search needs
+
+check-stmt-sub-check-exprs : (t : ℕ) → check-stmt-here check-stmt-lts.Need-sub-check-exprs t
+unfolding announces
+check-stmt-sub-check-exprs t c = omega (arith, c .before .before .before .open-stmt .ensures .room (ap announces (c .before .from .given .1)))
+
+check-stmt-check-exprs-requires : (t : ℕ) → check-stmt-here check-stmt-lts.Need-check-exprs-requires t
+check-stmt-check-exprs-requires t c κs = search needs
+
+check-stmt-enum-known-exprs : (t : ℕ) → check-stmt-here check-stmt-lts.Need-enum-known-exprs t
+check-stmt-enum-known-exprs t c = search needs
+
+check-stmt-enum-told : (t : ℕ) → check-stmt-here check-stmt-lts.Need-enum-told t
+check-stmt-enum-told t c = search needs
 
 check-stmt-returns : (t : ℕ) → check-stmt-here check-stmt-lts.Need-returns t
 unfolding follow-head
-check-stmt-returns t c =
-    sym (c .before .before .before .open-stmt .ensures .whole ∙ ap
-    (follow-head (start-of-known-told t c .args .tree .now) (start-of-known-told t c .args .names)
-    (start-of-known-told t c .args .depth - 1)) (c .before .r .given .1))
+check-stmt-returns t c = follows (open-stmt-of-enum-told t c .open-stmt .ensures) (from-of-enum-told t c .from .given .1) (c .before .before .check-exprs .ensures)
 
 check-stmt-returns-2 : (t : ℕ) → check-stmt-here check-stmt-lts.Need-returns-2 t
 unfolding follow-head
-check-stmt-returns-2 t c =
-    c .check-kids .ensures ∙ sym (open-stmt-of-check-kids t c .open-stmt .ensures .whole ∙ ap
-    (follow-head (start-of-check-kids t c .args .tree .now) (start-of-check-kids t c .args .names)
-    (start-of-check-kids t c .args .depth - 1)) (c .before .before .plan .given .1))
+check-stmt-returns-2 t c = follows (c .before .before .before .open-stmt .ensures) (c .before .r .given .1) refl
+
+check-stmt-returns-3 : (t : ℕ) → check-stmt-here check-stmt-lts.Need-returns-3 t
+unfolding follow-head
+check-stmt-returns-3 t c = follows (open-stmt-of-check-kids t c .open-stmt .ensures) (c .before .before .plan .given .1) (c .check-kids .ensures)
+
+check-stmt-returns-4 : (t : ℕ) → check-stmt-here check-stmt-lts.Need-returns-4 t
+unfolding follow-head
+check-stmt-returns-4 t c =
+    follows (open-stmt-of-known-told4 t c .open-stmt .ensures) (from-of-known-told4 t c .from .given .1)
+    (sym (c .before .exprs .given .1) ∙ c .before .before .before .check-exprs .ensures)
 
 abbrev check-stmts-Inv-loop : check-stmts-lts.InvT-loop
 check-stmts-Inv-loop tree names depth funs methods count at left₀ next₀ left next = row (stmt-place tree names depth funs methods) left next ≡ row (stmt-place tree names depth funs methods) count at
@@ -463,8 +501,15 @@ pub +check-kids+check-stmt+check-stmts-spec : {M : Type 1} → statement M
     (check-stmt-enum-known-plan t)
     (check-stmt-sub-check-kids t)
     (check-stmt-check-kids-requires t)
+    (check-stmt-enum-known-from t)
+    (check-stmt-sub-check-exprs t)
+    (check-stmt-check-exprs-requires t)
+    (check-stmt-enum-known-exprs t)
+    (check-stmt-enum-told t)
     (check-stmt-returns t)
-    (check-stmt-returns-2 t))
+    (check-stmt-returns-2 t)
+    (check-stmt-returns-3 t)
+    (check-stmt-returns-4 t))
     λ t. check-stmts-lts.spec
     (check-stmt-below t, check-stmt.Post)
     (check-stmts-at t)

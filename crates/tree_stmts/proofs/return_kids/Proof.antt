@@ -29,30 +29,27 @@ start-of-enum-told c = start-of-byte-at (c .before .before)
 abbrev byte-at-of-at-match-keys1 : tie.At-match-keys1 → tie.After-byte-at
 byte-at-of-at-match-keys1 c = c .before
 
-abbrev byte-at-of-planned : tie.After-planned → tie.After-byte-at
-byte-at-of-planned c = byte-at-of-at-match-keys1 (c .before .before .before)
+abbrev byte-at-of-known-told : tie.After-known-told → tie.After-byte-at
+byte-at-of-known-told c = byte-at-of-at-match-keys1 (c .before .before)
 
-abbrev start-of-planned : tie.After-planned → tie.Start
-start-of-planned c = byte-at-of-planned c .before .before
+abbrev start-of-known-told : tie.After-known-told → tie.Start
+start-of-known-told c = start-of-byte-at (byte-at-of-known-told c)
 
 -- ## Needs
 
 returns : tie.Need-returns
 returns c =
-    return-no (start-of-enum-told c .args .tree .now) (start-of-enum-told c .args .start) (start-of-enum-told c .args .funs)
+    return-no (start-of-enum-told c .args .tree .now) (start-of-enum-told c .args .start)
     (c .before .before .byte-at .ensures .no (c .enum-told .given .1) (TreeForm (start-of-enum-told c .args .start)))
 
-add-planned : tie.Need-add-planned
-add-planned c = search needs
-
-planned-requires : tie.Need-planned-requires
-planned-requires c κs = search needs
+add-t5 : tie.Need-add-t5
+add-t5 c = search needs
 
 returns-2 : tie.Need-returns-2
 returns-2 c =
-    return-is (start-of-planned c .args .tree .now) (start-of-planned c .args .start) (start-of-planned c .args .funs)
-    (byte-at-of-planned c .byte-at .ensures .small _ (c .before .before .has-value .given .1))
-    (moved (byte-at-of-planned c .byte-at .ensures .is _ (c .before .before .has-value .given .1) (TreeForm (start-of-planned c .args .start))) (omega arith)) (c .planned .ensures)
+    return-is (start-of-known-told c .args .tree .now) (start-of-known-told c .args .start)
+    (byte-at-of-known-told c .byte-at .ensures .small _ (c .before .has-value .given .1))
+    (moved (byte-at-of-known-told c .byte-at .ensures .is _ (c .before .has-value .given .1) (TreeForm (start-of-known-told c .args .start))) (omega arith))
 
 pub return-kids-spec : {M : Type 1} → statement M
 return-kids-spec =
@@ -63,6 +60,5 @@ return-kids-spec =
     enum-known-has-value
     enum-told
     returns
-    add-planned
-    planned-requires
+    add-t5
     returns-2)

@@ -1,4 +1,5 @@
 -- `stmt_kids` meets its contract: one law for each arm. Assumes nothing.
+use mathlib.Core.Path.{refl}
 use native.Mathlib.Omega.{arith}
 use Rattle.tree_stmts.proofs.Statements.{by-block, by-class, by-expr, by-fun, by-if, by-for, by-return, by-var, while-left}
 use borrow.Author.Needs.{needs}
@@ -11,11 +12,8 @@ block-kids-requires c κs = search needs
 class-kids-requires : tie.Need-class-kids-requires
 class-kids-requires c κs = search needs
 
-add-planned : tie.Need-add-planned
-add-planned c = search needs
-
-planned-requires : tie.Need-planned-requires
-planned-requires c κs = search needs
+add-t8 : tie.Need-add-t8
+add-t8 c = search needs
 
 sub-fun-kids : tie.Need-sub-fun-kids
 sub-fun-kids c = omega (arith, c .before .before .pre .1 (c .match .keys4))
@@ -35,11 +33,11 @@ return-kids-requires c κs = search needs
 var-kids-requires : tie.Need-var-kids-requires
 var-kids-requires c κs = search needs
 
-add-planned-2 : tie.Need-add-planned-2
-add-planned-2 c = search needs
+add-planned : tie.Need-add-planned
+add-planned c = search needs
 
-planned-requires-2 : tie.Need-planned-requires-2
-planned-requires-2 c κs = search needs
+planned-requires : tie.Need-planned-requires
+planned-requires c κs = search needs
 
 returns : tie.Need-returns
 returns c =
@@ -53,8 +51,8 @@ returns-2 c =
 
 returns-3 : tie.Need-returns-3
 returns-3 c =
-    by-expr (c .before .before .before .args .tree .now) (c .before .before .before .args .names) (c .before .before .before .args .depth)
-    (c .before .before .before .args .funs) (c .before .before .before .args .start) (c .planned .ensures) (c .before .match .keys3)
+    by-expr (c .before .before .args .tree .now) (c .before .before .args .names) (c .before .before .args .depth)
+    (c .before .before .args .funs) (c .before .before .args .start) refl (c .match .keys3)
 
 returns-4 : tie.Need-returns-4
 returns-4 c =
@@ -84,7 +82,7 @@ returns-8 c =
 returns-9 : tie.Need-returns-9
 returns-9 c =
     while-left (c .before .before .before .args .tree .now) (c .before .before .before .args .names) (c .before .before .before .args .depth)
-    (c .before .before .before .args .funs) (c .before .before .before .args .start) (c .planned2 .ensures) (c .before .match .rest .0 .0 .0 .0 .0 .0 .0 .1)
+    (c .before .before .before .args .funs) (c .before .before .before .args .start) (c .planned .ensures) (c .before .match .rest .0 .0 .0 .0 .0 .0 .0 .1)
     (c .before .match .rest .0 .0 .0 .0 .0 .0 .1) (c .before .match .rest .0 .0 .0 .0 .0 .1) (c .before .match .rest .0 .0 .0 .0 .1)
     (c .before .match .rest .0 .0 .0 .1) (c .before .match .rest .0 .0 .1) (c .before .match .rest .0 .1) (c .before .match .rest .1)
 
@@ -94,16 +92,15 @@ stmt-kids-spec =
     (tie.spec
     block-kids-requires
     class-kids-requires
-    add-planned
-    planned-requires
+    add-t8
     sub-fun-kids
     fun-kids-requires
     if-kids-requires
     for-kids-requires
     return-kids-requires
     var-kids-requires
-    add-planned-2
-    planned-requires-2
+    add-planned
+    planned-requires
     returns
     returns-2
     returns-3

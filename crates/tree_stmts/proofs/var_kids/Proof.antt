@@ -44,23 +44,23 @@ name-at-of-enum-told3 c = name-at-of-byte-at (c .before .before)
 abbrev byte-at-of-at-match2-keys1 : tie.At-match2-keys1 → tie.After-byte-at
 byte-at-of-at-match2-keys1 c = c .before
 
-abbrev byte-at-of-planned : tie.After-planned → tie.After-byte-at
-byte-at-of-planned c = byte-at-of-at-match2-keys1 (c .before .before .before)
+abbrev byte-at-of-known-told : tie.After-known-told → tie.After-byte-at
+byte-at-of-known-told c = byte-at-of-at-match2-keys1 (c .before .before)
 
-abbrev start-of-planned : tie.After-planned → tie.Start
-start-of-planned c = start-of-byte-at (byte-at-of-planned c)
+abbrev start-of-known-told : tie.After-known-told → tie.Start
+start-of-known-told c = start-of-byte-at (byte-at-of-known-told c)
 
-abbrev name-at-of-planned : tie.After-planned → tie.After-name-at
-name-at-of-planned c = byte-at-of-planned c .before .before .before
+abbrev name-at-of-known-told : tie.After-known-told → tie.After-name-at
+name-at-of-known-told c = byte-at-of-known-told c .before .before .before
 
-abbrev enum-told-of-planned : tie.After-planned → tie.After-enum-told
-enum-told-of-planned c = byte-at-of-planned c .before
+abbrev enum-told-of-known-told : tie.After-known-told → tie.After-enum-told
+enum-told-of-known-told c = byte-at-of-known-told c .before
 
 -- ## Needs
 
 returns : tie.Need-returns
 returns c =
-    var-unnamed (start-of-enum-told2 c .args .tree .now) (start-of-enum-told2 c .args .start) (start-of-enum-told2 c .args .funs)
+    var-unnamed (start-of-enum-told2 c .args .tree .now) (start-of-enum-told2 c .args .start)
     (start-of-enum-told2 c .args .names) (c .before .before .name-at .ensures .no (c .enum-told2 .given .1) (TreeForm (start-of-enum-told2 c .args .start)))
 
 add-byte-at : tie.Need-add-byte-at
@@ -77,22 +77,19 @@ enum-told-3 c = search needs
 
 returns-2 : tie.Need-returns-2
 returns-2 c =
-    var-no (start-of-enum-told3 c .args .tree .now) (start-of-enum-told3 c .args .start) (start-of-enum-told3 c .args .funs)
+    var-no (start-of-enum-told3 c .args .tree .now) (start-of-enum-told3 c .args .start)
     (start-of-enum-told3 c .args .names) (moved (name-at-of-enum-told3 c .name-at .ensures .is _ (c .before .before .before .enum-told .given .1)
     (TreeForm (start-of-enum-told3 c .args .start))) (omega arith)) (c .before .before .byte-at .ensures .no (c .enum-told3 .given .1) (TreeForm (start-of-enum-told3 c .args .start)))
 
-add-planned : tie.Need-add-planned
-add-planned c = search needs
-
-planned-requires : tie.Need-planned-requires
-planned-requires c κs = search needs
+add-t6 : tie.Need-add-t6
+add-t6 c = search needs
 
 returns-3 : tie.Need-returns-3
 returns-3 c =
-    var-is (start-of-planned c .args .tree .now) (start-of-planned c .args .start) (start-of-planned c .args .funs) (start-of-planned c .args .names)
-    (moved (name-at-of-planned c .name-at .ensures .is _ (enum-told-of-planned c .enum-told .given .1) (TreeForm (start-of-planned c .args .start)))
-    (omega arith)) (byte-at-of-planned c .byte-at .ensures .small _ (c .before .before .has-value .given .1))
-    (moved (byte-at-of-planned c .byte-at .ensures .is _ (c .before .before .has-value .given .1) (TreeForm (start-of-planned c .args .start))) (omega arith)) (c .planned .ensures)
+    var-is (start-of-known-told c .args .tree .now) (start-of-known-told c .args .start) (start-of-known-told c .args .names)
+    (moved (name-at-of-known-told c .name-at .ensures .is _ (enum-told-of-known-told c .enum-told .given .1) (TreeForm (start-of-known-told c .args .start)))
+    (omega arith)) (byte-at-of-known-told c .byte-at .ensures .small _ (c .before .has-value .given .1))
+    (moved (byte-at-of-known-told c .byte-at .ensures .is _ (c .before .has-value .given .1) (TreeForm (start-of-known-told c .args .start))) (omega arith))
 
 pub var-kids-spec : {M : Type 1} → statement M
 var-kids-spec =
@@ -108,6 +105,5 @@ var-kids-spec =
     enum-known-has-value
     enum-told-3
     returns-2
-    add-planned
-    planned-requires
+    add-t6
     returns-3)

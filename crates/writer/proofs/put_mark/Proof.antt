@@ -1,14 +1,17 @@
--- `put_mark`: two bytes.
+-- `put_mark`: two bytes, the mark by 256 and what is left of it.
 use Rattle.writer.proofs.Padding.{put-then}
 use borrow.Author.Needs.{needs}
 use Rattle.writer.proofs.put_mark.Statement.{statement}
 use Rattle.writer.proofs.put_mark.Tie as tie
-use Rattle.writer.proofs.put_mark.Reads as reads
-use Rattle.writer.proofs.put_mark.Lts as lts
-use Rattle.writer.proofs.put_u8.Reads as put-u8-reads
+
+cast-put-u8 : tie.Need-cast-put-u8
+cast-put-u8 c = search needs
 
 put-u8-requires : tie.Need-put-u8-requires
 put-u8-requires c κs = search needs
+
+cast-put-u8-2 : tie.Need-cast-put-u8-2
+cast-put-u8-2 c = search needs
 
 put-u8-requires-2 : tie.Need-put-u8-requires-2
 put-u8-requires-2 c κs = search needs
@@ -30,4 +33,4 @@ returns : tie.Need-returns
 returns c = put-then (put-u8-of-slice-known3 c .put-u8 .ensures) (c .before .before .put-u82 .ensures)
 
 pub put-mark-spec : {M : Type 1} → statement M
-put-mark-spec = tie.close (tie.spec put-u8-requires put-u8-requires-2 same-length returns)
+put-mark-spec = tie.close (tie.spec cast-put-u8 put-u8-requires cast-put-u8-2 put-u8-requires-2 same-length returns)
