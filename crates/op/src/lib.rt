@@ -3,6 +3,56 @@
 ghost use mathlib.Core.Path.{_≡_};
 ghost use Rattle.rules.specs.Op as rules;
 
+// How many opcodes there are: each byte below is one.
+const OPCODES: usize = 40;
+
+// The mark of CLOSURE, whose width needs its function. No instruction is without a byte, so no width is taken for the mark.
+const NEEDS_FUNCTION: usize = 0;
+
+// How many bytes an instruction has, its opcode among them: an entry for each opcode, in the order of their numbers.
+const WIDTHS: [usize; OPCODES] = [
+    2, // CONSTANT
+    1, // NIL
+    1, // TRUE
+    1, // FALSE
+    1, // POP
+    2, // GET_LOCAL
+    2, // SET_LOCAL
+    2, // GET_GLOBAL
+    2, // DEFINE_GLOBAL
+    2, // SET_GLOBAL
+    2, // GET_UPVALUE
+    2, // SET_UPVALUE
+    2, // GET_PROPERTY
+    2, // SET_PROPERTY
+    2, // GET_SUPER
+    1, // EQUAL
+    1, // NOT_EQUAL
+    1, // GREATER
+    1, // GREATER_EQUAL
+    1, // LESS
+    1, // LESS_EQUAL
+    1, // ADD
+    1, // SUBTRACT
+    1, // MULTIPLY
+    1, // DIVIDE
+    1, // NOT
+    1, // NEGATE
+    1, // PRINT
+    3, // JUMP
+    3, // JUMP_IF_FALSE
+    3, // LOOP
+    2, // CALL
+    3, // INVOKE
+    3, // SUPER_INVOKE
+    NEEDS_FUNCTION, // CLOSURE
+    1, // CLOSE_UPVALUE
+    1, // RETURN
+    2, // CLASS
+    1, // INHERIT
+    2, // METHOD
+];
+
 pub struct Op {
     pub byte: u8,
 }
@@ -93,20 +143,24 @@ impl Op {
     pub fn width(op: u8, upvalues: u32) -> usize
         ensures { λ r. ⌜ r ≡ rules.width op upvalues ⌝ }
     {
-        match op {
-            Op::CONSTANT => 2,
-            Op::NIL..=Op::POP => 1,
-            Op::GET_LOCAL..=Op::GET_SUPER => 2,
-            Op::EQUAL..=Op::PRINT => 1,
-            Op::JUMP..=Op::LOOP => 3,
-            Op::CALL => 2,
-            Op::INVOKE..=Op::SUPER_INVOKE => 3,
-            Op::CLOSURE => 2 + 2 * (upvalues as usize),
-            Op::CLOSE_UPVALUE..=Op::RETURN => 1,
-            Op::CLASS => 2,
-            Op::INHERIT => 1,
-            Op::METHOD => 2,
-            _ => 0,
+        let number = op as usize;
+        if number >= OPCODES {
+            return 0;
         }
+        // The table is gone through, not indexed: this compiles to one choice, where an index has all entries put on the stack in each call,
+        // and the image checker calls for every instruction (docs/changes/M-102.md has the times).
+        let widths = WIDTHS;
+        let mut entry: usize = 0;
+        let mut place: usize = 0;
+        while place < OPCODES {
+            if place == number {
+                entry = widths[place];
+            }
+            place += 1;
+        }
+        if entry == NEEDS_FUNCTION {
+            return 2 + 2 * (upvalues as usize);
+        }
+        entry
     }
 }
