@@ -1,61 +1,108 @@
--- The table of widths beside the rules: reading it place by place, and one test over all opcodes, computed, with the rule at each of them.
--- Table, mark and number of opcodes are the code's own: they come with what its tests found and are stated nowhere here.
-use mathlib.Core.Path.{_≡_, ap, _∙_, subst⁻¹}
-use mathlib.Core.Bool.{Bool}
-use mathlib.Core.List.{List}
-use Prim.Native.Nat.{ℕ, _+_, _-_, _*_, _≤_, _<_}
+-- The table of widths beside the rules: what going through its rows finds, and one test over all bytes, computed, with the rule at each of them.
+-- The rows are the code's own: they come with what its loop has and are stated nowhere here.
+use mathlib.Core.Path.{_≡_, refl, sym, ap, _∙_, subst⁻¹}
+use mathlib.Core.Bool.{Bool, true, false}
+use mathlib.Core.List.{List, [], _∷_}
+use Prim.Native.Nat.{ℕ, zero, suc, _+_, _*_, _≤_, _<_}
 use native.Mathlib.Omega.{arith}
 use lib.ListN.{getD, length}
 use lib.Dec.{T, eqb, eqb→eq}
 use borrow.Author.Tests.{eq-eqb, ne-eqb}
 use Rattle.rules.specs.Base.{if_then_else_, all-below}
 use Rattle.rules.specs.Op as rules
+use Rattle.op.specs.declared.Row.{Row}
 use Rattle.op.proofs.Ranges.{below}
 
--- ## Reading
+-- ## Going through the rows
 
--- up to this place of the table the opcode's entry was taken, if it stands there
-pub record Read (op : ℕ) (table : List ℕ) (entry place : ℕ) : Type 0 where
-  pub found : op < place → entry ≡ getD table op 0
+-- what is held after the last row, where `bytes` is held before the row at `place`
+unfoldable pub from : List Row → (place op bytes : ℕ) → ℕ
+from [] place op bytes = bytes
+from (r ∷ rows) zero op bytes = from rows zero op (if eqb (r .0) op then r .1 else bytes)
+from (r ∷ rows) (suc n) op bytes = from rows n op bytes
 
-pub begun : (op : ℕ) (table : List ℕ) (entry : ℕ) → Read op table entry 0
-begun op table entry = record { found = λ l. absurd (omega arith) }
+step : (rows : List Row) (none : Row) (place op bytes : ℕ) → place < length rows →
+    from rows place op bytes ≡ from rows (suc place) op (if eqb (getD rows place none .0) op then getD rows place none .1 else bytes)
+unfolding from
+step [] none place op bytes l = absurd (omega (arith, l))
+step (r ∷ rows) none zero op bytes l = refl
+step (r ∷ rows) none (suc n) op bytes l = step rows none n op bytes (omega (arith, l))
 
-module _ {op entry place next : ℕ} {table : List ℕ} (r : Read op table entry place) where
-  pub taken : place ≡ op → next ≡ getD table place 0 → Read op table next (place + 1)
-  taken q e = record { found = λ l. e ∙ ap (λ (k : ℕ). getD table k 0) q }
+onward : (rows : List Row) (none : Row) (place op bytes : ℕ) → place < length rows →
+    from rows place op bytes ≡ from rows (place + 1) op (if eqb (getD rows place none .0) op then getD rows place none .1 else bytes)
+onward rows none place op bytes l =
+    let e : suc place ≡ place + 1 = omega arith in
+    let s = step rows none place op bytes l in
+    rw e at s
 
-  pub passed : (place ≡ op → ⊥) → next ≡ entry → Read op table next (place + 1)
-  passed n e = record { found = λ l. e ∙ r .found (omega (arith, l, n)) }
+through : (rows : List Row) (place op bytes : ℕ) → length rows ≤ place → from rows place op bytes ≡ bytes
+unfolding from
+through [] place op bytes l = refl
+through (r ∷ rows) zero op bytes l = absurd (omega (arith, l))
+through (r ∷ rows) (suc n) op bytes l = through rows n op bytes (omega (arith, l))
 
--- ## What the entries are
+-- going on from here with what is held finds what going through all rows finds
+pub record Held (op : ℕ) (rows : List Row) (bytes place : ℕ) : Type 0 where
+  pub same : from rows place op bytes ≡ from rows 0 op 0
 
--- the rules' width, but for the mark, which only CLOSURE has
-abbrev pub right : (mark entry op upvalues : ℕ) → Bool
-right mark entry op upvalues = if eqb entry mark then eqb op rules.CLOSURE else eqb entry (rules.width op upvalues)
+pub begun : (op : ℕ) (rows : List Row) → Held op rows 0 0
+begun op rows = record { same = refl }
 
-abbrev pub all-right : (mark : ℕ) (table : List ℕ) (upvalues : ℕ) → Bool
-all-right mark table upvalues = all-below (length table) (λ i. right mark (getD table i 0) i upvalues)
+module _ {op bytes place next : ℕ} {rows : List Row} (h : Held op rows bytes place) (none : Row) (l : place < length rows) where
+  pub taken : getD rows place none .0 ≡ op → next ≡ getD rows place none .1 → Held op rows next (place + 1)
+  taken q e =
+      let s = onward rows none place op bytes l in
+      record { same = ap (from rows (place + 1) op) e ∙ sym (rw (eq-eqb (getD rows place none .0) op q) at s) ∙ h .same }
+
+  pub passed : (getD rows place none .0 ≡ op → ⊥) → next ≡ bytes → Held op rows next (place + 1)
+  passed n e =
+      let s = onward rows none place op bytes l in
+      record { same = ap (from rows (place + 1) op) e ∙ sym (rw (ne-eqb (getD rows place none .0) op n) at s) ∙ h .same }
+
+-- ## What the rows say
+
+-- the rules' width of every byte, but the mark of CLOSURE
+abbrev pub right : (mark : ℕ) (rows : List Row) → Bool
+right mark rows = all-below 256 (λ k. eqb (from rows 0 k 0) (if eqb k rules.CLOSURE then mark else rules.width k 0))
+
+pub found : {op bytes place : ℕ} {rows : List Row} (mark : ℕ) → Held op rows bytes place → length rows ≤ place → op < 256 → T (right mark rows) →
+    bytes ≡ (if eqb op rules.CLOSURE then mark else rules.width op 0)
+found {op} {bytes} {place} {rows} mark h l b t =
+    sym (through rows place op bytes l) ∙ h .same ∙
+    eqb→eq _ _ (below 256 (λ k. eqb (from rows 0 k 0) (if eqb k rules.CLOSURE then mark else rules.width k 0)) t op b)
+
+-- ## The mark and the others
+
+-- no width but a CLOSURE's needs the function, and none is the mark
+abbrev pub plain : (mark upvalues : ℕ) → Bool
+plain mark upvalues =
+    all-below 256 (λ k. if eqb k rules.CLOSURE then true else if eqb (rules.width k 0) mark then false else eqb (rules.width k 0) (rules.width k upvalues))
 
 closure-width : (op upvalues : ℕ) → op ≡ rules.CLOSURE → 2 + 2 * upvalues ≡ rules.width op upvalues
 unfolding rules.computes
 closure-width op upvalues e = subst⁻¹ (λ (k : ℕ). 2 + 2 * upvalues ≡ rules.width k upvalues) e (omega arith)
 
-module _ {op entry place : ℕ} {table : List ℕ} (upvalues : ℕ) (r : Read op table entry place) (known : op < length table) (read : length table ≤ place) where
-  here : (mark : ℕ) → T (all-right mark table upvalues) → T (right mark entry op upvalues)
-  here mark t = rw (r .found (omega (arith, known, read))) (below (length table) (λ i. right mark (getD table i 0) i upvalues) t op known)
+module _ {bytes : ℕ} (mark op upvalues : ℕ) (q : bytes ≡ (if eqb op rules.CLOSURE then mark else rules.width op 0)) (l : op < 256)
+    (t : T (plain mark upvalues)) where
+  here : T (if eqb op rules.CLOSURE then true else if eqb (rules.width op 0) mark then false else eqb (rules.width op 0) (rules.width op upvalues))
+  here =
+      below 256 (λ k. if eqb k rules.CLOSURE then true else if eqb (rules.width k 0) mark then false else eqb (rules.width k 0) (rules.width k upvalues))
+      t op l
 
-  pub marked : {mark : ℕ} → entry ≡ mark → T (all-right mark table upvalues) → 2 + 2 * upvalues ≡ rules.width op upvalues
-  marked {mark} e t = let h = here mark t in closure-width op upvalues (eqb→eq op rules.CLOSURE (rw (eq-eqb entry mark e) at h))
+  pub marked : bytes ≡ mark → 2 + 2 * upvalues ≡ rules.width op upvalues
+  marked m = go (eqb op rules.CLOSURE) refl q here
+    where
+      go : (b : Bool) → eqb op rules.CLOSURE ≡ b → bytes ≡ (if b then mark else rules.width op 0) →
+          T (if b then true else if eqb (rules.width op 0) mark then false else eqb (rules.width op 0) (rules.width op upvalues)) →
+          2 + 2 * upvalues ≡ rules.width op upvalues
+      go true e w h = closure-width op upvalues (eqb→eq op rules.CLOSURE (subst⁻¹ T e tt))
+      go false e w h = absurd (rw (eq-eqb (rules.width op 0) mark (sym w ∙ m)) at h)
 
-  pub fixed : {mark : ℕ} → (entry ≡ mark → ⊥) → T (all-right mark table upvalues) → entry ≡ rules.width op upvalues
-  fixed {mark} n t = let h = here mark t in eqb→eq entry (rules.width op upvalues) (rw (ne-eqb entry mark n) at h)
-
--- the bytes behind the last opcode
-pub unknown : {count op : ℕ} (upvalues : ℕ) → count ≤ op → op < 256 → T (all-below (256 - count) (λ i. eqb 0 (rules.width (count + i) upvalues))) →
-    0 ≡ rules.width op upvalues
-unknown {count} {op} upvalues l h t =
-    let e : count + (op - count) ≡ op = omega arith in
-    let there : T (eqb 0 (rules.width (count + (op - count)) upvalues)) =
-    below (256 - count) (λ i. eqb 0 (rules.width (count + i) upvalues)) t (op - count) (omega arith) in
-    eqb→eq 0 (rules.width op upvalues) (rw e at there)
+  pub fixed : (bytes ≡ mark → ⊥) → bytes ≡ rules.width op upvalues
+  fixed n = go (eqb op rules.CLOSURE) q here
+    where
+      go : (b : Bool) → bytes ≡ (if b then mark else rules.width op 0) →
+          T (if b then true else if eqb (rules.width op 0) mark then false else eqb (rules.width op 0) (rules.width op upvalues)) →
+          bytes ≡ rules.width op upvalues
+      go true w h = absurd (n w)
+      go false w h = w ∙ eqb→eq _ _ (rw (ne-eqb (rules.width op 0) mark (λ m. n (w ∙ m))) at h)

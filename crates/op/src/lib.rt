@@ -1,57 +1,80 @@
 // The opcodes (src/vm/op.rs): their numbers, in its order, and how many bytes an instruction has.
 
 ghost use mathlib.Core.Path.{_≡_};
+ghost use lib.Dec.{eqb};
+ghost use Rattle.rules.specs.Base.{if_then_else_};
 ghost use Rattle.rules.specs.Op as rules;
 
-// How many opcodes there are: each byte below is one.
+// How many opcodes there are.
 const OPCODES: usize = 40;
 
-// The mark of CLOSURE, whose width needs its function. No instruction is without a byte, so no width is taken for the mark.
-const NEEDS_FUNCTION: usize = 0;
+// The mark of CLOSURE, whose width needs its function; no instruction's width.
+const NEEDS_FUNCTION: usize = 255;
 
-// How many bytes an instruction has, its opcode among them: an entry for each opcode, in the order of their numbers.
-const WIDTHS: [usize; OPCODES] = [
-    2, // CONSTANT
-    1, // NIL
-    1, // TRUE
-    1, // FALSE
-    1, // POP
-    2, // GET_LOCAL
-    2, // SET_LOCAL
-    2, // GET_GLOBAL
-    2, // DEFINE_GLOBAL
-    2, // SET_GLOBAL
-    2, // GET_UPVALUE
-    2, // SET_UPVALUE
-    2, // GET_PROPERTY
-    2, // SET_PROPERTY
-    2, // GET_SUPER
-    1, // EQUAL
-    1, // NOT_EQUAL
-    1, // GREATER
-    1, // GREATER_EQUAL
-    1, // LESS
-    1, // LESS_EQUAL
-    1, // ADD
-    1, // SUBTRACT
-    1, // MULTIPLY
-    1, // DIVIDE
-    1, // NOT
-    1, // NEGATE
-    1, // PRINT
-    3, // JUMP
-    3, // JUMP_IF_FALSE
-    3, // LOOP
-    2, // CALL
-    3, // INVOKE
-    3, // SUPER_INVOKE
-    NEEDS_FUNCTION, // CLOSURE
-    1, // CLOSE_UPVALUE
-    1, // RETURN
-    2, // CLASS
-    1, // INHERIT
-    2, // METHOD
+// An opcode, and how many bytes its instruction has.
+struct Row(u8, usize);
+
+// How many bytes an instruction has, its opcode among them: a row for each opcode, in the order of op.rs.
+const WIDTHS: [Row; OPCODES] = [
+    Row(Op::CONSTANT, 2),
+    Row(Op::NIL, 1),
+    Row(Op::TRUE, 1),
+    Row(Op::FALSE, 1),
+    Row(Op::POP, 1),
+    Row(Op::GET_LOCAL, 2),
+    Row(Op::SET_LOCAL, 2),
+    Row(Op::GET_GLOBAL, 2),
+    Row(Op::DEFINE_GLOBAL, 2),
+    Row(Op::SET_GLOBAL, 2),
+    Row(Op::GET_UPVALUE, 2),
+    Row(Op::SET_UPVALUE, 2),
+    Row(Op::GET_PROPERTY, 2),
+    Row(Op::SET_PROPERTY, 2),
+    Row(Op::GET_SUPER, 2),
+    Row(Op::EQUAL, 1),
+    Row(Op::NOT_EQUAL, 1),
+    Row(Op::GREATER, 1),
+    Row(Op::GREATER_EQUAL, 1),
+    Row(Op::LESS, 1),
+    Row(Op::LESS_EQUAL, 1),
+    Row(Op::ADD, 1),
+    Row(Op::SUBTRACT, 1),
+    Row(Op::MULTIPLY, 1),
+    Row(Op::DIVIDE, 1),
+    Row(Op::NOT, 1),
+    Row(Op::NEGATE, 1),
+    Row(Op::PRINT, 1),
+    Row(Op::JUMP, 3),
+    Row(Op::JUMP_IF_FALSE, 3),
+    Row(Op::LOOP, 3),
+    Row(Op::CALL, 2),
+    Row(Op::INVOKE, 3),
+    Row(Op::SUPER_INVOKE, 3),
+    Row(Op::CLOSURE, NEEDS_FUNCTION),
+    Row(Op::CLOSE_UPVALUE, 1),
+    Row(Op::RETURN, 1),
+    Row(Op::CLASS, 2),
+    Row(Op::INHERIT, 1),
+    Row(Op::METHOD, 2),
 ];
+
+// The bytes of the row whose opcode it is, 0 where there is none. All rows are gone through: of that the compiler makes one choice, where a loop
+// that leaves at the row, or an index, has the table put on the stack in every call (docs/changes/M-102.md).
+fn entry(op: u8) -> usize
+    ensures { λ r. ⌜ r ≡ (if eqb op rules.CLOSURE then 255 else rules.width op 0) ⌝ }
+{
+    let rows = WIDTHS;
+    let mut bytes: usize = 0;
+    let mut place: usize = 0;
+    while place < OPCODES {
+        let row = rows[place];
+        if row.0 == op {
+            bytes = row.1;
+        }
+        place += 1;
+    }
+    bytes
+}
 
 pub struct Op {
     pub byte: u8,
@@ -143,24 +166,10 @@ impl Op {
     pub fn width(op: u8, upvalues: u32) -> usize
         ensures { λ r. ⌜ r ≡ rules.width op upvalues ⌝ }
     {
-        let number = op as usize;
-        if number >= OPCODES {
-            return 0;
-        }
-        // The table is gone through, not indexed: this compiles to one choice, where an index has all entries put on the stack in each call,
-        // and the image checker calls for every instruction (docs/changes/M-102.md has the times).
-        let widths = WIDTHS;
-        let mut entry: usize = 0;
-        let mut place: usize = 0;
-        while place < OPCODES {
-            if place == number {
-                entry = widths[place];
-            }
-            place += 1;
-        }
-        if entry == NEEDS_FUNCTION {
+        let bytes = entry(op);
+        if bytes == NEEDS_FUNCTION {
             return 2 + 2 * (upvalues as usize);
         }
-        entry
+        bytes
     }
 }
