@@ -1,2 +1,3 @@
 -- Laws for the proofs of this crate.
 pub mod Ranges
+pub mod Widths

@@ -1,7 +1,80 @@
 // The opcodes (src/vm/op.rs): their numbers, in its order, and how many bytes an instruction has.
 
 ghost use mathlib.Core.Path.{_≡_};
+ghost use lib.Dec.{eqb};
+ghost use Rattle.rules.specs.Base.{if_then_else_};
 ghost use Rattle.rules.specs.Op as rules;
+
+// How many opcodes there are.
+const OPCODES: usize = 40;
+
+// The mark of CLOSURE, whose width needs its function; no instruction's width.
+const NEEDS_FUNCTION: usize = 255;
+
+// An opcode, and how many bytes its instruction has.
+struct Row(u8, usize);
+
+// How many bytes an instruction has, its opcode among them: a row for each opcode, in the order of op.rs.
+const WIDTHS: [Row; OPCODES] = [
+    Row(Op::CONSTANT, 2),
+    Row(Op::NIL, 1),
+    Row(Op::TRUE, 1),
+    Row(Op::FALSE, 1),
+    Row(Op::POP, 1),
+    Row(Op::GET_LOCAL, 2),
+    Row(Op::SET_LOCAL, 2),
+    Row(Op::GET_GLOBAL, 2),
+    Row(Op::DEFINE_GLOBAL, 2),
+    Row(Op::SET_GLOBAL, 2),
+    Row(Op::GET_UPVALUE, 2),
+    Row(Op::SET_UPVALUE, 2),
+    Row(Op::GET_PROPERTY, 2),
+    Row(Op::SET_PROPERTY, 2),
+    Row(Op::GET_SUPER, 2),
+    Row(Op::EQUAL, 1),
+    Row(Op::NOT_EQUAL, 1),
+    Row(Op::GREATER, 1),
+    Row(Op::GREATER_EQUAL, 1),
+    Row(Op::LESS, 1),
+    Row(Op::LESS_EQUAL, 1),
+    Row(Op::ADD, 1),
+    Row(Op::SUBTRACT, 1),
+    Row(Op::MULTIPLY, 1),
+    Row(Op::DIVIDE, 1),
+    Row(Op::NOT, 1),
+    Row(Op::NEGATE, 1),
+    Row(Op::PRINT, 1),
+    Row(Op::JUMP, 3),
+    Row(Op::JUMP_IF_FALSE, 3),
+    Row(Op::LOOP, 3),
+    Row(Op::CALL, 2),
+    Row(Op::INVOKE, 3),
+    Row(Op::SUPER_INVOKE, 3),
+    Row(Op::CLOSURE, NEEDS_FUNCTION),
+    Row(Op::CLOSE_UPVALUE, 1),
+    Row(Op::RETURN, 1),
+    Row(Op::CLASS, 2),
+    Row(Op::INHERIT, 1),
+    Row(Op::METHOD, 2),
+];
+
+// The bytes of the row whose opcode it is, 0 where there is none. All rows are gone through: of that the compiler makes one choice, where a loop
+// that leaves at the row, or an index, has the table put on the stack in every call (docs/changes/M-102.md).
+fn entry(op: u8) -> usize
+    ensures { λ r. ⌜ r ≡ (if eqb op rules.CLOSURE then 255 else rules.width op 0) ⌝ }
+{
+    let rows = WIDTHS;
+    let mut bytes: usize = 0;
+    let mut place: usize = 0;
+    while place < OPCODES {
+        let row = rows[place];
+        if row.0 == op {
+            bytes = row.1;
+        }
+        place += 1;
+    }
+    bytes
+}
 
 pub struct Op {
     pub byte: u8,
@@ -93,20 +166,10 @@ impl Op {
     pub fn width(op: u8, upvalues: u32) -> usize
         ensures { λ r. ⌜ r ≡ rules.width op upvalues ⌝ }
     {
-        match op {
-            Op::CONSTANT => 2,
-            Op::NIL..=Op::POP => 1,
-            Op::GET_LOCAL..=Op::GET_SUPER => 2,
-            Op::EQUAL..=Op::PRINT => 1,
-            Op::JUMP..=Op::LOOP => 3,
-            Op::CALL => 2,
-            Op::INVOKE..=Op::SUPER_INVOKE => 3,
-            Op::CLOSURE => 2 + 2 * (upvalues as usize),
-            Op::CLOSE_UPVALUE..=Op::RETURN => 1,
-            Op::CLASS => 2,
-            Op::INHERIT => 1,
-            Op::METHOD => 2,
-            _ => 0,
+        let bytes = entry(op);
+        if bytes == NEEDS_FUNCTION {
+            return 2 + 2 * (upvalues as usize);
         }
+        bytes
     }
 }
