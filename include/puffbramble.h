@@ -7,7 +7,7 @@
  * the number is 0 the pointer may be null. Nothing is kept after the call, and nothing is written outside what was lent to be written.
  *
  * The stack. puffbramble_read takes up to 64 KB, by the depth of the file's records (41 KB was seen at depth 128), puffbramble_compile up to
- * 256 KB (183 KB was seen at depth 128; `tools/stack` measures it). puffbramble_check, puffbramble_code_answer and puffbramble_code_of take up to 1.2 MB, whatever the image
+ * 256 KB (181 KB was seen at depth 128; `tools/stack` measures it). puffbramble_check, puffbramble_code_answer and puffbramble_code_of take up to 1.2 MB, whatever the image
  * (1,044 KB was seen): their tables are local.
  * Every function may be called from several threads at once.
  *
