@@ -2,6 +2,7 @@
 // five numbers and every byte of the output are compared with the vector's. Written is how many agree; tests/rust has made what is expected.
 ghost use Rattle.io.specs.Counts.{Counts};
 use rules::Answer;
+use state::Table;
 use vectors::Found;
 
 // What a vector lends: more than there is here means plenty, and all that is here.
@@ -231,7 +232,7 @@ fn replay_all(
     tree: &mut [u8; 1048577],
     image: &mut [u8; 524288],
     out: &mut [u8; 524288],
-    table: &mut [u64; 17412],
+    table: &mut [u64; Table::WORDS],
     code: &mut [u8; 262144],
     spans: &mut [u32; 786432],
 ) {
@@ -255,7 +256,7 @@ fn main() {
     let mut tree = [0u8; 1048577];
     let mut image = [0u8; 524288];
     let mut out = [0u8; 524288];
-    let mut table = [0u64; 17412];
+    let mut table = [0u64; Table::WORDS];
     let mut code = [0u8; 262144];
     let mut spans = [0u32; 786432];
     replay_all(

@@ -7,6 +7,7 @@ ghost use Rattle.program.specs.Program.{Answered};
 use answers::refused;
 use rules::Answer;
 use rules::Refusal;
+use state::Table;
 
 // No longer tree is compiled.
 const MOST: usize = 65536;
@@ -56,7 +57,7 @@ fn run(tree: &mut [u8], out: &mut [u8], table: &mut [u64], code: &mut [u8], span
 fn lend(
     tree: &mut [u8; 65537],
     out: &mut [u8; 1114112],
-    table: &mut [u64; 17412],
+    table: &mut [u64; Table::WORDS],
     code: &mut [u8; 65536],
     spans: &mut [u32; 196608],
 ) {
@@ -66,7 +67,7 @@ fn lend(
 fn main() {
     let mut tree = [0u8; 65537];
     let mut out = [0u8; 1114112];
-    let mut table = [0u64; 17412];
+    let mut table = [0u64; Table::WORDS];
     let mut code = [0u8; 65536];
     let mut spans = [0u32; 196608];
     lend(&mut tree, &mut out, &mut table, &mut code, &mut spans);
