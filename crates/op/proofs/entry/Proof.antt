@@ -30,9 +30,19 @@ add-place c = omega arith
 loop-less : tie.Need-loop-less Inv-loop μ-loop
 loop-less c = omega arith
 
+-- ## Places
+
+abbrev at-loop-of-in-loop : tie.In-loop Inv-loop μ-loop → tie.At-loop Inv-loop μ-loop
+at-loop-of-in-loop c = c .before
+
+abbrev at-loop-of-joined1 : tie.Joined1 Inv-loop μ-loop → tie.At-loop Inv-loop μ-loop
+at-loop-of-joined1 c = at-loop-of-in-loop (c .before .before .before)
+
+-- ## Needs
+
 loop-again : tie.Need-loop-again Inv-loop μ-loop
 loop-again c =
-    let held = c .before .before .before .before .loop .inv in
+    let held = at-loop-of-joined1 c .loop .inv in
     ⊎-elim (λ p. taken held _ (omega arith) (p .0 .taken) (p .1)) (λ p. passed held _ (omega arith) (p .0 .left) (p .1)) (c .if1 .came)
 
 returns : tie.Need-returns Inv-loop μ-loop
