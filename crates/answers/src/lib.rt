@@ -1,12 +1,12 @@
 // An answer's five numbers from what was found: a length where all is well, or a refusal by its name.
 ghost use mathlib.Core.Path.{_≡_};
-ghost use Rattle.rules.specs.Answer.{at-place, at-span, with-length, refusal};
+ghost use Rattle.rules.specs.Answer.{at-offset, at-span, with-length, refusal};
 use rules::Answer;
 use rules::Refusal;
 use rules::Span;
 
-fn at_place(number: u64, at: usize) -> Answer
-    ensures { λ r. ⌜ r ≡ at-place number at ⌝ }
+fn at_offset(number: u64, at: usize) -> Answer
+    ensures { λ r. ⌜ r ≡ at-offset number at ⌝ }
 {
     Answer {
         number,
@@ -52,11 +52,11 @@ pub fn refused(r: Refusal) -> Answer
     ensures { λ a. ⌜ a ≡ refusal r ⌝ }
 {
     match r {
-        Refusal::WorkShort => at_place(1, 0),
-        Refusal::TreeTooLong => at_place(2, 0),
-        Refusal::TreeForm(at) => at_place(3, at),
-        Refusal::TreeTooDeep(at) => at_place(4, at),
-        Refusal::TooManyOpen(at) => at_place(5, at),
+        Refusal::WorkShort => at_offset(1, 0),
+        Refusal::TreeTooLong => at_offset(2, 0),
+        Refusal::TreeForm(at) => at_offset(3, at),
+        Refusal::TreeTooDeep(at) => at_offset(4, at),
+        Refusal::TooManyOpen(at) => at_offset(5, at),
         Refusal::AlreadyDefined(span, name) => at_span(10, span, name),
         Refusal::AccessInsideInitializer(span, name) => at_span(11, span, name),
         Refusal::ClassInheritFromSelf(span, name) => at_span(12, span, name),
@@ -71,10 +71,10 @@ pub fn refused(r: Refusal) -> Answer
         Refusal::SuperOutsideClass(span) => at_span(21, span, 0),
         Refusal::SuperWithoutSuperclass(span) => at_span(22, span, 0),
         Refusal::ThisOutsideClass(span) => at_span(23, span, 0),
-        Refusal::CodeFull => at_place(30, 0),
+        Refusal::CodeFull => at_offset(30, 0),
         Refusal::OutFull(needed) => with_length(31, needed),
-        Refusal::ImageRefused => at_place(40, 0),
-        Refusal::NoSuchFunction => at_place(41, 0),
-        Refusal::NoSuchByte => at_place(42, 0),
+        Refusal::ImageRefused => at_offset(40, 0),
+        Refusal::NoSuchFunction => at_offset(41, 0),
+        Refusal::NoSuchByte => at_offset(42, 0),
     }
 }

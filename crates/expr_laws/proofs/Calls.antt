@@ -11,7 +11,7 @@ use native.Mathlib.Numerals.{add-one}
 use borrow.Author.Tests.{le-leb, lt-leb, eqb-true, eqb-false}
 use Rattle.rules.specs.declared.Span.{Span}
 use Rattle.rules.specs.declared.Refusal.the-variants.{TooManyArgs}
-use Rattle.rules.specs.Tree.{this, super, Expr, Exprs, ExprAssign, ExprCall, ExprGet, ExprInfix, Literal, ExprPrefix, ExprSet, ExprSuper, ExprVar, _∷ᵉ_, count-exprs}
+use Rattle.rules.specs.Tree.{this-name, super-name, Expr, Exprs, ExprAssign, ExprCall, ExprGet, ExprInfix, Literal, ExprPrefix, ExprSet, ExprSuper, ExprVar, _∷ᵉ_, count-exprs}
 use Rattle.rules.specs.Reader.{got, Reader}
 use Rattle.rules.specs.TreeFile.{expr-marks, read-exprs, read-expr}
 use Rattle.rules.specs.Op as op
@@ -52,7 +52,7 @@ pub call-cut : (limit : ℕ) (span : Span) (callee : Expr) (args : Exprs) (s : C
     ≡ (call-open limit (callee-of callee) (count-exprs args) span >> (compile-exprs limit (parts (callee-of callee) callee args) >> call-close limit (callee-of callee) (count-exprs args) span)) s
 unfolding compile-expr _>>_ call-open open-callee call-close callee-of parts call-method call-super call-value
 call-cut limit span (ExprGet sp name object) args s = cut-first (need (leb (count-exprs args) 255) (TooManyArgs span) s) (compile-expr limit object) (compile-exprs limit args) _
-call-cut limit span (ExprSuper sp name) args s = cut-super (need (leb (count-exprs args) 255) (TooManyArgs span) s) (need-super span) (get-variable limit this span) (compile-exprs limit args) _
+call-cut limit span (ExprSuper sp name) args s = cut-super (need (leb (count-exprs args) 255) (TooManyArgs span) s) (need-super span) (get-variable limit this-name span) (compile-exprs limit args) _
 call-cut limit span (ExprAssign a b c) args s = cut-first (need (leb (count-exprs args) 255) (TooManyArgs span) s) (compile-expr limit (ExprAssign a b c)) (compile-exprs limit args) _
 call-cut limit span (ExprCall a b c) args s = cut-first (need (leb (count-exprs args) 255) (TooManyArgs span) s) (compile-expr limit (ExprCall a b c)) (compile-exprs limit args) _
 call-cut limit span (ExprInfix a b c d) args s = cut-first (need (leb (count-exprs args) 255) (TooManyArgs span) s) (compile-expr limit (ExprInfix a b c d)) (compile-exprs limit args) _
@@ -170,7 +170,7 @@ module _ {class limit l : ℕ} (tree : List ℕ) (at : ℕ) (span : Span) {befor
   super-stop h m d q = few-open h (λ k e n r. as-open at span (super-of tree _ k (at + 12) r m) (halt _ d q))
 
   pub super-open : {mid now : Mem} {r r′ : Step} {v k : ℕ} → word16 tree (at + 10) ≤ 255 → letters tree (at + 12) ≡ marks.EU
-      → Did class limit l k steady (need-super span) before mid r → r ≡ Next v → Did class limit l (at + 24) steady (get-variable limit this span) mid now r′
+      → Did class limit l k steady (need-super span) before mid r → r ≡ Next v → Did class limit l (at + 24) steady (get-variable limit this-name span) mid now r′
       → CallOpened class limit l tree at span before now r′
   unfolding open-callee first-part
   super-open h m d q d′ = few-open h (λ k e n r. as-open at span (super-of tree _ k (at + 12) r m) (then-on _ d q d′))
@@ -184,7 +184,7 @@ module _ {class limit l : ℕ} (tree : List ℕ) (at : ℕ) (span : Span) {befor
   unfolding open-callee first-part
   value-open fit h g u = few-open h (λ k e n r. as-open at span (value-of tree _ k (at + 12) r g u) (next (nothing fit)))
 
-  pub close-super-stop : (next : ℕ) {now : Mem} {r : Step} {x : Why} {k : ℕ} → letters tree (at + 12) ≡ marks.EU → Did class limit l k steady (get-variable limit super span) before now r
+  pub close-super-stop : (next : ℕ) {now : Mem} {r : Step} {x : Why} {k : ℕ} → letters tree (at + 12) ≡ marks.EU → Did class limit l k steady (get-variable limit super-name span) before now r
       → r ≡ Stop x
       → CallClosed class limit l tree at next span before now r
   unfolding call-close
@@ -192,7 +192,7 @@ module _ {class limit l : ℕ} (tree : List ℕ) (at : ℕ) (span : Span) {befor
 
   module _ (next name count : ℕ) (c : count ≡ word16 tree (at + 10)) where
     pub close-super : {mid now : Mem} {r r′ : Step} {k v : ℕ} → letters tree (at + 12) ≡ marks.EU → name ≡ word16 tree (at + 22)
-        → Did class limit l k steady (get-variable limit super span) before mid r → r ≡ Next v
+        → Did class limit l k steady (get-variable limit super-name span) before mid r → r ≡ Next v
         → Did class limit l next steady (emit-invoke limit op.SUPER-INVOKE (CS name) count span) mid now r′ → CallClosed class limit l tree at next span before now r′
     unfolding call-close
     close-super {mid} {now} {r′ = r′} m p d q d′ = record {

@@ -8,7 +8,7 @@ use lib.Dec.{leb}
 use Rattle.rules.specs.Base.{lookup}
 use Rattle.rules.specs.declared.Span.{Span}
 use Rattle.rules.specs.declared.Refusal.the-variants.{TooManyArgs}
-use Rattle.rules.specs.Tree.{this, super, Expr, Exprs, ExprAssign, ExprCall, ExprGet, ExprInfix, Literal, ExprPrefix, ExprSet, ExprSuper, ExprVar, _∷ᵉ_}
+use Rattle.rules.specs.Tree.{this-name, super-name, Expr, Exprs, ExprAssign, ExprCall, ExprGet, ExprInfix, Literal, ExprPrefix, ExprSet, ExprSuper, ExprVar, _∷ᵉ_}
 use Rattle.rules.specs.Tree.{OpInfix, Add, Subtract, Multiply, Divide, Less, LessEqual, Greater, GreaterEqual, Equal, NotEqual, LogicAnd, LogicOr, OpPrefix}
 use Rattle.rules.specs.Reader.{Read, got}
 use Rattle.rules.specs.TreeFile.{infix-ops, prefix-ops, read-expr}
@@ -144,7 +144,7 @@ module _ (limit : ℕ) where
   open-callee (on-object name object) span = done
   open-callee (on-super name) span = do
     need-super span
-    get-variable limit this span
+    get-variable limit this-name span
   open-callee on-value span = done
 
   unfoldable pub call-open : Callee → (count : ℕ) → Span → Compile Unit
@@ -155,7 +155,7 @@ module _ (limit : ℕ) where
   unfoldable pub call-close : Callee → (count : ℕ) → Span → Compile Unit
   call-close (on-object name object) count span = emit-invoke limit op.INVOKE (CS name) count span
   call-close (on-super name) count span = do
-    get-variable limit super span
+    get-variable limit super-name span
     emit-invoke limit op.SUPER-INVOKE (CS name) count span
   call-close on-value count span = emit-op-u8 limit op.CALL count span
 

@@ -11,7 +11,7 @@ use borrow.Author.Tests.{lt-ltb, le-ltb, eqb-true, eqb-false, leb-true, leb-fals
 use Rattle.rules.specs.Base.{if_then_else_}
 use Rattle.rules.specs.declared.Answer.{Answer}
 use Rattle.rules.specs.declared.Refusal.the-variants.{ImageRefused, NoSuchFunction}
-use Rattle.rules.specs.Answer.{refusal, accepted, at-place}
+use Rattle.rules.specs.Answer.{refusal, accepted, at-offset}
 use Rattle.rules.specs.Reader.{Read, got, bad, go-on, _>>_, many}
 use Rattle.rules.specs.Chunk.{ObjectFunction}
 use Rattle.rules.specs.ImageFile.{read-function}
@@ -199,17 +199,17 @@ module _ (s : List ℕ) (k : ℕ) where
 
 -- ## The answer
 
-answer-by : (b : Bool) → (a : Answer) → a ≡ (if b then accepted 0 else refusal NoSuchFunction) → at-place (a .number) 0 ≡ a
+answer-by : (b : Bool) → (a : Answer) → a ≡ (if b then accepted 0 else refusal NoSuchFunction) → at-offset (a .number) 0 ≡ a
 unfolding refusal
 answer-by true a e = rw e refl
 answer-by false a e = rw e refl
 
 -- of the lookup's answer only the number is not 0
-pub only-number : (s : List ℕ) (k : ℕ) → at-place (code-answer s k .number) 0 ≡ code-answer s k
+pub only-number : (s : List ℕ) (k : ℕ) → at-offset (code-answer s k .number) 0 ≡ code-answer s k
 unfolding code-answer code-verdict refusal
 only-number s k = by (image-of s)
   where
-    by : (o : Option (List ObjectFunction)) → at-place (code-verdict k o .number) 0 ≡ code-verdict k o
+    by : (o : Option (List ObjectFunction)) → at-offset (code-verdict k o .number) 0 ≡ code-verdict k o
     by none = refl
     by (some fs) = answer-by (ltb k (length fs)) _ refl
 

@@ -12,7 +12,8 @@ use borrow.Author.Tests.{eq-eqb, ne-eqb, eqb-true, eqb-false}
 use Rattle.rules.specs.Division.{Kind, Instruction, followed-by}
 use Rattle.rules.specs.Op.{Operands}
 use Rattle.rules.specs.Op as Op
-use Rattle.image_code.specs.Forms.{computes, operands-by, form-of, width}
+use Rattle.image_code.specs.Forms.{operands-by, form-of, width}
+use Rattle.image_code.proofs.Computes.{computes}
 use Rattle.rules.specs.Checker.{closes, closures}
 use Rattle.image_code.specs.Table.{instruction-at, from, instructions, is-some, Closing, Counted, kinds-in}
 use Rattle.image_code.proofs.Steps.{passed, ended, within-code, has-width, no-true}

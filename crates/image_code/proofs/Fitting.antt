@@ -10,7 +10,8 @@ use lib.Seq.{getD-drop, getD-take, drop-drop}
 use borrow.Author.Tests.{eq-eqb, ne-eqb, lt-ltb, le-ltb}
 use Rattle.rules.specs.Division.{Kind, missing, number, text, function, Instruction, fit, operands-fit, pairs-fit, is-value, is-text, is-function}
 use Rattle.rules.specs.Op.{Operands}
-use Rattle.image_code.specs.Forms.{computes, operands-by, form-of, width, width-by}
+use Rattle.image_code.specs.Forms.{operands-by, form-of, width, width-by}
+use Rattle.image_code.proofs.Computes.{computes}
 use Rattle.image_code.specs.Table.{kind-of, kinds-in, instruction-at}
 
 plain-fits : (f : ℕ) (kind : ℕ → Kind) (u : ℕ) (b : List ℕ) → f < 2 → true ≡ fit kind u (operands-by f) b

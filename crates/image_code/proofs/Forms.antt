@@ -13,11 +13,13 @@ use lib.ListN.{length, getD, take, drop, List·getD-eq-default}
 use lib.Seq.{getD-drop}
 use borrow.Author.Tests.{eq-eqb, ne-eqb}
 use Rattle.op.proofs.Ranges.{below}
-use Rattle.image_code.specs.Forms.{computes, form, form-of, by-form, width-by, width}
+use Rattle.image_code.specs.Forms.{form, form-of, by-form, width-by, width}
+use Rattle.image_code.proofs.Computes.{computes}
 use Rattle.rules.specs.Base.{if_then_else_, all-below, lookup}
 use Rattle.rules.specs.Op.{Operands, Plain, Byte, Captured, Value, Text, Invoke, Ahead, Back, Closure, operands, operands-of}
 use Rattle.rules.specs.Op as Op
 use Rattle.rules.specs.Division.{Kind, missing, number, text, function}
+use Rattle.rules.proofs.Computes as rules
 use Rattle.image_code.specs.Table.{kind-of, kinds-in}
 
 -- the table of the code
@@ -29,7 +31,7 @@ forms =
     7 ∷ 1 ∷ 5 ∷ 5 ∷ 8 ∷ 0 ∷ 0 ∷ 4 ∷ 0 ∷ 4 ∷ []
 
 pub form-known : (op : ℕ) → op < 40 → getD forms op 0 ≡ form-of op
-unfolding Op.computes forms form form-of
+unfolding rules.op forms form form-of
 form-known op h = eqb→eq _ _ (below 40 (λ i. eqb (getD forms i 0) (form-of i)) tt op h)
 
 -- no row of the table has a number from the bound on
@@ -82,30 +84,30 @@ only f q t h op e = by-place (decLt op 40)
     by-place (no l) = let u : 9 ≡ form-of op = form-unknown op (omega arith) in absurd (omega (arith, u, e))
 
 pub closure-only : (op : ℕ) → form-of op ≡ 8 → op ≡ Op.CLOSURE
-unfolding Op.computes form form-of
+unfolding rules.op form form-of
 closure-only op e = eqb→eq _ _ (only 8 (λ i. eqb i Op.CLOSURE) tt (omega arith) op e)
 
 pub ahead-only : (op : ℕ) → form-of op ≡ 6 → (Op.JUMP ≤ op) × (op < Op.LOOP)
-unfolding Op.computes form form-of
+unfolding rules.op form form-of
 ahead-only op e =
     (leb→le _ _ (only 6 (λ i. leb Op.JUMP i) tt (omega arith) op e), ltb→lt _ _ (only 6 (λ i. ltb i Op.LOOP) tt (omega arith) op e))
 
 pub back-only : (op : ℕ) → form-of op ≡ 7 → op ≡ Op.LOOP
-unfolding Op.computes form form-of
+unfolding rules.op form form-of
 back-only op e = eqb→eq _ _ (only 7 (λ i. eqb i Op.LOOP) tt (omega arith) op e)
 
 pub closure-form : (op : ℕ) → op ≡ Op.CLOSURE → form-of op ≡ 8
-unfolding Op.computes form form-of
+unfolding rules.op form form-of
 closure-form op e = rw e refl
 
 pub ahead-form : (op : ℕ) → Op.JUMP ≤ op → op < Op.LOOP → form-of op ≡ 6
-unfolding Op.computes form form-of
+unfolding rules.op form form-of
 ahead-form op l h =
     ⊎-elim (λ (e : op ≡ Op.JUMP-IF-FALSE). rw e refl) (λ (m : op < Op.JUMP-IF-FALSE). let e : op ≡ Op.JUMP = omega arith in rw e refl)
     (eq-or-lt-of-le (omega arith))
 
 pub back-form : (op : ℕ) → op ≡ Op.LOOP → form-of op ≡ 7
-unfolding Op.computes form form-of
+unfolding rules.op form form-of
 back-form op e = rw e refl
 
 fixed : (o : Option Operands) (k : Kind) → (form o ≡ 8 → ⊥) → Op.width-of o 0 ≡ width-by (form o) k
@@ -129,7 +131,7 @@ missed (suc (suc zero)) h = refl
 missed (suc (suc (suc k))) h = absurd (omega arith)
 
 found : (n : ℕ) → Op.width Op.CLOSURE n ≡ width-by 8 (kind-of (suc (suc (suc n))))
-unfolding computes Op.computes kind-of
+unfolding computes rules.op kind-of
 found n = omega arith
 
 -- at a place of a code, where its first operand finds the word `k` of the table

@@ -14,7 +14,8 @@ use borrow.Author.Tests.{eq-eqb, ne-eqb, le-leb, lt-leb}
 use Rattle.rules.specs.Division.{Kind, Instruction, followed-by, divide, is-start, word, lands, lands-by}
 use Rattle.rules.specs.Op.{Operands, Plain, Byte, Captured, Value, Text, Invoke, Ahead, Back, Closure, operands-of}
 use Rattle.rules.specs.Op as Op
-use Rattle.image_code.specs.Forms.{computes, operands-by, form, form-of, width, width-by}
+use Rattle.image_code.specs.Forms.{operands-by, form, form-of, width, width-by}
+use Rattle.image_code.proofs.Computes.{computes}
 use Rattle.image_code.proofs.Forms.{ahead-only, back-only, ahead-form, back-form}
 use Rattle.rules.specs.Base.{all}
 use Rattle.image_code.specs.Table.{instruction-at, from, instructions, is-some, bit, start-at, window-size, Filled, Near, all-land}

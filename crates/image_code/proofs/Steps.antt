@@ -12,9 +12,10 @@ use lib.ListN.{length, getD, take, drop, set, length-set, length-drop, drop-of-l
 use lib.Dec.{ltb, leb, eqb}
 use lib.Seq.{drop-cons, getD-set-same, getD-set-other}
 use borrow.Author.Tests.{eq-eqb, ne-eqb}
-use Rattle.rules.specs.Division.{Kind, Instruction, size-with, sized, known, instruction, followed-by, divide, is-start}
+use Rattle.rules.specs.Division.{Kind, Instruction, size-with, sized, with-operands, instruction, followed-by, divide, is-start}
 use Rattle.rules.specs.Op.{Operands, operands-of}
-use Rattle.image_code.specs.Forms.{computes, form, form-of, operands-by, with-opcode, width-with, width-by, width}
+use Rattle.image_code.specs.Forms.{form, form-of, operands-by, with-opcode, width-with, width-by, width}
+use Rattle.image_code.proofs.Computes.{computes}
 use Rattle.image_code.proofs.Forms.{by-form-is}
 use Rattle.rules.specs.Base.{all}
 use Rattle.image_code.specs.Table.{kind-of, kinds-in, instruction-at, from, instructions, is-some, judged, bit, start-at, window-size, Wide, Filled}
@@ -68,14 +69,14 @@ sized-none at op o l (some n) e = absurd (omega arith)
 
 module _ (kind : ℕ → Kind) (at op : ℕ) (l : List ℕ) where
   known-as : (size : ℕ) (o : Option Operands) → width-by (form o) (kind (getD l 0 0)) ≡ suc size
-      → known kind at op l o ≡ some (record { at = at; opcode = op; operands = operands-by (form o); size = size; bytes = take size l })
-  unfolding known form computes
+      → with-operands kind at op l o ≡ some (record { at = at; opcode = op; operands = operands-by (form o); size = size; bytes = take size l })
+  unfolding with-operands form computes
   known-as size none e = absurd (omega arith)
   known-as size (some o) e =
       sized-as at op size o l (size-with o (kind (getD l 0 0))) (sym (width-some o (kind (getD l 0 0))) ∙ e) ∙ rw by-form-is refl
 
-  known-none : (o : Option Operands) → width-by (form o) (kind (getD l 0 0)) ≡ 0 → known kind at op l o ≡ none
-  unfolding known
+  known-none : (o : Option Operands) → width-by (form o) (kind (getD l 0 0)) ≡ 0 → with-operands kind at op l o ≡ none
+  unfolding with-operands
   known-none none e = refl
   known-none (some o) e = sized-none at op o l (size-with o (kind (getD l 0 0))) (sym (width-some o (kind (getD l 0 0))) ∙ e)
 

@@ -61,8 +61,3 @@ width-by form k = width-with (by-form form) k
 -- of an opcode and what stands behind it
 unfoldable pub width : (kind : (place : ℕ) → Kind) → (op : ℕ) → (rest : List ℕ) → ℕ
 width kind op rest = width-by (form-of op) (kind (getD rest 0 0))
-
--- who unfolds this can compute with a form that is a numeral
-unfoldable pub computes : Unit {0}
-unfolding Rattle.rules.specs.Op.size-of size-with by-form operands-in operands-by with-opcode width-with width-by
-computes = tt

@@ -10,6 +10,7 @@ use lib.Dec.{T, eqb, eqb→eq}
 use borrow.Author.Tests.{eq-eqb, ne-eqb}
 use Rattle.rules.specs.Base.{if_then_else_, all-below}
 use Rattle.rules.specs.Op as rules
+use Rattle.rules.proofs.Computes as computes
 use Rattle.op.specs.declared.Row.{Row}
 use Rattle.op.proofs.Ranges.{below}
 
@@ -79,7 +80,7 @@ plain mark upvalues =
     all-below 256 (λ k. if eqb k rules.CLOSURE then true else if eqb (rules.width k 0) mark then false else eqb (rules.width k 0) (rules.width k upvalues))
 
 closure-width : (op upvalues : ℕ) → op ≡ rules.CLOSURE → 2 + 2 * upvalues ≡ rules.width op upvalues
-unfolding rules.computes
+unfolding computes.op
 closure-width op upvalues e = subst⁻¹ (λ (k : ℕ). 2 + 2 * upvalues ≡ rules.width k upvalues) e (omega arith)
 
 module _ {bytes : ℕ} (mark op upvalues : ℕ) (q : bytes ≡ (if eqb op rules.CLOSURE then mark else rules.width op 0)) (l : op < 256)

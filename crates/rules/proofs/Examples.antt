@@ -9,16 +9,14 @@ use Rattle.rules.specs.declared.Span.{Span}
 use Rattle.rules.specs.declared.Answer.{Answer}
 use Rattle.rules.specs.declared.Refusal.the-variants.{WorkShort, TreeTooDeep, TooManyOpen, CodeFull, OutFull}
 use Rattle.rules.specs.Answer.{refusal, accepted, at-span}
-use Rattle.rules.specs.Op as op
 use Rattle.rules.specs.Op.{Operands, Plain, Byte, Captured, Value, Text, Invoke, Ahead, Back, Closure}
 use Rattle.rules.specs.Chunk.{ObjectFunction}
 use Rattle.rules.specs.Limits.{Limits, first-limits, max-code}
-use Rattle.rules.specs.Entry as entry
 use Rattle.rules.specs.Entry.{Lent, Left, Compiled, functions-are, refused, leaves, compile-tree, compile}
 use Rattle.rules.specs.Image.{image-bytes}
 use Rattle.rules.specs.Division.{Instruction, division, word}
-use Rattle.rules.specs.Checker as checker
 use Rattle.rules.specs.Checker.{check, code-of, code-place, code-answer}
+use Rattle.rules.proofs.Computes as computes
 
 -- the bytes whose digits, two to a byte, are those of `n`
 unfoldable pub hex : (count n : ℕ) → List ℕ
@@ -230,7 +228,7 @@ pub record P1-to-P12 : Type 0 where
   pub P2-no-function : code-answer P2-image 1 ≡ record { number = 41; at = 0; end = 0; name = 0; length = 0 }
 
 pub holds : P1-to-P12
-unfolding hex entry.computes checker.computes
+unfolding hex computes.entry computes.checker
 holds =
     record {
       codes-and-refusals = refl;

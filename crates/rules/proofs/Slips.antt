@@ -19,25 +19,22 @@ use Rattle.rules.specs.Tree.{Expr, Exprs, ExprAssign, ExprCall, ExprGet,
 use Rattle.rules.specs.Tree.{Less, Not, LitBool, LitNil, LitNumber, LitString}
 use Rattle.rules.specs.Tree.{Stmts, StmtBlock, StmtClass, StmtExpr, StmtFor, StmtIf, StmtPrint, StmtReturn, StmtVar, StmtWhile, []ˢ, _∷ˢ_, fun, []ᵐ, method}
 use Rattle.rules.specs.TreeFile.{read-tree}
-use Rattle.rules.specs.TreeEncode as tree-encode
 use Rattle.rules.specs.TreeEncode.{encode}
 use Rattle.rules.specs.Op as op
 use Rattle.rules.specs.Chunk.{Chunk, Constant, CN, CS, same-constant, Run, push-span, ObjectFunction, write-constant, written, at-place, no-room}
 use Rattle.rules.specs.Image.{image-bytes}
 use Rattle.rules.specs.Compiler as c
 use Rattle.rules.specs.Compiler.{Compiler, CompilerCtx, FunctionType, Upvalue, ok, err, with-ctx, with-chunk, with-locals, with-upvalues}
-use Rattle.rules.specs.Compiler.{ends-in-return, same-upvalue, add-upvalue, added, captured, failed, declared, set-u16}
+use Rattle.rules.specs.Compiler.{ends-in-return, same-upvalue, add-upvalue, added, captured, failed, declared-here, set-u16}
 use Rattle.rules.specs.Limits.{Limits, first-limits, max-tree, max-code}
 use Rattle.rules.specs.Entry as entry
 use Rattle.rules.specs.Entry.{Lent, Left, Compiled, functions-are, refused, compile-tree, compile-lent, compile-within}
-use Rattle.rules.specs.Division as d
-use Rattle.rules.specs.ImageFile as image-file
 use Rattle.rules.specs.ImageFile.{read-run}
 use Rattle.rules.specs.Reader.{got, bad}
 use Rattle.rules.specs.Division.{division, function-fits, run-fits}
-use Rattle.rules.specs.Checker as checker
 use Rattle.rules.specs.Checker.{check, span-of}
 use Rattle.rules.proofs.Examples.{hex, P2-tree, P2-image, P12-tree, from-to, lent, given, codes}
+use Rattle.rules.proofs.Computes as computes
 
 -- ## "256 arguments", and `super` before the count
 
@@ -92,7 +89,7 @@ pub last-upvalue : (u : Upvalue) (span : Span) (ctx : CompilerCtx) (parents : Li
 unfolding add-upvalue added
 last-upvalue u span ctx parents e l = rw (e, l)
 
-pub too-many-locals : (name : ℕ) (span : Span) (s : Compiler) → declared (s .ctx .scope-depth) name (s .ctx .locals) ≡ false → 256 ≤ length (s .ctx .locals) →
+pub too-many-locals : (name : ℕ) (span : Span) (s : Compiler) → declared-here (s .ctx .scope-depth) name (s .ctx .locals) ≡ false → 256 ≤ length (s .ctx .locals) →
     c.declare-local name span s ≡ err (TooManyLocals span)
 unfolding c.declare-local c._>>=_ c._>>_ c.go-on c.need c.the
 too-many-locals name span s e l = rw (e, le-ltb (length (s .ctx .locals)) 256 l)
@@ -102,13 +99,13 @@ with-local s name =
     with-ctx s (with-locals (s .ctx)
     (record { name = name; depth = s .ctx .scope-depth; is-initialized = false; is-captured = false } ∷ s .ctx .locals))
 
-pub enough-locals : (name : ℕ) (span : Span) (s : Compiler) → declared (s .ctx .scope-depth) name (s .ctx .locals) ≡ false → length (s .ctx .locals) < 256 →
+pub enough-locals : (name : ℕ) (span : Span) (s : Compiler) → declared-here (s .ctx .scope-depth) name (s .ctx .locals) ≡ false → length (s .ctx .locals) < 256 →
     c.declare-local name span s ≡ ok tt (with-local s name)
 unfolding c.declare-local c._>>=_ c._>>_ c.go-on c.need c.the c.update-ctx
 enough-locals name span s e l = rw (e, lt-ltb (length (s .ctx .locals)) 256 l)
 
 -- a name that its scope has already is 10, however many there are
-pub already-declared : (name : ℕ) (span : Span) (s : Compiler) → declared (s .ctx .scope-depth) name (s .ctx .locals) ≡ true →
+pub already-declared : (name : ℕ) (span : Span) (s : Compiler) → declared-here (s .ctx .scope-depth) name (s .ctx .locals) ≡ true →
     c.declare-local name span s ≡ err (AlreadyDefined span name)
 unfolding c.declare-local c._>>=_ c._>>_ c.go-on c.need c.the
 already-declared name span s e = rw e
@@ -169,16 +166,16 @@ pub one-run : compile-tree first-limits nowhere-tree max-code
       chunk = record { ops = hex 4 0x01_1B_01_24; constants = []; spans = record { span = NO-SPAN; count = 4 } ∷ [] };
     }
     ∷ [])
-unfolding hex entry.computes
+unfolding hex computes.entry
 one-run = refl
 
 pub full-run : push-span (record { span = from-to 1 2; count = 254 } ∷ []) (from-to 1 2) ≡ record { span = from-to 1 2; count = 255 } ∷ []
-unfolding entry.computes
+unfolding computes.entry
 full-run = refl
 
 pub next-run : push-span (record { span = from-to 1 2; count = 255 } ∷ []) (from-to 1 2)
     ≡ record { span = from-to 1 2; count = 255 } ∷ record { span = from-to 1 2; count = 1 } ∷ []
-unfolding entry.computes
+unfolding computes.entry
 next-run = refl
 
 -- ## A constant is found by kind and content
@@ -237,7 +234,7 @@ pub record At-limits : Type 0 where
   pub too-many-open : compile-tree (limits 4 1) P12-tree max-code ≡ refused (TooManyOpen 39)
 
 pub at-limits : At-limits
-unfolding hex entry.computes
+unfolding hex computes.entry
 at-limits = record { deep-enough = refl; too-deep = refl; open-enough = refl; too-many-open = refl }
 
 -- 2, for every tree that is too long
@@ -261,7 +258,7 @@ pub record Cut : Type 0 where
   pub get-local : function-fits (one-byte op.GET-LOCAL ∷ []) (one-byte op.GET-LOCAL) ≡ false
 
 pub cut : Cut
-unfolding d.computes
+unfolding computes.division
 cut = record { call = refl; get-local = refl }
 
 -- ## The span of a byte: the last of a run, the first of the next, and past the end
@@ -275,7 +272,7 @@ pub record Spans : Type 0 where
   pub past-the-end : span-of two-runs 4 ≡ record { number = 42; at = 0; end = 0; name = 0; length = 0 }
 
 pub spans : Spans
-unfolding checker.computes
+unfolding computes.checker
 spans = record { last-of-first = refl; first-of-next = refl; past-the-end = refl }
 
 -- ## A run may stand for 255 bytes, and its span is read back as it was written
@@ -286,7 +283,7 @@ pub record Read-runs : Type 0 where
   pub as-written : read-run (hex 11 0x52_55_04000000_06000000_01) 0 ≡ got (record { span = from-to 4 6; count = 1 }) 11
 
 pub read-runs : Read-runs
-unfolding hex d.computes image-file.computes
+unfolding hex computes.division computes.image-file
 read-runs = record { longest = refl; too-long-a-run = refl; as-written = refl }
 
 -- ## An image has one form: to the last byte, and with a function
@@ -297,7 +294,7 @@ pub record One-form : Type 0 where
   pub no-functions : check (hex 6 0x494D_0000_0000) ≡ refusal ImageRefused
 
 pub one-form : One-form
-unfolding hex checker.computes
+unfolding hex computes.checker
 one-form = record { as-written = refl; one-byte-more = refl; no-functions = refl }
 
 -- ## INVOKE has its count, METHOD takes a string
@@ -327,7 +324,7 @@ pub record Named : Type 0 where
       ≡ codes (hex 2 0x01_24 ∷ hex 13 0x25_00_08_00_07_00_22_01_27_02_04_01_24 ∷ []) (accepted 10)
 
 pub named : Named
-unfolding hex entry.computes checker.computes
+unfolding hex computes.entry computes.checker
 named = record { invoke = refl; method = refl }
 
 -- ## The code limit: at most 262,144, and on the open functions' code, summed
@@ -356,7 +353,7 @@ pub record Limited : Type 0 where
       ≡ codes (hex 8 0x01_1B_01_1B_01_1B_01_24 ∷ hex 8 0x01_1B_22_00_08_01_01_24 ∷ []) (accepted 14)
 
 pub limited : Limited
-unfolding hex entry.computes checker.computes
+unfolding hex computes.entry computes.checker
 limited = record { capped = refl; summed = refl; enough = refl }
 
 -- ## The tree file written: every record once, its bytes written out from document 01
@@ -411,18 +408,18 @@ every-tree =
     ++ hex 12 0x5342_39000000_3A000000_0000  -- SB
 
 pub every-record-written : encode ((0x61 ∷ []) ∷ (0x62 ∷ []) ∷ []) every-record ≡ every-tree
-unfolding hex tree-encode.computes
+unfolding hex computes.tree-encode
 every-record-written = refl
 
 -- five deep and one function; with less of either, the record that is one too many
 pub every-record-read : read-tree every-tree 5 1 ≡ got every-record (length every-tree)
-unfolding hex entry.computes
+unfolding hex computes.entry
 every-record-read = refl
 
 pub one-too-deep : read-tree every-tree 4 1 ≡ bad (TreeTooDeep 195)
-unfolding hex entry.computes
+unfolding hex computes.entry
 one-too-deep = refl
 
 pub one-too-many : read-tree every-tree 5 0 ≡ bad (TooManyOpen 43)
-unfolding hex entry.computes
+unfolding hex computes.entry
 one-too-many = refl

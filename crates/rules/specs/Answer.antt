@@ -11,8 +11,8 @@ use Rattle.rules.specs.declared.Refusal.the-variants.{CodeFull, OutFull,
 abbrev pub NO-SPAN : Span
 NO-SPAN = record { start = 0; end = 0 }
 
-abbrev pub at-place : (number at : ℕ) → Answer
-at-place number at = record { number = number; at = at; end = 0; name = 0; length = 0 }
+abbrev pub at-offset : (number at : ℕ) → Answer
+at-offset number at = record { number = number; at = at; end = 0; name = 0; length = 0 }
 
 abbrev pub at-span : (number : ℕ) → Span → (name : ℕ) → Answer
 at-span number span name = record { number = number; at = span .start; end = span .end; name = name; length = 0 }
@@ -24,11 +24,11 @@ abbrev pub accepted : (length : ℕ) → Answer
 accepted length = with-length 0 length
 
 unfoldable pub refusal : Refusal → Answer
-refusal WorkShort = at-place 1 0
-refusal TreeTooLong = at-place 2 0
-refusal (TreeForm at) = at-place 3 at
-refusal (TreeTooDeep at) = at-place 4 at
-refusal (TooManyOpen at) = at-place 5 at
+refusal WorkShort = at-offset 1 0
+refusal TreeTooLong = at-offset 2 0
+refusal (TreeForm at) = at-offset 3 at
+refusal (TreeTooDeep at) = at-offset 4 at
+refusal (TooManyOpen at) = at-offset 5 at
 refusal (AlreadyDefined span name) = at-span 10 span name
 refusal (AccessInsideInitializer span name) = at-span 11 span name
 refusal (ClassInheritFromSelf span name) = at-span 12 span name
@@ -43,13 +43,8 @@ refusal (ReturnOutsideFunction span) = at-span 20 span 0
 refusal (SuperOutsideClass span) = at-span 21 span 0
 refusal (SuperWithoutSuperclass span) = at-span 22 span 0
 refusal (ThisOutsideClass span) = at-span 23 span 0
-refusal CodeFull = at-place 30 0
+refusal CodeFull = at-offset 30 0
 refusal (OutFull length) = with-length 31 length
-refusal ImageRefused = at-place 40 0
-refusal NoSuchFunction = at-place 41 0
-refusal NoSuchByte = at-place 42 0
-
--- who unfolds this unfolds the whole file and those that it stands on, and can compute with them
-unfoldable pub computes : Unit {0}
-unfolding refusal
-computes = tt
+refusal ImageRefused = at-offset 40 0
+refusal NoSuchFunction = at-offset 41 0
+refusal NoSuchByte = at-offset 42 0

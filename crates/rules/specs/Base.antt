@@ -46,8 +46,3 @@ before [] [] = false
 before [] (y ∷ ys) = true
 before (x ∷ xs) [] = false
 before (x ∷ xs) (y ∷ ys) = if ltb x y then true else if ltb y x then false else before xs ys
-
--- who unfolds this unfolds the whole file and those that it stands on, and can compute with them
-unfoldable pub computes : Unit {0}
-unfolding one-on position lookup all all-below le before
-computes = tt

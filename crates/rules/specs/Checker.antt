@@ -165,8 +165,3 @@ code-answer image k = code-verdict k (image-of image)
 unfoldable pub span-of : List Run → (offset : ℕ) → Answer
 span-of [] offset = refusal NoSuchByte
 span-of (run ∷ runs) offset = if ltb offset (run .count) then at-span 0 (run .span) 0 else span-of runs (offset - run .count)
-
--- who unfolds this unfolds the whole file and those that it stands on, and can compute with them
-unfoldable pub computes : Unit {0}
-unfolding Rattle.rules.specs.Answer.computes Rattle.rules.specs.Division.computes Rattle.rules.specs.ImageFile.computes runs-apart distinct names-earlier all-earlier names names-in-all named-once closes closures closed-at closed-in closed-once facts sound instructions instruction-count checked image-of verdict check function-numbered code-in code-of code-before place-in code-place code-verdict code-answer span-of
-computes = tt

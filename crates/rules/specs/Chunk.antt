@@ -79,8 +79,3 @@ written none c value =
 -- the constant's place, an equal one's where there is one; at most 256 constants
 unfoldable pub write-constant : Chunk → Constant → Written
 write-constant c value = written (position (same-constant value) (c .constants)) c value
-
--- who unfolds this unfolds the whole file and those that it stands on, and can compute with them
-unfoldable pub computes : Unit {0}
-unfolding Rattle.rules.specs.Base.computes total same-constant same-span push-span write-u8 written write-constant
-computes = tt

@@ -15,7 +15,7 @@ use Rattle.rules.specs.declared.Refusal.{Refusal}
 use Rattle.rules.specs.declared.Refusal.the-variants.{AlreadyDefined, AccessInsideInitializer, ClassInheritFromSelf, JumpTooLarge, TooManyArgs, TooManyConstants, TooManyLocals, TooManyParams, TooManyUpvalues}
 use Rattle.rules.specs.declared.Refusal.the-variants.{ReturnInInitializer, ReturnOutsideFunction, SuperOutsideClass, SuperWithoutSuperclass, ThisOutsideClass, CodeFull}
 use Rattle.rules.specs.Answer.{NO-SPAN}
-use Rattle.rules.specs.Tree.{this, super, init, script}
+use Rattle.rules.specs.Tree.{this-name, super-name, init-name, script-name}
 use Rattle.rules.specs.Tree.{Expr, Exprs, ExprAssign, ExprCall, ExprGet, ExprInfix, Literal, ExprPrefix, ExprSet, ExprSuper, ExprVar, []ᵉ, _∷ᵉ_, count-exprs}
 use Rattle.rules.specs.Tree.{OpInfix, Add, Subtract, Multiply, Divide, Less, LessEqual, Greater, GreaterEqual, Equal, NotEqual, LogicAnd, LogicOr}
 use Rattle.rules.specs.Tree.{OpPrefix, Negate, Not, ExprLiteral, LitBool, LitNil, LitNumber, LitString, Superclass}
@@ -62,7 +62,7 @@ new-ctx name arity type scope-depth =
     { name = name; arity = arity; type = type; chunk = empty-chunk; locals = []; upvalues = []; scope-depth = scope-depth }
 
 abbrev pub new : Compiler
-new = record { ctx = new-ctx script 0 Script 0; parents = []; class-ctx = []; functions = [] }
+new = record { ctx = new-ctx script-name 0 Script 0; parents = []; class-ctx = []; functions = [] }
 
 -- antt has no record update: a definition for each field that changes
 abbrev pub with-chunk : CompilerCtx → Chunk → CompilerCtx
@@ -173,11 +173,11 @@ update-ctx f s = ok tt (with-ctx s (f (s .ctx)))
 
 pub data Found : Type 0 where
   at-slot : ℕ → Found
-  uninitialized missing : Found
+  uninitialized no-local : Found
 
 -- `resolve_local`: the topmost local of that name; its slot is how many locals lie below it
 unfoldable pub find-local : (name : ℕ) → List Local → Found
-find-local name [] = missing
+find-local name [] = no-local
 find-local name (local ∷ below) =
     if eqb (local .name) name
     then if local .is-initialized then at-slot (length below) else uninitialized
@@ -211,15 +211,19 @@ added none upvalue span ctx parents =
 unfoldable pub add-upvalue : Upvalue → Span → CompilerCtx → List CompilerCtx → Resolved
 add-upvalue upvalue span ctx parents = added (position (same-upvalue upvalue) (ctx .upvalues)) upvalue span ctx parents
 
--- `resolve_upvalue`: a local of the context around, or else what that context finds further out, `outer`. Contexts come and go as the
--- current one and those around it, since both may change
+-- `resolve_upvalue`'s second match: what the context around resolved further out. Contexts come and go as the current one and those around it, since
+-- both may change
+unfoldable pub further-out : Resolved → Span → CompilerCtx → Resolved
+further-out (captured idx parent above) span ctx = add-upvalue (record { idx = idx; is-local = false }) span ctx (parent ∷ above)
+further-out nowhere span ctx = nowhere
+further-out (failed r) span ctx = failed r
+
+-- its first match: what `resolve_local` gives in the context around
 unfoldable pub through : Found → (outer : Resolved) → (name : ℕ) → Span → (ctx parent : CompilerCtx) → List CompilerCtx → Resolved
 through (at-slot slot) outer name span ctx parent above =
     add-upvalue (record { idx = slot; is-local = true }) span ctx (with-locals parent (capture name (parent .locals)) ∷ above)
 through uninitialized outer name span ctx parent above = failed (AccessInsideInitializer span name)
-through missing (captured idx parent′ above′) name span ctx parent above = add-upvalue (record { idx = idx; is-local = false }) span ctx (parent′ ∷ above′)
-through missing nowhere name span ctx parent above = nowhere
-through missing (failed r) name span ctx parent above = failed r
+through no-local outer name span ctx parent above = further-out outer span ctx
 
 unfoldable pub resolve-upvalue : (name : ℕ) → Span → CompilerCtx → List CompilerCtx → Resolved
 resolve-upvalue name span ctx [] = nowhere
@@ -233,11 +237,11 @@ pub data Place : Type 0 where
 unfoldable pub resolved : Found → (outer : Resolved) → (name : ℕ) → Span → Compile Place
 resolved (at-slot slot) outer name span = return (local-at slot)
 resolved uninitialized outer name span = refuse (AccessInsideInitializer span name)
-resolved missing (captured idx ctx parents) name span = do
+resolved no-local (captured idx ctx parents) name span = do
   put-ctxs ctx parents
   return (upvalue-at idx)
-resolved missing nowhere name span = return global-named
-resolved missing (failed r) name span = refuse r
+resolved no-local nowhere name span = return global-named
+resolved no-local (failed r) name span = refuse r
 
 -- `resolve_local` and then `resolve_upvalue`, as `get_variable` and `set_variable` do
 unfoldable pub resolve : (name : ℕ) → Span → Compile Place
@@ -266,17 +270,17 @@ end-ctx = do
   back-to parents
 
 -- the loop of `declare_local`: a local of that name, looking down while the depth isn't below the current one
-unfoldable pub declared : (depth name : ℕ) → List Local → Bool
-declared depth name [] = false
-declared depth name (local ∷ below) =
+unfoldable pub declared-here : (depth name : ℕ) → List Local → Bool
+declared-here depth name [] = false
+declared-here depth name (local ∷ below) =
     if ltb (local .depth) depth then false
     else if eqb (local .name) name then true
-    else declared depth name below
+    else declared-here depth name below
 
 unfoldable pub declare-local : (name : ℕ) → Span → Compile Unit
 declare-local name span = do
   ctx ← the (λ s. s .ctx)
-  need (not (declared (ctx .scope-depth) name (ctx .locals))) (AlreadyDefined span name)
+  need (not (declared-here (ctx .scope-depth) name (ctx .locals))) (AlreadyDefined span name)
   need (ltb (length (ctx .locals)) 256) (TooManyLocals span)
   update-ctx λ c. with-locals c
       (record { name = name; depth = c .scope-depth; is-initialized = false; is-captured = false } ∷ c .locals)
@@ -352,8 +356,8 @@ is-some none = false
 is-some (some _) = true
 
 unfoldable pub slot-zero : FunctionType → (name : ℕ) → ℕ
-slot-zero Initializer name = this
-slot-zero Method name = this
+slot-zero Initializer name = this-name
+slot-zero Method name = this-name
 slot-zero Function name = name
 slot-zero Script name = name
 
@@ -371,7 +375,7 @@ ends-in-return (b ∷ []) = eqb b op.RETURN
 ends-in-return (_ ∷ b ∷ bs) = ends-in-return (b ∷ bs)
 
 abbrev pub method-type : (name : ℕ) → FunctionType
-method-type name = if eqb name init then Initializer else Method
+method-type name = if eqb name init-name then Initializer else Method
 
 unfoldable pub some-methods : Methods → Bool
 some-methods []ᵐ = false
@@ -477,7 +481,7 @@ module _ (code-limit : ℕ) where
   unfoldable pub get-variable : (name : ℕ) → Span → Compile Unit
   get-variable name span = do
     classes ← the λ s. s .class-ctx
-    need (not (eqb name this && eqb (length classes) 0)) (ThisOutsideClass span)
+    need (not (eqb name this-name && eqb (length classes) 0)) (ThisOutsideClass span)
     place ← resolve name span
     get-place place name span
 
@@ -531,8 +535,8 @@ module _ (code-limit : ℕ) where
   unfoldable pub compile-super : (name : ℕ) → Span → Compile Unit
   compile-super name span = do
     need-super span
-    get-variable this span
-    get-variable super span
+    get-variable this-name span
+    get-variable super-name span
     emit-op-constant op.GET-SUPER (CS name) span
 
   -- the three arms of `match &call.callee.0`; `object`, `callee` and `args` compile those parts
@@ -545,9 +549,9 @@ module _ (code-limit : ℕ) where
   unfoldable pub call-super : (args : Compile Unit) → (name count : ℕ) → Span → Compile Unit
   call-super args name count span = do
     need-super span
-    get-variable this span
+    get-variable this-name span
     args
-    get-variable super span
+    get-variable super-name span
     emit-invoke op.SUPER-INVOKE (CS name) count span
 
   unfoldable pub call-value : (callee args : Compile Unit) → (count : ℕ) → Span → Compile Unit
@@ -645,12 +649,12 @@ module _ (code-limit : ℕ) where
   -- `if let Some(super_) = &class.super_`
   unfoldable pub compile-superclass : (class : ℕ) → Option Superclass → Span → Compile Unit
   compile-superclass class none span = done
-  compile-superclass class (some super-) span = do
-    need (not (eqb (super- .name) class)) (ClassInheritFromSelf span class)
+  compile-superclass class (some super) span = do
+    need (not (eqb (super .name) class)) (ClassInheritFromSelf span class)
     begin-scope
-    declare-local super NO-SPAN
+    declare-local super-name NO-SPAN
     define-local
-    get-variable (super- .name) (super- .span)
+    get-variable (super .name) (super .span)
     get-variable class span
     emit-op op.INHERIT span
 
@@ -711,18 +715,18 @@ module _ (code-limit : ℕ) where
       begin-scope
       compile-stmts stmts
       end-scope span
-    compile-stmt (StmtClass span name super- methods) = do
+    compile-stmt (StmtClass span name super methods) = do
       emit-op-constant op.CLASS (CS name) span
       define-name name span
-      push-class-ctx (is-some super-)
-      compile-superclass name super- span
+      push-class-ctx (is-some super)
+      compile-superclass name super span
       if some-methods methods
           then (do
             get-variable name span
             compile-methods methods
             emit-op op.POP span)
           else done
-      end-superclass super-
+      end-superclass super
       pop-class-ctx
     compile-stmt (StmtExpr span value) = do
       compile-expr value
@@ -796,8 +800,3 @@ module _ (code-limit : ℕ) where
         compile-script stmts
         the λ s. s .functions ++ (finish (s .ctx) ∷ []))
       new
-
--- who unfolds this unfolds the whole file and those that it stands on, and can compute with them
-unfoldable pub computes : Unit {0}
-unfolding Rattle.rules.specs.Base.computes Rattle.rules.specs.Tree.computes Rattle.rules.specs.Chunk.computes emit-place through resolved put-ctxs added back-to go-on _>>=_ _>>_ return done refuse need get the update-ctx find-local capture same-upvalue add-upvalue resolve-upvalue resolve declared declare-local initialize define-local is-global begin-scope begin-ctx finish end-ctx open-code push-class-ctx pop-class-ctx code-length set-u16 patch-jump prefix-op innermost-has-super need-super slot-zero declare-params ends-in-return some-methods fun-name emit-u8 emit-constant emit-op emit-op-u8 emit-op-constant emit-invoke emit-upvalues emit-closure emit-jump emit-loop pop-locals end-scope get-place get-variable set-place set-variable define-global compile-literal compile-infix compile-super call-method call-super call-value compile-expr compile-value return-value compile-return compile-var define-name compile-superclass end-superclass for-cond for-incr for-end implicit-return end-function compile-function-with compile-stmt compile-script compile-functions
-computes = tt

@@ -65,13 +65,13 @@ followed-by i (some is) = some (i ∷ is)
 
 -- `kind` says what an operand finds
 module _ (kind : (place : ℕ) → Kind) where
-  unfoldable pub known : (at op : ℕ) → (rest : List ℕ) → Option Operands → Option Instruction
-  known at op rest none = none
-  known at op rest (some operands) = sized at op operands rest (size-with operands (kind (getD rest 0 0)))
+  unfoldable pub with-operands : (at op : ℕ) → (rest : List ℕ) → Option Operands → Option Instruction
+  with-operands at op rest none = none
+  with-operands at op rest (some operands) = sized at op operands rest (size-with operands (kind (getD rest 0 0)))
 
   -- of an opcode and what stands behind it
   unfoldable pub instruction : (at op : ℕ) → (rest : List ℕ) → Option Instruction
-  instruction at op rest = known at op rest (operands-of op)
+  instruction at op rest = with-operands at op rest (operands-of op)
 
   -- from `at` on, where `skip` bytes still belong to the instruction before; none where the code has no such division: an unknown opcode, a
   -- last instruction that is cut, or a CLOSURE whose operand finds no function, so that its length is not known
@@ -169,8 +169,3 @@ function-fits functions f = runs-fit f && code-fits functions f (division functi
 -- of all the functions of an image
 unfoldable pub fits : List ObjectFunction → Bool
 fits functions = all (function-fits functions) functions
-
--- who unfolds this unfolds the whole file and those that it stands on, and can compute with them
-unfoldable pub computes : Unit {0}
-unfolding Rattle.rules.specs.Base.computes Rattle.rules.specs.Op.computes Rattle.rules.specs.Chunk.computes function-kind kind-of kind-at size-with sized followed-by known instruction divide division is-value is-text is-function pairs-fit fit operands-fit is-start lands-by lands run-fits runs-fit code-fits function-fits fits
-computes = tt

@@ -91,8 +91,3 @@ module _ (limits : Limits) where
 
 abbrev pub compile : (tree : List ℕ) → Lent → Left
 compile = compile-within first-limits
-
--- who unfolds this unfolds the whole file and those that it stands on, and can compute with them
-unfoldable pub computes : Unit {0}
-unfolding Rattle.rules.specs.Base.computes Rattle.rules.specs.Answer.computes Rattle.rules.specs.TreeFile.computes Rattle.rules.specs.Compiler.computes Rattle.rules.specs.Image.computes code-limit from-outcome from-read leaves write-image write-out compile-tree compile-lent compile-within
-computes = tt

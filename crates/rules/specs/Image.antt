@@ -29,8 +29,3 @@ function-bytes f =
 
 unfoldable pub image-bytes : List ObjectFunction → List ℕ
 image-bytes functions = 0x49 ∷ 0x4D ∷ le 4 (length functions) ++ join function-bytes functions
-
--- who unfolds this unfolds the whole file and those that it stands on, and can compute with them
-unfoldable pub computes : Unit {0}
-unfolding Rattle.rules.specs.Base.computes Rattle.rules.specs.Chunk.computes join constant-bytes run-bytes function-bytes image-bytes
-computes = tt

@@ -74,8 +74,3 @@ module _ (image : List ℕ) where
 
   unfoldable pub read-image : Read (List ObjectFunction)
   read-image = read-functions 0
-
--- who unfolds this unfolds the whole file and those that it stands on, and can compute with them
-unfoldable pub computes : Unit {0}
-unfolding Rattle.rules.specs.Reader.computes constant-marks constant-fields read-constant read-run read-function read-functions read-image
-computes = tt

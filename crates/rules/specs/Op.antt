@@ -202,8 +202,3 @@ width-of (some operands) upvalues = 1 + size-of operands upvalues
 -- how many bytes an instruction has, its opcode among them; 0 of a byte that is no opcode
 unfoldable pub width : (op upvalues : ℕ) → ℕ
 width op upvalues = width-of (operands-of op) upvalues
-
--- who unfolds this unfolds the whole file and those that it stands on, and can compute with them
-unfoldable pub computes : Unit {0}
-unfolding Rattle.rules.specs.Base.computes operands operands-of size-of width-of width
-computes = tt

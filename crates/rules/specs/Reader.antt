@@ -101,8 +101,3 @@ many (suc count) one = do
   a ← one
   rest ← many count one
   return (a ∷ rest)
-
--- who unfolds this unfolds the whole file and those that it stands on, and can compute with them
-unfoldable pub computes : Unit {0}
-unfolding Rattle.rules.specs.Base.computes go-on _>>=_ _>>_ return refuse here need known one-of u8 u16 u32 u64 mark mark-is span many
-computes = tt

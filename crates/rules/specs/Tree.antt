@@ -7,17 +7,17 @@ use Prim.Native.Nat.{ℕ, suc}
 use Rattle.rules.specs.declared.Span.{Span}
 
 -- the names with fixed numbers
-abbrev pub this : ℕ
-this = 0
+abbrev pub this-name : ℕ
+this-name = 0
 
-abbrev pub super : ℕ
-super = 1
+abbrev pub super-name : ℕ
+super-name = 1
 
-abbrev pub init : ℕ
-init = 2
+abbrev pub init-name : ℕ
+init-name = 2
 
-abbrev pub script : ℕ
-script = 3
+abbrev pub script-name : ℕ
+script-name = 3
 
 pub data OpInfix : Type 0 where
   Add Subtract Multiply Divide Less LessEqual Greater GreaterEqual Equal NotEqual LogicAnd LogicOr : OpInfix
@@ -82,7 +82,3 @@ mutual
     method : Span → Fun → Methods → Methods
 
 infixr 20 _∷ˢ_
--- who unfolds this unfolds the whole file and those that it stands on, and can compute with them
-unfoldable pub computes : Unit {0}
-unfolding count-exprs
-computes = tt

@@ -137,8 +137,3 @@ name-bytes text = 0x4E ∷ 0x4D ∷ le 2 (length text) ++ text
 
 unfoldable pub encode : (names : List (List ℕ)) → Stmts → List ℕ
 encode names stmts = 0x54 ∷ 0x52 ∷ le 2 (length names) ++ le 2 (count-stmts stmts) ++ join name-bytes names ++ stmts-bytes stmts
-
--- who unfolds this unfolds the whole file and those that it stands on, and can compute with them
-unfoldable pub computes : Unit {0}
-unfolding tree.computes image.computes byte opening infix-byte prefix-byte bit has has-stmt count-stmts count-methods if-some literal-bytes expr-bytes superclass-bytes stmt-bytes name-bytes encode
-computes = tt

@@ -418,8 +418,3 @@ module _ (tree : List ℕ) where
 
   unfoldable pub read-tree : (depth funs : ℕ) → Read Stmts
   read-tree depth funs = read-file depth funs 0
-
--- who unfolds this unfolds the whole file and those that it stands on, and can compute with them
-unfoldable pub computes : Unit {0}
-unfolding Rattle.rules.specs.Reader.computes Rattle.rules.specs.Tree.computes expr-marks stmt-marks infix-ops prefix-ops literal-kinds flags fixed-names read-exprs read-stmts read-methods maybe maybe-stmt may-open flag name assign-fields call-fields get-fields infix-fields literal-of literal-fields prefix-fields set-fields super-fields var-fields expr-fields expr-mark expr-record read-expr read-superclass block-fields class-fields expression-fields fun-fields if-fields for-fields print-fields return-fields var-stmt-fields while-fields stmt-fields stmt-mark stmt-record method-record read-stmt rises differs read-name read-names read-file read-tree
-computes = tt

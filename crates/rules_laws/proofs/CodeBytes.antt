@@ -20,6 +20,7 @@ use Rattle.rules_laws.proofs.Keeps.{After}
 use Rattle.rules_laws.proofs.Layer as layer
 use Rattle.rules_laws.proofs.Coded.{write-constants}
 use Rattle.rules_laws.proofs.Facts.{Fact, All, all-map, all-end, ChunkLaws, Form, plain, byte, captured-at, value-at, text-at, invoke, Still, Grown, as-before, one-more, Is-value, write-all, with-constants, with-ops, jump-bytes, loop-bytes, Bytes}
+use Rattle.rules.proofs.Computes as computes
 
 -- what a table has is under one of its numbers
 key-small : {A : Type 0} (rows : List (ℕ × A)) (n : ℕ) (x : A) → T (all (λ (row : ℕ × A). ltb (row .0) 256) rows) → lookup n rows ≡ some x → n < 256
@@ -35,7 +36,7 @@ key-small {A} (row ∷ rows) n x t e = by-test (ltb (row .0) 256) refl (eqb n (r
     by-test true e₁ false e₂ t e ih = ih t e
 
 opcode-small : (b : ℕ) (kind : Operands) → operands-of b ≡ some kind → b < 256
-unfolding op.computes
+unfolding computes.op
 opcode-small b kind e = key-small op.operands b kind tt e
 
 at-inside : {A : Type 0} (xs : List A) (i : ℕ) (x : A) → getElem? xs i ≡ some x → i < length xs
@@ -98,7 +99,7 @@ abbrev P : ℕ → Unit {0} → Fact
 P limit k opened fs n ch = Sound limit n ch
 
 laws : (limit : ℕ) → ChunkLaws limit (Unit {0}) (P limit) tt (λ _ k. k) (λ _ k. k)
-unfolding op.computes
+unfolding computes.op
 laws limit =
     record {
       empty = λ fs. record { bytes = tt; room = omega arith; few = omega arith; count = omega arith };

@@ -21,6 +21,7 @@ use Rattle.rules_laws.proofs.Layer as layer
 use Rattle.rules_laws.proofs.Tests.{both, left, right}
 use Rattle.rules_laws.proofs.Facts.{Fact, All, all-map, at-left, ChunkLaws, Form, plain, byte, captured-at, value-at, text-at, invoke, ahead, back, closure, Still, Grown, as-before, one-more, write-all, with-constants, jump-bytes, loop-bytes, Is-value, a-number, a-string, all-end, all-at, at-end}
 use Rattle.rules_laws.proofs.Pieces.{Piece, code, Border, end, under, Waiting, here, below, patch, code-patch, border-patch, Good, Fine, emitted, patched, first, waits, good-more, good-wait, among-swap, waiting-patch, border-le}
+use Rattle.rules.proofs.Computes as computes
 
 -- ## What an operand names stays where more is put behind
 
@@ -273,7 +274,7 @@ module _ (h : Known) (fs : List ObjectFunction) (cs : List Constant) (n : ℕ) (
 
   -- a loop goes back to a border
   back-loop : (at : ℕ) → Closed (backs-at at h) fs cs n ops → Closed h fs cs n (ops ++ loop-bytes (length ops) at)
-  unfolding op.computes naming
+  unfolding computes.op naming
   back-loop at y =
       let x : Code (backs-at at h) fs cs n ops = y .coding in
       let m : ℕ = length ops + 3 - at in
@@ -344,7 +345,7 @@ writes kind st k fs n ops cs ds b bs e g f y =
 closes : (k : Known) (fs gs : List ObjectFunction) (f : ObjectFunction) (n : ℕ) (ops : List ℕ) (cs ds : List Constant) (place : ℕ) (ps : List ℕ) →
     Grown (λ v. v ≡ CF (length (fs ++ gs))) cs ds → getElem? ds place ≡ some (CF (length (fs ++ gs))) → length ps ≡ 2 * f .upvalue-count → T (pairs-fit n ps) →
     Closed k fs cs n ops → Closed k ((fs ++ gs) ++ (f ∷ [])) ds n (ops ++ (op.CLOSURE ∷ place ∷ ps))
-unfolding op.computes widen naming
+unfolding computes.op widen naming
 closes k fs gs f n ops cs ds place ps as-before e s t y =
     absurd (omega (arith, length-append fs gs, all-at (Earlier (length fs)) cs place (CF (length (fs ++ gs))) (y .earlier) e))
 closes k fs gs f n ops cs ds place ps (one-more v q p l) e s t y =

@@ -51,7 +51,7 @@ module _ (fs : List ObjectFunction) (cs : List Constant) (n : ℕ) where
 
   one : (at : ℕ) (p : Piece) (h : Formed fs cs n p) (rest : List ℕ) →
       d.instruction (d.kind-at fs cs) at (p .opcode) (p .operands ++ rest) ≡ some (instruction-of at (h .kind) p)
-  unfolding d.instruction d.known d.sized instruction-of
+  unfolding d.instruction d.with-operands d.sized instruction-of
   one at p h rest = rw (h .known, size (h .form) rest, take-left (p .operands) rest)
 
   skip : (at : ℕ) (bs rest : List ℕ) → d.divide (d.kind-at fs cs) at (length bs) (bs ++ rest) ≡ d.divide (d.kind-at fs cs) (at + length bs) 0 rest

@@ -16,7 +16,7 @@ use Rattle.rules.specs.Answer.{NO-SPAN}
 use Rattle.rules.specs.Op as op
 use Rattle.rules.specs.Chunk.{Written, at-place, no-room, Constant, CF, write-u8, write-constant}
 use Rattle.rules.specs.Compiler as c
-use Rattle.rules.specs.Compiler.{Compiler, CompilerCtx, Compile, Outcome, ok, err, FunctionType, Function, Initializer, Method, Script, Upvalue, declared, open-code}
+use Rattle.rules.specs.Compiler.{Compiler, CompilerCtx, Compile, Outcome, ok, err, FunctionType, Function, Initializer, Method, Script, Upvalue, declared-here, open-code}
 use Rattle.rules.specs.Compiler.{with-ctx, with-chunk}
 use Rattle.rules.proofs.Slips.{near-ahead, too-far-ahead, near-back, too-far-back, with-operand, too-many-params, enough-params, too-many-locals, enough-locals, already-declared}
 use Rattle.rules_laws.proofs.Facts.{with-ops, write-all, loop-bytes}
@@ -248,19 +248,19 @@ too-many-params-exactly limit type name params body span own s =
 module _ (name : ℕ) (span : Span) (s : Compiler) where
   -- exactly when 256 stand already and the scope has none of that name; the 256th is declared: Slips `enough-locals`
   pub too-many-locals-exactly : (c.declare-local name span s ≡ err (TooManyLocals span)) ↔
-      ((declared (s .ctx .scope-depth) name (s .ctx .locals) ≡ false) × (256 ≤ length (s .ctx .locals)))
+      ((declared-here (s .ctx .scope-depth) name (s .ctx .locals) ≡ false) × (256 ≤ length (s .ctx .locals)))
   too-many-locals-exactly =
-      (λ e. by-name (declared (s .ctx .scope-depth) name (s .ctx .locals)) refl e, λ p. too-many-locals name span s (p .0) (p .1))
+      (λ e. by-name (declared-here (s .ctx .scope-depth) name (s .ctx .locals)) refl e, λ p. too-many-locals name span s (p .0) (p .1))
     where
-      by-count : declared (s .ctx .scope-depth) name (s .ctx .locals) ≡ false → (b : Bool) → ltb (length (s .ctx .locals)) 256 ≡ b →
+      by-count : declared-here (s .ctx .scope-depth) name (s .ctx .locals) ≡ false → (b : Bool) → ltb (length (s .ctx .locals)) 256 ≡ b →
           c.declare-local name span s ≡ err (TooManyLocals span) → 256 ≤ length (s .ctx .locals)
       by-count d true t e =
           let o = enough-locals name span s d (ltb→lt (length (s .ctx .locals)) 256 (rw t tt)) in
           let z : _≡_ {A = ℕ} 0 1 = cc in absurd (omega arith)
       by-count d false t e = nltb→le (length (s .ctx .locals)) 256 (rw t tt)
 
-      by-name : (b : Bool) → declared (s .ctx .scope-depth) name (s .ctx .locals) ≡ b → c.declare-local name span s ≡ err (TooManyLocals span) →
-          (declared (s .ctx .scope-depth) name (s .ctx .locals) ≡ false) × (256 ≤ length (s .ctx .locals))
+      by-name : (b : Bool) → declared-here (s .ctx .scope-depth) name (s .ctx .locals) ≡ b → c.declare-local name span s ≡ err (TooManyLocals span) →
+          (declared-here (s .ctx .scope-depth) name (s .ctx .locals) ≡ false) × (256 ≤ length (s .ctx .locals))
       by-name true d e =
           let o = already-declared name span s d in
           let z : _≡_ {A = ℕ} 0 1 = cc in absurd (omega arith)

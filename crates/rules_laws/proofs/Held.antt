@@ -15,7 +15,7 @@ use Rattle.rules.specs.declared.Refusal.{Refusal}
 use Rattle.rules.specs.declared.Refusal.the-variants.{TooManyUpvalues}
 use Rattle.rules.specs.Chunk.{ObjectFunction}
 use Rattle.rules.specs.Compiler as c
-use Rattle.rules.specs.Compiler.{Compiler, CompilerCtx, Compile, go-on, Found, at-slot, uninitialized, missing, Resolved, captured, nowhere, failed, Upvalue, Local, FunctionType}
+use Rattle.rules.specs.Compiler.{Compiler, CompilerCtx, Compile, go-on, Found, at-slot, uninitialized, no-local, Resolved, captured, nowhere, failed, Upvalue, Local, FunctionType}
 use Rattle.rules_laws.proofs.Facts.{with-ops}
 use Rattle.rules_laws.proofs.Refusals.{Rusts}
 use Rattle.rules_laws.proofs.Spends as spends
@@ -91,15 +91,15 @@ module _ (held : CompilerCtx → ℕ) (pair : ℕ) where
 
     through : (f : Found) (outer : Resolved) (name : ℕ) (span : Span) (ctx parent : CompilerCtx) (above : List CompilerCtx) →
         Raised-if parent above outer → Raised-if ctx (parent ∷ above) (c.through f outer name span ctx parent above)
-    unfolding c.through c.add-upvalue
+    unfolding c.through c.further-out c.add-upvalue
     through (at-slot slot) outer name span ctx parent above o =
         added _ (record { idx = slot; is-local = true }) span ctx parent above (c.with-locals parent (c.capture name (parent .locals)) ∷ above) refl
         (omega (arith, measure .marks parent name))
     through uninitialized outer name span ctx parent above o = tt
-    through missing (captured idx q qs) name span ctx parent above o =
+    through no-local (captured idx q qs) name span ctx parent above o =
         added _ (record { idx = idx; is-local = false }) span ctx parent above (q ∷ qs) (ap suc (o .levels)) (o .holds)
-    through missing nowhere name span ctx parent above o = tt
-    through missing (failed r) name span ctx parent above o = o
+    through no-local nowhere name span ctx parent above o = tt
+    through no-local (failed r) name span ctx parent above o = o
 
     resolve-upvalue : (name : ℕ) (span : Span) (ctx : CompilerCtx) (parents : List CompilerCtx) →
         Raised-if ctx parents (c.resolve-upvalue name span ctx parents)
@@ -209,13 +209,13 @@ module _ (total : CompilerCtx → List CompilerCtx → ℕ) (finished : List Obj
   unfolding c.resolved c._>>_ go-on c.put-ctxs c.return c.refuse
   resolved (at-slot slot) outer name span s k i o = record { levels = i .levels; spent = omega (arith, i .spent) }
   resolved uninitialized outer name span s k i o = rusts _ tt
-  resolved missing (captured idx ctx parents) name span s k i o =
+  resolved no-local (captured idx ctx parents) name span s k i o =
       record {
         levels = omega (arith, i .levels, o .levels);
         spent = omega (arith, i .spent, o .holds);
       }
-  resolved missing nowhere name span s k i o = record { levels = i .levels; spent = omega (arith, i .spent) }
-  resolved missing (failed r) name span s k i o = rusts r o
+  resolved no-local nowhere name span s k i o = record { levels = i .levels; spent = omega (arith, i .spent) }
+  resolved no-local (failed r) name span s k i o = rusts r o
 
   pub resolve : {g : ℕ} (name : ℕ) (span : Span) → Does g g cost (c.resolve name span)
   unfolding c.resolve c._>>=_ go-on c.get

@@ -462,8 +462,8 @@ module _ (limit most top : ℕ) (nested : most ≤ 16) where
   laws =
       record {
         no-span = record { start = omega arith; end = omega arith };
-        this-name = omega arith;
-        super-name = omega arith;
+        this-named = omega arith;
+        super-named = omega arith;
         _>>=_ = λ hm hf. hm >>= hf;
         _>>_ = λ hm hp. hm >> hp;
         enough = λ hm b b′. spends.enough J Any top (more (summed held) weigh-all most) hm b′;

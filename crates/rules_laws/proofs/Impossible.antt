@@ -16,7 +16,7 @@ use Rattle.rules.specs.declared.Refusal.the-variants.{TooManyUpvalues}
 use Rattle.rules.specs.Tree.{Expr, Stmts, Superclass, StmtClass, fun, Methods}
 use Rattle.rules.specs.Chunk.{Chunk, Constant, CF, Written, at-place, no-room, write-u8, write-constant, written, same-constant}
 use Rattle.rules.specs.Compiler as c
-use Rattle.rules.specs.Compiler.{Compiler, CompilerCtx, Compile, Outcome, ok, err, go-on, Found, at-slot, uninitialized, missing, Resolved, captured, nowhere, failed, Upvalue, Local, FunctionType}
+use Rattle.rules.specs.Compiler.{Compiler, CompilerCtx, Compile, Outcome, ok, err, go-on, Found, at-slot, uninitialized, no-local, Resolved, captured, nowhere, failed, Upvalue, Local, FunctionType}
 use Rattle.rules_laws.proofs.Keeps as keeps
 use Rattle.rules_laws.proofs.Keeps.{After, Triple, _>>=_, _>>_, the, need, refuse, return, so, given, either, skip, ExprLaws, Laws}
 use Rattle.rules_laws.proofs.Facts.{All, stopped, slot-inside, capture-length, initialize-length}
@@ -131,7 +131,7 @@ add-upvalue u span ctx ps qs o = added u span ctx ps qs o _ refl
 
 through : (f : Found) (outer : Resolved) (name : ℕ) (span : Span) (ctx parent : CompilerCtx) (above : List CompilerCtx) →
     Kept-if parent above outer → Kept-if ctx (parent ∷ above) (c.through f outer name span ctx parent above)
-unfolding c.through
+unfolding c.through c.further-out
 through (at-slot slot) outer name span ctx parent above o =
     add-upvalue _ span ctx (parent ∷ above) (c.with-locals parent (c.capture name (parent .locals)) ∷ above) (marked, sames above)
   where
@@ -147,9 +147,9 @@ through (at-slot slot) outer name span ctx parent above o =
               };
         }
 through uninitialized outer name span ctx parent above o = tt
-through missing (captured idx p ps) name span ctx parent above o = add-upvalue _ span ctx (parent ∷ above) (p ∷ ps) (o .inner, o .outer)
-through missing nowhere name span ctx parent above o = tt
-through missing (failed r) name span ctx parent above o = tt
+through no-local (captured idx p ps) name span ctx parent above o = add-upvalue _ span ctx (parent ∷ above) (p ∷ ps) (o .inner, o .outer)
+through no-local nowhere name span ctx parent above o = tt
+through no-local (failed r) name span ctx parent above o = tt
 
 resolve-upvalue : (name : ℕ) (span : Span) (ctx : CompilerCtx) (parents : List CompilerCtx) → Kept-if ctx parents (c.resolve-upvalue name span ctx parents)
 unfolding c.resolve-upvalue
@@ -260,9 +260,9 @@ module _ (G : Type 0) (I : G → Compiler → Type 0) (moves : Moves G I) (limit
   unfolding c.resolved c._>>_ go-on c.put-ctxs c.return c.refuse
   resolved (at-slot slot) r name span g s i k = i
   resolved uninitialized r name span g s i k = tt
-  resolved missing (captured idx ctx parents) name span g s i k = moves g s ctx parents (k .inner) (k .outer) i
-  resolved missing nowhere name span g s i k = i
-  resolved missing (failed r) name span g s i k = tt
+  resolved no-local (captured idx ctx parents) name span g s i k = moves g s ctx parents (k .inner) (k .outer) i
+  resolved no-local nowhere name span g s i k = i
+  resolved no-local (failed r) name span g s i k = tt
 
   resolve : (name : ℕ) (span : Span) (g : G) → Triple (I g) (c.resolve name span) (λ _. I g)
   unfolding c.resolve c._>>=_ go-on c.get

@@ -11,7 +11,6 @@ use Rattle.rules.specs.Base.{if_then_else_}
 use Rattle.rules.specs.declared.Span.{Span}
 use Rattle.rules.specs.declared.Refusal.{Refusal}
 use Rattle.rules.specs.Answer.{NO-SPAN}
-use Rattle.rules.specs.Tree.{init}
 use Rattle.rules.specs.Tree.{Expr, Exprs, ExprAssign, ExprCall, ExprGet, ExprInfix, Literal, ExprPrefix, ExprSet, ExprSuper, ExprVar, []ᵉ, _∷ᵉ_, count-exprs}
 use Rattle.rules.specs.Tree.{OpInfix, Add, Subtract, Multiply, Divide, Less, LessEqual, Greater, GreaterEqual, Equal, NotEqual, LogicAnd, LogicOr}
 use Rattle.rules.specs.Tree.{OpPrefix, Negate, Not, ExprLiteral, LitBool, LitNil, LitNumber, LitString, Superclass}
@@ -22,6 +21,7 @@ use Rattle.rules.specs.Op.{operands-of, Plain, Byte, Text, Invoke, Ahead}
 use Rattle.rules.specs.Chunk.{CN, CS}
 use Rattle.rules.specs.Compiler as c
 use Rattle.rules.specs.Compiler.{Compiler, Compile, Outcome, ok, err, go-on, FunctionType, Script, Function, Method, Initializer}
+use Rattle.rules.proofs.Computes as computes
 
 abbrev pub After : {A : Type 0} → (A → Compiler → Type 0) → Outcome A → Type 0
 After Q (ok a s) = Q a s
@@ -146,12 +146,12 @@ module _ (G : Type 0) (I : G → Compiler → Type 0) (limit : ℕ) where
     open ExprLaws l using (emit-op, emit-op-u8, emit-number, emit-string, emit-text, emit-invoke, get-variable, set-variable, emit-jump, patch-jump, swap-waits)
 
     prefix-plain : (o : OpPrefix) → operands-of (c.prefix-op o) ≡ some Plain
-    unfolding c.prefix-op op.computes
+    unfolding c.prefix-op computes.op
     prefix-plain Negate = refl
     prefix-plain Not = refl
 
     compile-literal : (k : ExprLiteral) (span : Span) → Keeps (c.compile-literal limit k span)
-    unfolding c.compile-literal op.computes
+    unfolding c.compile-literal computes.op
     compile-literal (LitBool true) span g = emit-op _ _ refl g
     compile-literal (LitBool false) span g = emit-op _ _ refl g
     compile-literal LitNil span g = emit-op _ _ refl g
@@ -159,7 +159,7 @@ module _ (G : Type 0) (I : G → Compiler → Type 0) (limit : ℕ) where
     compile-literal (LitString name) span g = emit-string _ _ g
 
     compile-infix : (o : OpInfix) (rt : Compile Unit) (span : Span) → Keeps rt → Keeps (c.compile-infix limit o rt span)
-    unfolding c.compile-infix op.computes
+    unfolding c.compile-infix computes.op
     compile-infix Add rt span h g = h g >> emit-op _ _ refl g
     compile-infix Subtract rt span h g = h g >> emit-op _ _ refl g
     compile-infix Multiply rt span h g = h g >> emit-op _ _ refl g
@@ -195,7 +195,7 @@ module _ (G : Type 0) (I : G → Compiler → Type 0) (limit : ℕ) where
       innermost-has-super classes _ g
 
     compile-super : (name : ℕ) (span : Span) → Keeps (c.compile-super limit name span)
-    unfolding c.compile-super op.computes
+    unfolding c.compile-super computes.op
     compile-super name span g = do
       need-super _ g
       get-variable _ _ g
@@ -203,14 +203,14 @@ module _ (G : Type 0) (I : G → Compiler → Type 0) (limit : ℕ) where
       emit-text _ _ _ refl g
 
     call-method : (object args : Compile Unit) (name count : ℕ) (span : Span) → count < 256 → Keeps object → Keeps args → Keeps (c.call-method limit object args name count span)
-    unfolding c.call-method op.computes
+    unfolding c.call-method computes.op
     call-method object args name count span l ho ha g = do
       ho g
       ha g
       emit-invoke _ _ _ _ refl l g
 
     call-super : (args : Compile Unit) (name count : ℕ) (span : Span) → count < 256 → Keeps args → Keeps (c.call-super limit args name count span)
-    unfolding c.call-super op.computes
+    unfolding c.call-super computes.op
     call-super args name count span l ha g = do
       need-super _ g
       get-variable _ _ g
@@ -219,7 +219,7 @@ module _ (G : Type 0) (I : G → Compiler → Type 0) (limit : ℕ) where
       emit-invoke _ _ _ _ refl l g
 
     call-value : (callee args : Compile Unit) (count : ℕ) (span : Span) → count < 256 → Keeps callee → Keeps args → Keeps (c.call-value limit callee args count span)
-    unfolding c.call-value op.computes
+    unfolding c.call-value computes.op
     call-value callee args count span l hc ha g = do
       hc g
       ha g
@@ -229,7 +229,7 @@ module _ (G : Type 0) (I : G → Compiler → Type 0) (limit : ℕ) where
     below-256 n t = omega (arith, leb→le n 255 t)
 
     mutual
-      unfolding c.compile-expr op.computes
+      unfolding c.compile-expr computes.op
 
       pub compile-expr : (e : Expr) → Keeps (c.compile-expr limit e)
       compile-expr (ExprAssign span name value) g = do
@@ -273,7 +273,7 @@ module _ (G : Type 0) (I : G → Compiler → Type 0) (limit : ℕ) where
         compile-exprs es g
 
     pub compile-value : (v : Option Expr) (span : Span) → Keeps (c.compile-value limit v span)
-    unfolding c.compile-value op.computes
+    unfolding c.compile-value computes.op
     compile-value none span g = emit-op _ _ refl g
     compile-value (some value) span g = compile-expr value g
 
@@ -282,7 +282,7 @@ module _ (G : Type 0) (I : G → Compiler → Type 0) (limit : ℕ) where
     open Laws l using (code-length, emit-loop, declare-local, define-local, begin-scope, end-scope, push-class-ctx, pop-class-ctx, begin-ctx, end-function, swap-backs)
 
     return-value : (t : FunctionType) (v : Option Expr) (span : Span) → Keeps (c.return-value limit t v span)
-    unfolding c.return-value op.computes
+    unfolding c.return-value computes.op
     return-value Script v span g = refuse _
     return-value Initializer (some value) span g = refuse _
     return-value Initializer none span g = emit-op-u8 _ _ _ refl (omega arith) g
@@ -290,7 +290,7 @@ module _ (G : Type 0) (I : G → Compiler → Type 0) (limit : ℕ) where
     return-value Method v span g = compile-value waits (l .exprs) v span g
 
     compile-return : (v : Option Expr) (span : Span) → Keeps (c.compile-return limit v span)
-    unfolding c.compile-return op.computes
+    unfolding c.compile-return computes.op
     compile-return v span g = do
       type ← the _
       return-value type v _ g
@@ -301,7 +301,7 @@ module _ (G : Type 0) (I : G → Compiler → Type 0) (limit : ℕ) where
     is-global g = the _
 
     define-global : (name : ℕ) (span : Span) → Keeps (c.define-global limit name span)
-    unfolding c.define-global op.computes
+    unfolding c.define-global computes.op
     define-global name span g = emit-text _ _ _ refl g
 
     compile-var : (name : ℕ) (v : Option Expr) (span : Span) → Keeps (c.compile-var limit name v span)
@@ -324,7 +324,7 @@ module _ (G : Type 0) (I : G → Compiler → Type 0) (limit : ℕ) where
       either global (define-global _ _ g) (declare-local _ _ g >> define-local g)
 
     pub compile-superclass : (class : ℕ) (sup : Option Superclass) (span : Span) → Keeps (c.compile-superclass limit class sup span)
-    unfolding c.compile-superclass op.computes
+    unfolding c.compile-superclass computes.op
     compile-superclass class none span g = skip
     compile-superclass class (some sup) span g = do
       need _ _
@@ -346,7 +346,7 @@ module _ (G : Type 0) (I : G → Compiler → Type 0) (limit : ℕ) where
     waits-if (some at) g = waits at g
 
     for-cond : (cond : Option Expr) (span : Span) (g : G) → Triple (I g) (c.for-cond limit cond span) (λ j. I (waits-if j g))
-    unfolding c.for-cond waits-if op.computes
+    unfolding c.for-cond waits-if computes.op
     for-cond none span g = gives none
     for-cond (some cond) span g = do
       compile-expr waits (l .exprs) cond g
@@ -355,14 +355,14 @@ module _ (G : Type 0) (I : G → Compiler → Type 0) (limit : ℕ) where
       gives (some j)
 
     for-incr : (incr : Option Expr) (span : Span) → Keeps (c.for-incr limit incr span)
-    unfolding c.for-incr op.computes
+    unfolding c.for-incr computes.op
     for-incr none span g = skip
     for-incr (some incr) span g = do
       compile-expr waits (l .exprs) incr g
       emit-op _ _ refl g
 
     for-end : (j : Option ℕ) (span : Span) (g : G) → Triple (I (waits-if j g)) (c.for-end limit j span) (λ _. I g)
-    unfolding c.for-end waits-if op.computes
+    unfolding c.for-end waits-if computes.op
     for-end none span g = skip
     for-end (some j) span g = do
       patch-jump _ _ g
@@ -402,7 +402,7 @@ module _ (G : Type 0) (I : G → Compiler → Type 0) (limit : ℕ) where
       end-function _ g
 
     mutual
-      unfolding c.compile-stmt op.computes
+      unfolding c.compile-stmt computes.op
 
       pub compile-stmt : (t : Stmt) → Keeps (c.compile-stmt limit t)
       compile-stmt (StmtBlock span stmts) g = do
@@ -480,7 +480,7 @@ module _ (G : Type 0) (I : G → Compiler → Type 0) (limit : ℕ) where
         compile-methods ms g
 
     pub compile-script : (ts : Stmts) → Keeps (c.compile-script limit ts)
-    unfolding c.compile-script op.computes
+    unfolding c.compile-script computes.op
     compile-script ts g = do
       compile-stmts ts g
       emit-op _ _ refl g

@@ -17,11 +17,12 @@ use Rattle.rules.specs.Op as op
 use Rattle.rules.specs.Op.{Operands, Plain, Byte, Captured, Value, Text, Invoke, Ahead, operands-of}
 use Rattle.rules.specs.Chunk.{Chunk, Constant, CS, CF, write-u8, Written, at-place, no-room, write-constant, written, ObjectFunction, same-constant}
 use Rattle.rules.specs.Compiler as c
-use Rattle.rules.specs.Compiler.{Compiler, CompilerCtx, Outcome, ok, err, Found, at-slot, uninitialized, missing, Resolved, captured, nowhere, failed, Upvalue, Local, FunctionType}
+use Rattle.rules.specs.Compiler.{Compiler, CompilerCtx, Outcome, ok, err, Found, at-slot, uninitialized, no-local, Resolved, captured, nowhere, failed, Upvalue, Local, FunctionType}
 use Rattle.rules_laws.proofs.Keeps as keeps
 use Rattle.rules_laws.proofs.Keeps.{After, Triple, _>>=_, _>>_, the, need, refuse, return, gives, given, Laws}
 use Rattle.rules_laws.proofs.Tests.{both}
 use Rattle.rules_laws.proofs.Facts.{All, all-map, all-end, at-end, stopped, same-eq, with-constants, with-ops, write-all, Is-value, grown-map, Wrote, Form, Still, Within, within-more, pairs, length-pairs, pairs-within, pairs-bytes, Small, slot-inside, capture-length, initialize-length, Nested, jump-bytes, loop-bytes, Fact, ChunkLaws, as-before, one-more, a-number, a-string, plain, byte, captured-at, value-at, text-at, invoke, still-plain, still-byte, still-captured, still-value, still-text, still-invoke}
+use Rattle.rules.proofs.Computes as computes
 
 -- ## The state
 
@@ -361,7 +362,7 @@ module _ (K : Type 0) (P : K → Fact) (start : K) (waits backs : ℕ → K → 
 
   emit-closure : (number : ℕ) (us : List Upvalue) (span : Span) (k : K) (hs : List K) →
       Triple (Now (Ended (P k) (P start) number us) hs) (c.emit-closure limit number us span) (λ _. Now (P k) hs)
-  unfolding c.emit-closure op.computes write-u8
+  unfolding c.emit-closure computes.op write-u8
   emit-closure number us span k hs =
       given (so K P start (Ended (P k) (P start) number us)
       (λ opened fs n ch. (place : ℕ) (cs : List Constant) → Wrote (ch .constants) (CF number) place cs →
@@ -447,13 +448,13 @@ module _ (K : Type 0) (P : K → Fact) (start : K) (waits backs : ℕ → K → 
       c.find-local name (parent .locals) ≡ f → (a : Around K P start (h ∷ hs) fs (parent ∷ above)) → Nested (ctx .upvalues) (parent ∷ above) → Small ctx → All Small (parent ∷ above) →
       Kept-if hs (a .0) (parent .upvalues) (parent .chunk) outer →
       Kept-if (h ∷ hs) fs (ctx .upvalues) (ctx .chunk) (c.through f outer name span ctx parent above)
-  unfolding c.through c.add-upvalue
+  unfolding c.through c.further-out c.add-upvalue
   through (at-slot slot) outer name span ctx parent above h hs fs e a n sm sms o =
       added (record { idx = slot; is-local = true }) span ctx (c.with-locals parent (c.capture name (parent .locals))) above (h ∷ hs) fs a n tt
       (omega (arith, slot-inside name (parent .locals) slot e, sms .0 .locals)) sm
       (record { locals = omega (arith, capture-length name (parent .locals), sms .0 .locals); upvalues = sms .0 .upvalues; idxs = sms .0 .idxs }, sms .1) _ refl
   through uninitialized outer name span ctx parent above h hs fs e a n sm sms o = tt
-  through missing (captured idx p ps) name span ctx parent above h hs fs e a n sm sms o =
+  through no-local (captured idx p ps) name span ctx parent above h hs fs e a n sm sms o =
       added (record { idx = idx; is-local = false }) span ctx p ps (h ∷ hs) fs (
         a .0,
         a .1,
@@ -464,8 +465,8 @@ module _ (K : Type 0) (P : K → Fact) (start : K) (waits backs : ℕ → K → 
       )
       (all-map (Within (length (parent .upvalues))) (Within (length (p .upvalues))) (within-more _ _ (o .grew)) (ctx .upvalues) (n .0), o .nested)
       (o .below) (omega (arith, o .below, o .small .upvalues)) sm (o .small, o .smalls) _ refl
-  through missing nowhere name span ctx parent above h hs fs e a n sm sms o = tt
-  through missing (failed r) name span ctx parent above h hs fs e a n sm sms o = tt
+  through no-local nowhere name span ctx parent above h hs fs e a n sm sms o = tt
+  through no-local (failed r) name span ctx parent above h hs fs e a n sm sms o = tt
 
   resolve-upvalue : (name : ℕ) (span : Span) (fs : List ObjectFunction) (ctx : CompilerCtx) (parents : List CompilerCtx) (hs : List K) →
       Around K P start hs fs parents → Nested (ctx .upvalues) parents → Small ctx → All Small parents →
@@ -487,7 +488,7 @@ module _ (K : Type 0) (P : K → Fact) (start : K) (waits backs : ℕ → K → 
       put K P start (P k) (λ opened fs n ch. Placeable n (c.local-at slot) × P k opened fs n ch) hs s i
       (omega (arith, slot-inside name (s .ctx .locals) slot e, i .small .locals), i .open-one)
   resolved k hs name span s i uninitialized e r h = tt
-  resolved k hs name span s i missing e (captured idx ctx parents) h =
+  resolved k hs name span s i no-local e (captured idx ctx parents) h =
       record {
         opened = i .opened;
         since = i .since;
@@ -503,9 +504,9 @@ module _ (K : Type 0) (P : K → Fact) (start : K) (waits backs : ℕ → K → 
         small = h .small;
         smalls = h .smalls;
       }
-  resolved k hs name span s i missing e nowhere h =
+  resolved k hs name span s i no-local e nowhere h =
       put K P start (P k) (λ opened fs n ch. Placeable n c.global-named × P k opened fs n ch) hs s i (tt, i .open-one)
-  resolved k hs name span s i missing e (failed r) h = tt
+  resolved k hs name span s i no-local e (failed r) h = tt
 
   resolve : (name : ℕ) (span : Span) (k : K) (hs : List K) → Triple (Now (P k) hs) (c.resolve name span) (Resolves k hs)
   unfolding c.resolve c._>>=_ c.go-on c.get
@@ -520,7 +521,7 @@ module _ (K : Type 0) (P : K → Fact) (start : K) (waits backs : ℕ → K → 
   text name fs n place cs e = text-at e
 
   get-place : (p : c.Place) (name : ℕ) (span : Span) (k : K) (hs : List K) → Triple (Resolves k hs p) (c.get-place limit p name span) (λ _. Now (P k) hs)
-  unfolding c.get-place op.computes
+  unfolding c.get-place computes.op
   get-place (c.local-at slot) name span k hs =
       given (so K P start _ _ hs (λ opened fs n ch x. (byte (x .0), x .1))) (emit-op-u8 Byte still-byte _ _ _ refl k hs)
   get-place (c.upvalue-at idx) name span k hs =
@@ -529,7 +530,7 @@ module _ (K : Type 0) (P : K → Fact) (start : K) (waits backs : ℕ → K → 
       given (so K P start _ _ hs (λ opened fs n ch x. x .1)) (emit-op-constant Text still-text _ _ _ refl a-string (text name) k hs)
 
   set-place : (p : c.Place) (name : ℕ) (span : Span) (k : K) (hs : List K) → Triple (Resolves k hs p) (c.set-place limit p name span) (λ _. Now (P k) hs)
-  unfolding c.set-place op.computes
+  unfolding c.set-place computes.op
   set-place (c.local-at slot) name span k hs =
       given (so K P start _ _ hs (λ opened fs n ch x. (byte (x .0), x .1))) (emit-op-u8 Byte still-byte _ _ _ refl k hs)
   set-place (c.upvalue-at idx) name span k hs =
@@ -596,7 +597,7 @@ module _ (K : Type 0) (P : K → Fact) (start : K) (waits backs : ℕ → K → 
   begin-scope k hs = update-ctx K P start (P k) (P k) _ hs (λ x. refl) (λ x b. b) (λ opened fs x h. h)
 
   pop-locals : (ls : List Local) → length ls ≤ 256 → (span : Span) (k : K) (hs : List K) → Triple (Now (P k) hs) (c.pop-locals limit ls span) (λ _. Now (P k) hs)
-  unfolding c.pop-locals op.computes
+  unfolding c.pop-locals computes.op
   pop-locals [] m span k hs = keeps.skip
   pop-locals (x ∷ xs) m span k hs = do
     depth ← the _
@@ -709,7 +710,7 @@ module _ (K : Type 0) (P : K → Fact) (start : K) (waits backs : ℕ → K → 
 
   laws : Laws (Open K) I limit (λ at g. record { now = waits at (g .now); around = g .around }) (λ at g. record { now = backs at (g .now); around = g .around })
       (λ g. record { now = start; around = g .now ∷ g .around }) (λ _ g. g)
-  unfolding op.computes
+  unfolding computes.op
   laws =
       record {
         exprs =

@@ -15,7 +15,7 @@ use Rattle.rules.specs.declared.Refusal.the-variants.{CodeFull, TooManyConstant
 use Rattle.rules.specs.Tree.{Stmts}
 use Rattle.rules.specs.Chunk.{Chunk, Constant, CF, Written, at-place, no-room, write-constant, ObjectFunction}
 use Rattle.rules.specs.Compiler as c
-use Rattle.rules.specs.Compiler.{Compiler, CompilerCtx, Compile, Outcome, ok, err, go-on, Found, at-slot, uninitialized, missing, Resolved, captured, nowhere, failed, Upvalue, Local, FunctionType}
+use Rattle.rules.specs.Compiler.{Compiler, CompilerCtx, Compile, Outcome, ok, err, go-on, Found, at-slot, uninitialized, no-local, Resolved, captured, nowhere, failed, Upvalue, Local, FunctionType}
 use Rattle.rules_laws.proofs.Refusals.{Rusts}
 use Rattle.rules_laws.proofs.Steps as steps
 use Rattle.rules_laws.proofs.Steps.{Laws}
@@ -285,9 +285,9 @@ resolved : (f : Found) (outer : Resolved) (name : ℕ) (span : Span) (s : Compil
 unfolding c.resolved c._>>_ go-on c.put-ctxs c.return c.refuse
 resolved (at-slot slot) outer name span s h = same
 resolved uninitialized outer name span s h = tt
-resolved missing (captured idx ctx parents) name span s h = still-eq (ap (λ (ls : List ℕ). (ls, of-finished (s .functions))) (likes-lengths (s .ctx ∷ s .parents) (ctx ∷ parents) h))
-resolved missing nowhere name span s h = same
-resolved missing (failed r) name span s h = h
+resolved no-local (captured idx ctx parents) name span s h = still-eq (ap (λ (ls : List ℕ). (ls, of-finished (s .functions))) (likes-lengths (s .ctx ∷ s .parents) (ctx ∷ parents) h))
+resolved no-local nowhere name span s h = same
+resolved no-local (failed r) name span s h = h
 
 resolve : (name : ℕ) (span : Span) → Counted (λ _. c.resolve name span)
 unfolding c.resolve c._>>=_ go-on c.get
@@ -397,8 +397,8 @@ laws : Laws anything (λ A g h n w m. Counted {A = A} m)
 laws =
     record {
       no-span = tt;
-      this-name = tt;
-      super-name = tt;
+      this-named = tt;
+      super-named = tt;
       _>>=_ = λ hm hf. hm >>= hf;
       _>>_ = λ hm hp. hm >> hp;
       enough = λ hm b b′. hm;

@@ -24,6 +24,7 @@ use Rattle.rules.specs.Answer.{accepted}
 use Rattle.rules.specs.Checker as checker
 use Rattle.rules.specs.Checker.{check, sound, instruction-count}
 use Rattle.rules_laws.proofs.Facts.{All, all-map, Bytes}
+use Rattle.rules.proofs.Computes as computes
 
 -- ## What fits
 
@@ -232,7 +233,7 @@ module _ (bytes : List ℕ) where
   -- ## Records
 
   constant : (v : Constant) → Fits-constant v → (xs : List ℕ) → Reads (file.read-constant bytes) (image.constant-bytes v ++ xs) xs v
-  unfolding file.read-constant image.constant-bytes file.constant-fields file.constant-marks r.one-of r.known r.computes
+  unfolding file.read-constant image.constant-bytes file.constant-fields file.constant-marks r.one-of r.known computes.reader
   constant (CN bits) l xs =
       first _ (first _ (mark ImageRefused 0x43 0x4E (le 8 bits ++ xs)) (return file.number-mark))
       (first _ (u64 ImageRefused bits xs (omega arith)) (need (leb bits max-bits) ImageRefused (le→leb bits max-bits l) ⟫ return (CN bits)))

@@ -15,7 +15,7 @@ use Rattle.rules.specs.Tree.{Stmts}
 use Rattle.rules.specs.Op as op
 use Rattle.rules.specs.Chunk.{Chunk, Constant, write-u8, Written, at-place, no-room, write-constant, written, same-constant, ObjectFunction}
 use Rattle.rules.specs.Compiler as c
-use Rattle.rules.specs.Compiler.{Compiler, CompilerCtx, Compile, Outcome, ok, err, go-on, Found, at-slot, uninitialized, missing, Resolved, captured, nowhere, failed, Upvalue, Local}
+use Rattle.rules.specs.Compiler.{Compiler, CompilerCtx, Compile, Outcome, ok, err, go-on, Found, at-slot, uninitialized, no-local, Resolved, captured, nowhere, failed, Upvalue, Local}
 use Rattle.rules_laws.proofs.Facts.{capture-length, initialize-length}
 use Rattle.rules_laws.proofs.Trees.{Of-stmts, stmts-size}
 use Rattle.rules_laws.proofs.Refusals.{Rusts}
@@ -164,15 +164,15 @@ added none u span ctx parent above parents h = by-room (ltb (length (ctx .upvalu
 
 through : (f : Found) (outer : Resolved) (name : ℕ) (span : Span) (ctx parent : CompilerCtx) (above : List CompilerCtx) →
     Raised-if parent above outer → Raised-if ctx (parent ∷ above) (c.through f outer name span ctx parent above)
-unfolding c.through c.add-upvalue
+unfolding c.through c.further-out c.add-upvalue
 through (at-slot slot) outer name span ctx parent above o =
     added _ (record { idx = slot; is-local = true }) span ctx parent above (c.with-locals parent (c.capture name (parent .locals)) ∷ above)
     (record { ops = refl; locals = capture-length name (parent .locals); pairs = omega arith }, likes-self above)
 through uninitialized outer name span ctx parent above o = tt
-through missing (captured idx q qs) name span ctx parent above o =
+through no-local (captured idx q qs) name span ctx parent above o =
     added _ (record { idx = idx; is-local = false }) span ctx parent above (q ∷ qs) o
-through missing nowhere name span ctx parent above o = tt
-through missing (failed r) name span ctx parent above o = o
+through no-local nowhere name span ctx parent above o = tt
+through no-local (failed r) name span ctx parent above o = o
 
 pub resolve-upvalue : (name : ℕ) (span : Span) (ctx : CompilerCtx) (parents : List CompilerCtx) →
     Raised-if ctx parents (c.resolve-upvalue name span ctx parents)
@@ -489,8 +489,8 @@ module _ (limit most top : ℕ) (room : top ≤ limit) where
   laws =
       record {
         no-span = record { start = omega arith; end = omega arith };
-        this-name = omega arith;
-        super-name = omega arith;
+        this-named = omega arith;
+        super-named = omega arith;
         _>>=_ = λ hm hf. hm >>= hf;
         _>>_ = λ hm hp. hm >> hp;
         enough = λ hm b b′. spends.enough J Rusts top (more reached gone most) hm b;

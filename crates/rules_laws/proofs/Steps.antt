@@ -13,7 +13,7 @@ use Rattle.rules.specs.Base.{if_then_else_}
 use Rattle.rules.specs.declared.Span.{Span}
 use Rattle.rules.specs.declared.Refusal.{Refusal}
 use Rattle.rules.specs.Answer.{NO-SPAN}
-use Rattle.rules.specs.Tree.{this, super}
+use Rattle.rules.specs.Tree.{this-name, super-name}
 use Rattle.rules.specs.Tree.{Expr, Exprs, ExprAssign, ExprCall, ExprGet, ExprInfix, Literal, ExprPrefix, ExprSet, ExprSuper, ExprVar, []ᵉ, _∷ᵉ_}
 use Rattle.rules.specs.Tree.{OpInfix, Add, Subtract, Multiply, Divide, Less, LessEqual, Greater, GreaterEqual, Equal, NotEqual, LogicAnd, LogicOr}
 use Rattle.rules.specs.Tree.{ExprLiteral, LitBool, LitNil, LitNumber, LitString, Superclass}
@@ -37,8 +37,8 @@ module _ (l : Leaf) (R : (A : Type 0) → (from to : l .level) → (code image :
   pub record Laws : Type 1 where
     -- spans and names that the compiler brings itself
     pub no-span : l .span NO-SPAN
-    pub this-name : l .name this
-    pub super-name : l .name super
+    pub this-named : l .name this-name
+    pub super-named : l .name super-name
     -- steps put together
     pub _>>=_ : {A B : Type 0} {g h i : l .level} {n k w v : ℕ} {m : ℕ → Compile A} {f : ℕ → A → Compile B} →
         R _ g h n w m → ((a : A) → R _ h i k v (λ limit. f limit a)) → R _ g i (n + k) (w + v) (λ limit. c._>>=_ (m limit) (f limit))
@@ -74,8 +74,8 @@ module _ (l : Leaf) (R : (A : Type 0) → (from to : l .level) → (code image :
     infixl 10 _>>_
     open Laws laws using (
       no-span,
-      this-name,
-      super-name,
+      this-named,
+      super-named,
       _>>=_,
       _>>_,
       enough,
@@ -253,8 +253,8 @@ module _ (l : Leaf) (R : (A : Type 0) → (from to : l .level) → (code image :
     unfolding c.compile-super
     compile-super name span n s = do
       need-super _
-      get-variable _ _ this-name s
-      get-variable _ _ super-name s
+      get-variable _ _ this-named s
+      get-variable _ _ super-named s
       emit-op-constant _ (CS name) _ n s
 
     call-method : {g : l .level} {n k w v : ℕ} {object args : ℕ → Compile (Unit {0})} (name count : ℕ) (span : Span) →
@@ -277,9 +277,9 @@ module _ (l : Leaf) (R : (A : Type 0) → (from to : l .level) → (code image :
         enough
         (do
           need-super _
-          get-variable _ _ this-name s
+          get-variable _ _ this-named s
           ha
-          get-variable _ _ super-name s
+          get-variable _ _ super-named s
           emit-invoke _ name _ _ n s)
         (omega arith) (omega arith)
 

@@ -16,7 +16,7 @@ use Rattle.rules.specs.declared.Refusal.the-variants.{TooManyUpvalues}
 use Rattle.rules.specs.Tree.{Stmts}
 use Rattle.rules.specs.Chunk.{Chunk, Constant, CN, CS, CF, Run, push-span, same-span, write-u8, Written, at-place, no-room, write-constant, written, same-constant, ObjectFunction}
 use Rattle.rules.specs.Compiler as c
-use Rattle.rules.specs.Compiler.{Compiler, CompilerCtx, Compile, Outcome, ok, err, go-on, Found, at-slot, uninitialized, missing, Resolved, captured, nowhere, failed, Upvalue, Local, FunctionType}
+use Rattle.rules.specs.Compiler.{Compiler, CompilerCtx, Compile, Outcome, ok, err, go-on, Found, at-slot, uninitialized, no-local, Resolved, captured, nowhere, failed, Upvalue, Local, FunctionType}
 use Rattle.rules_laws.proofs.Keeps.{After}
 use Rattle.rules_laws.proofs.Facts.{All, all-end}
 use Rattle.rules_laws.proofs.ReadBack.{Narrow}
@@ -194,13 +194,13 @@ module _ (limit top : ℕ) where
   through : (f : Found) (outer : Resolved) (name : ℕ) (span : Span) (ctx parent : CompilerCtx) (above : List CompilerCtx) → Wide-ctx ctx →
       Wide-ctx parent → All Wide-ctx above → Wide-if outer →
       Wide-if (c.through f outer name span ctx parent above)
-  unfolding c.through c.add-upvalue
+  unfolding c.through c.further-out c.add-upvalue
   through (at-slot slot) outer name span ctx parent above h p ps o =
       added _ (record { idx = slot; is-local = true }) span ctx (c.with-locals parent (c.capture name (parent .locals)) ∷ above) h (p, ps)
   through uninitialized outer name span ctx parent above h p ps o = tt
-  through missing (captured idx q qs) name span ctx parent above h p ps o = added _ (record { idx = idx; is-local = false }) span ctx (q ∷ qs) h o
-  through missing nowhere name span ctx parent above h p ps o = tt
-  through missing (failed r) name span ctx parent above h p ps o = o
+  through no-local (captured idx q qs) name span ctx parent above h p ps o = added _ (record { idx = idx; is-local = false }) span ctx (q ∷ qs) h o
+  through no-local nowhere name span ctx parent above h p ps o = tt
+  through no-local (failed r) name span ctx parent above h p ps o = o
 
   resolve-upvalue : (name : ℕ) (span : Span) (ctx : CompilerCtx) (parents : List CompilerCtx) → Wide-ctx ctx → All Wide-ctx parents →
       Wide-if (c.resolve-upvalue name span ctx parents)
@@ -215,9 +215,9 @@ module _ (limit top : ℕ) where
   unfolding c.resolved c._>>_ go-on c.put-ctxs c.return c.refuse
   resolved (at-slot slot) outer name span s k i o = i
   resolved uninitialized outer name span s k i o = tt
-  resolved missing (captured idx ctx parents) name span s k i o = record { ctx = o .0; parents = o .1; functions = i .functions; count = i .count }
-  resolved missing nowhere name span s k i o = i
-  resolved missing (failed r) name span s k i o = o
+  resolved no-local (captured idx ctx parents) name span s k i o = record { ctx = o .0; parents = o .1; functions = i .functions; count = i .count }
+  resolved no-local nowhere name span s k i o = i
+  resolved no-local (failed r) name span s k i o = o
 
   resolve : {g : ℕ} (name : ℕ) (span : Span) → Does g g 0 (c.resolve name span)
   unfolding c.resolve c._>>=_ go-on c.get
@@ -294,8 +294,8 @@ module _ (limit top : ℕ) where
   laws most =
       record {
         no-span = record { start = omega arith; end = omega arith };
-        this-name = omega arith;
-        super-name = omega arith;
+        this-named = omega arith;
+        super-named = omega arith;
         _>>=_ = λ hm hf. hm >>= hf;
         _>>_ = λ hm hp. hm >> hp;
         enough = λ hm b b′. spends.enough Fit Compilers top more hm b;

@@ -9,7 +9,7 @@ use lib.Dec.{ltb}
 use Rattle.rules.specs.declared.Span.{Span}
 use Rattle.rules.specs.declared.Refusal.the-variants.{AccessInsideInitializer, TooManyUpvalues}
 use Rattle.rules.specs.Chunk.{Chunk, Run, same-span, write-u8, write-constant, Written, at-place, no-room}
-use Rattle.rules.specs.Compiler.{Local, Upvalue, CompilerCtx, new-ctx, Found, at-slot, uninitialized, missing, find-local, capture, Resolved, captured, nowhere, failed, add-upvalue, resolve-upvalue, declared, initialize}
+use Rattle.rules.specs.Compiler.{Local, Upvalue, CompilerCtx, new-ctx, Found, at-slot, uninitialized, no-local, find-local, capture, Resolved, captured, nowhere, failed, add-upvalue, resolve-upvalue, declared-here, initialize}
 use Rattle.state.specs.Layout.{levels, code-end-at, image-at, codeFrom, localsOf, constantOf, runsFrom, codeEnd, runsEnd, runAt, chunkAt, ctxAt, parentsOf, type-of, Wf, Coded, upvalues-place, upvalue-count-place, constants-place, constant-count-place, depth-place, code-from-place, level-words, local-count-place}
 use Rattle.state.specs.declared.Slot.{Slot}
 use Rattle.state.specs.declared.Slot.the-variants as slot
@@ -49,7 +49,7 @@ pub record First (t : List ℕ) (base n w r : ℕ) : Type 0 where
 
 abbrev pub found : Slot → Found
 found (slot.At i) = at-slot i
-found slot.Nothing = missing
+found slot.Nothing = no-local
 found slot.Unready = uninitialized
 
 -- what resolving leaves of the locals: a mark, where one was asked for and a local is found
@@ -130,10 +130,10 @@ pub record Constants (t t′ : List ℕ) (l w : ℕ) (r : Constanted) : Type 0 w
 -- ## Locals
 
 abbrev pub DeclaredAs : (t t′ : List ℕ) → (l nm : ℕ) → Declared → Type 0
-DeclaredAs t t′ l nm decl.Already = declared (getD t (l * level-words + depth-place) 0) nm (localsOf t l) ≡ true
-DeclaredAs t t′ l nm decl.Full = (declared (getD t (l * level-words + depth-place) 0) nm (localsOf t l) ≡ false) × (256 ≤ length (localsOf t l))
+DeclaredAs t t′ l nm decl.Already = declared-here (getD t (l * level-words + depth-place) 0) nm (localsOf t l) ≡ true
+DeclaredAs t t′ l nm decl.Full = (declared-here (getD t (l * level-words + depth-place) 0) nm (localsOf t l) ≡ false) × (256 ≤ length (localsOf t l))
 DeclaredAs t t′ l nm decl.Done =
-    (declared (getD t (l * level-words + depth-place) 0) nm (localsOf t l) ≡ false)
+    (declared-here (getD t (l * level-words + depth-place) 0) nm (localsOf t l) ≡ false)
     × (length (localsOf t l) < 256)
     × (localsOf t′ l ≡ record { name = nm; depth = getD t (l * level-words + depth-place) 0; is-initialized = false; is-captured = false } ∷ localsOf t l)
 

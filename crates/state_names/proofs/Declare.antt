@@ -10,7 +10,7 @@ use lib.Dec.{eqb, lit<}
 use lib.Arith.{digits-div, digits-mod}
 use lib.Seq.{getD-set-same, getD-set-other}
 use borrow.Author.Tests.{eq-eqb, ne-eqb, lt-ltb, le-ltb}
-use Rattle.rules.specs.Compiler.{Local, declared, initialize}
+use Rattle.rules.specs.Compiler.{Local, declared-here, initialize}
 use Rattle.state.specs.Layout.{levels, stack, localOf, localsOf, Wf, depth-place, level-words, local-count-place}
 use Rattle.state.specs.Contracts.{Kept, DeclaredAt, DefinedAt, Dropped}
 use Rattle.state.specs.declared.Declared.the-variants as decl
@@ -21,21 +21,21 @@ module _ (f : ℕ → Local) (nm d i : ℕ) (pos : 0 < i) where
   unfolding stack
   peel = let e : i ≡ suc (i - 1) = omega arith in ap (stack f) e
 
-  pub clash-skip : d ≤ f (i - 1) .depth → (f (i - 1) .name ≡ nm → ⊥) → declared d nm (stack f i) ≡ declared d nm (stack f (i - 1))
-  unfolding declared
-  clash-skip h ne = ap (declared d nm) peel ∙ if-false _ _ _ (le-ltb _ _ h) ∙ if-false _ _ _ (ne-eqb _ _ ne)
+  pub clash-skip : d ≤ f (i - 1) .depth → (f (i - 1) .name ≡ nm → ⊥) → declared-here d nm (stack f i) ≡ declared-here d nm (stack f (i - 1))
+  unfolding declared-here
+  clash-skip h ne = ap (declared-here d nm) peel ∙ if-false _ _ _ (le-ltb _ _ h) ∙ if-false _ _ _ (ne-eqb _ _ ne)
 
-  pub clash-stop : f (i - 1) .depth < d → declared d nm (stack f i) ≡ false
-  unfolding declared
-  clash-stop h = ap (declared d nm) peel ∙ if-true _ _ _ (lt-ltb _ _ h)
+  pub clash-stop : f (i - 1) .depth < d → declared-here d nm (stack f i) ≡ false
+  unfolding declared-here
+  clash-stop h = ap (declared-here d nm) peel ∙ if-true _ _ _ (lt-ltb _ _ h)
 
-  pub clash-hit : d ≤ f (i - 1) .depth → f (i - 1) .name ≡ nm → declared d nm (stack f i) ≡ true
-  unfolding declared
-  clash-hit h e = ap (declared d nm) peel ∙ if-false _ _ _ (le-ltb _ _ h) ∙ if-true _ _ _ (eq-eqb _ _ e)
+  pub clash-hit : d ≤ f (i - 1) .depth → f (i - 1) .name ≡ nm → declared-here d nm (stack f i) ≡ true
+  unfolding declared-here
+  clash-hit h e = ap (declared-here d nm) peel ∙ if-false _ _ _ (le-ltb _ _ h) ∙ if-true _ _ _ (eq-eqb _ _ e)
 
-pub clash-none : (f : ℕ → Local) (nm d i : ℕ) → i ≡ 0 → declared d nm (stack f i) ≡ false
-unfolding declared stack
-clash-none f nm d i e = ap (λ (k : ℕ). declared d nm (stack f k)) e
+pub clash-none : (f : ℕ → Local) (nm d i : ℕ) → i ≡ 0 → declared-here d nm (stack f i) ≡ false
+unfolding declared-here stack
+clash-none f nm d i e = ap (λ (k : ℕ). declared-here d nm (stack f k)) e
 
 -- a new local's word
 new-local : (nm d : ℕ) → nm < 65536 → localOf (d * 262144 + nm) ≡ record { name = nm; depth = d; is-initialized = false; is-captured = false }
@@ -50,10 +50,10 @@ new-local nm d h =
     λ i. record { name = a i; depth = p i; is-initialized = eqb (r i) 1; is-captured = eqb (c i) 1 }
 
 module _ (t : List ℕ) (l nm : ℕ) (short : nm < 65536) (low : l < levels) (wf : Wf t) where
-  pub already : declared (getD t (l * level-words + depth-place) 0) nm (localsOf t l) ≡ true → DeclaredAt t t l nm decl.Already
+  pub already : declared-here (getD t (l * level-words + depth-place) 0) nm (localsOf t l) ≡ true → DeclaredAt t t l nm decl.Already
   already c = record { does = c; kept = kept-same _ _ t; wf = wf }
 
-  module _ (c : declared (getD t (l * level-words + depth-place) 0) nm (localsOf t l) ≡ false) where
+  module _ (c : declared-here (getD t (l * level-words + depth-place) 0) nm (localsOf t l) ≡ false) where
     pub full : 256 ≤ getD t (l * level-words + local-count-place) 0 → DeclaredAt t t l nm decl.Full
     full m = record { does = (c, omega (arith, length-stack (λ i. localOf (getD t (l * level-words + i) 0)) (getD t (l * level-words + local-count-place) 0))); kept = kept-same _ _ t; wf = wf }
 

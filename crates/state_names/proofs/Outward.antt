@@ -10,7 +10,7 @@ use lib.ListN.{getD}
 use types.Run.{OneOf}
 use denote.Enum.Declared.{tagOf}
 use Rattle.rules.specs.declared.Span.{Span}
-use Rattle.rules.specs.Compiler.{Local, Upvalue, CompilerCtx, with-locals, Found, missing, find-local, capture, Resolved, add-upvalue, through, resolve-upvalue}
+use Rattle.rules.specs.Compiler.{Local, Upvalue, CompilerCtx, with-locals, Found, no-local, find-local, capture, Resolved, add-upvalue, through, further-out, resolve-upvalue}
 use Rattle.state.specs.Layout.{levels, localsOf, codeFrom, runsFrom, ctxAt, parentsOf, Wf, upvalues-place, constants-place, depth-place, code-from-place, runs-from-place, level-words, local-count-place, level-used}
 use Rattle.state.specs.Contracts.{Kept, found, Looked, up-of, Added, Captured}
 use Rattle.state.specs.declared.Slot.{Slot}
@@ -38,8 +38,8 @@ outermost t nm wf = record { does = λ span code spans ce re. refl; quiet = λ e
 
 -- what was not found further out is not found
 stays : (span : Span) (nm : ℕ) (r : Up) → ((i : ℕ) → r ≡ up.At i → ⊥) → (c p x c′ : CompilerCtx) (a y ps′ : List CompilerCtx) → up-of span nm r c′ ps′ ≡ through
-    missing (up-of span nm r x y) nm span c p a
-unfolding through
+    no-local (up-of span nm r x y) nm span c p a
+unfolding through further-out
 stays span nm (up.At i) h c p x c′ a y ps′ = absurd (h i refl)
 stays span nm up.Nothing h c p x c′ a y ps′ = refl
 stays span nm up.Unready h c p x c′ a y ps′ = refl
@@ -88,7 +88,7 @@ module _ (t t₁ : List ℕ) (k nm : ℕ) (low : suc k < levels) (wf : Wf t) whe
 
   -- the enclosing function has the local
   pub inner : (t₂ : List ℕ) (i : ℕ) (r : Up) → Looked t t₁ k nm true (slot.At i) → Added t₁ t₂ (suc k) (record { idx = i; is-local = true }) r → Captured t t₂ (suc k) nm r
-  unfolding through parentsOf ctxAt
+  unfolding through further-out parentsOf ctxAt
   inner t₂ i r res add = record {
     does = λ span code spans ce re.
         let u : Upvalue = record { idx = i; is-local = true } in
@@ -108,7 +108,7 @@ module _ (t t₁ : List ℕ) (k nm : ℕ) (low : suc k < levels) (wf : Wf t) whe
   }
 
   pub unready : Looked t t₁ k nm true slot.Unready → Captured t t₁ (suc k) nm up.Unready
-  unfolding through
+  unfolding through further-out
   unready res = record {
     does = λ span code spans ce re. sym (answered slot.Unready res span code spans ce re);
     quiet = λ e. let z : _≡_ {A = ℕ} 0 1 = cc in absurd (omega arith);
@@ -125,10 +125,10 @@ module _ (t t₁ : List ℕ) (k nm : ℕ) (low : suc k < levels) (wf : Wf t) whe
     rec span code spans ce re = cap .does span code spans ce re ∙ ap₂ (resolve-upvalue nm span) (marked-ctx slot.Nothing res _ (res .locals) code spans ce re) (outer-kept slot.Nothing res code spans)
 
     whole : (span : Span) (code spans : List ℕ) (ce re : ℕ) → resolve-upvalue nm span (ctxAt t code spans (suc k) ce re) (parentsOf t code spans (suc k))
-        ≡ through missing (up-of span nm r (ctxAt t₂ code spans k (codeFrom t (suc k)) (runsFrom t (suc k))) (parentsOf t₂ code spans k)) nm span
+        ≡ through no-local (up-of span nm r (ctxAt t₂ code spans k (codeFrom t (suc k)) (runsFrom t (suc k))) (parentsOf t₂ code spans k)) nm span
         (ctxAt t code spans (suc k) ce re) (around t code spans) (parentsOf t code spans k)
     whole span code spans ce re = answered slot.Nothing res span code spans ce re
-        ∙ ap (λ (x : Resolved). through missing x nm span (ctxAt t code spans (suc k) ce re) (around t code spans) (parentsOf t code spans k)) (sym (rec span code spans _ _))
+        ∙ ap (λ (x : Resolved). through no-local x nm span (ctxAt t code spans (suc k) ce re) (around t code spans) (parentsOf t code spans k)) (sym (rec span code spans _ _))
 
     above₂ : (j : ℕ) → suc k * level-words ≤ j → getD t₂ j 0 ≡ getD t j 0
     above₂ j l = cap .kept .above j (omega arith) ∙ res .kept .above j (omega arith)
@@ -150,7 +150,7 @@ module _ (t t₁ : List ℕ) (k nm : ℕ) (low : suc k < levels) (wf : Wf t) whe
     }
 
     pub further : (t₃ : List ℕ) (i : ℕ) (r′ : Up) → r ≡ up.At i → Added t₂ t₃ (suc k) (record { idx = i; is-local = false }) r′ → Captured t t₃ (suc k) nm r′
-    unfolding through parentsOf
+    unfolding through further-out parentsOf
     further t₃ i r′ e add = record {
       does = λ span code spans ce re.
           let u : Upvalue = record { idx = i; is-local = false } in
@@ -162,7 +162,7 @@ module _ (t t₁ : List ℕ) (k nm : ℕ) (low : suc k < levels) (wf : Wf t) whe
           ap (up-of span nm r′ (ctxAt t₃ code spans (suc k) ce re)) ps
           ∙ add .does span nm code spans ce re _
           ∙ ap (λ (c : CompilerCtx). add-upvalue u span c (p ∷ parentsOf t₂ code spans k)) (top₂ code spans ce re)
-          ∙ ap (λ (x : Up). through missing (up-of span nm x p (parentsOf t₂ code spans k)) nm span (ctxAt t code spans (suc k) ce re) (around t code spans) (parentsOf t code spans k)) (sym e)
+          ∙ ap (λ (x : Up). through no-local (up-of span nm x p (parentsOf t₂ code spans k)) nm span (ctxAt t code spans (suc k) ce re) (around t code spans) (parentsOf t code spans k)) (sym e)
           ∙ sym (whole span code spans ce re);
       quiet = λ e. absurd (add .some e);
       kept = record { below = λ j l. omega arith; above = λ j l. add .kept .above j (omega arith) ∙ above₂ j (omega arith) };

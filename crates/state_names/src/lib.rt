@@ -3,7 +3,7 @@ ghost use mathlib.Core.Path.{_≡_};
 ghost use Prim.Native.Nat.{_+_, _*_, _-_, _≤_, _<_};
 ghost use lib.Dec.{ltb, eqb};
 ghost use lib.ListN.{length, getD};
-ghost use Rattle.rules.specs.Compiler.{declared};
+ghost use Rattle.rules.specs.Compiler.{declared-here};
 ghost use Rattle.state.specs.Layout.{levels, localOf, stack, Wf, level-words, local-count-place};
 ghost use Rattle.state.specs.Contracts.{Looked, Added, Captured, DeclaredAt, DefinedAt, Dropped};
 use rules::Limit;
@@ -85,7 +85,7 @@ pub fn resolve_upvalue(t: &mut [u64], level: usize, name: u16) -> Up
 // One more than the place of the local that a declaration of this name at this depth clashes with, 0 where there is none.
 pub fn clashing(t: &[u64], base: usize, n: usize, depth: u64, name: u64) -> usize
     requires { ⌜ base + n ≤ length (now t) ⌝ }
-    ensures { λ r. ⌜ ltb 0 r ≡ declared depth name (stack (λ i. localOf (getD (now (t .entry)) (base + i) 0)) n) ⌝ }
+    ensures { λ r. ⌜ ltb 0 r ≡ declared-here depth name (stack (λ i. localOf (getD (now (t .entry)) (base + i) 0)) n) ⌝ }
 {
     let mut i = n;
     let place = loop {

@@ -7,10 +7,10 @@ use native.Mathlib.Omega.{arith}
 use lib.ListN.{length}
 use lib.Dec.{eqb}
 use borrow.Author.Tests.{ne-eqb}
-use Rattle.rules.specs.Tree.{this}
+use Rattle.rules.specs.Tree.{this-name}
 use Rattle.rules.specs.declared.Span.{Span}
 use Rattle.rules.specs.declared.Refusal.the-variants.{ThisOutsideClass}
-use Rattle.rules.specs.Compiler.{Compiler, ok, go-on, _>>=_, _>>_, return, refuse, need, get, the, put-ctxs, Found, at-slot, uninitialized, missing, find-local, Resolved, resolve-upvalue, Place, local-at, upvalue-at, global-named, resolved, resolve, get-place, get-variable}
+use Rattle.rules.specs.Compiler.{Compiler, ok, go-on, _>>=_, _>>_, return, refuse, need, get, the, put-ctxs, Found, at-slot, uninitialized, no-local, find-local, Resolved, resolve-upvalue, Place, local-at, upvalue-at, global-named, resolved, resolve, get-place, get-variable}
 use Rattle.state.specs.Layout.{levels, code-end-at, runs-end-at, codeEnd, runsEnd, ctxAt, parentsOf, depth-place}
 use Rattle.state.specs.Contracts.{found, Looked, up-of, Captured}
 use Rattle.state.specs.declared.Slot.{Slot}
@@ -61,11 +61,11 @@ module _ (l nm : ℕ) (span : Span) (t t₁ : List ℕ) (s : Slot) (res : Looked
     cap : Captured t t₂ l nm u
     cap = subst (λ (x : List ℕ). Captured x t₂ l nm u) (res .unmarked refl) cap₁
 
-    outer : (y : Up) → u ≡ y → (code spans : List ℕ) (rest : Rest) → resolve nm span (view (mem t code spans) l rest) ≡ resolved missing
+    outer : (y : Up) → u ≡ y → (code spans : List ℕ) (rest : Rest) → resolve nm span (view (mem t code spans) l rest) ≡ resolved no-local
         (up-of span nm y (ctxAt t₂ code spans l (codeEnd t) (runsEnd t)) (parentsOf t₂ code spans l)) nm span (view (mem t code spans) l rest)
     unfolding view
     outer y q code spans rest =
-        resolve-is nm span (view (mem t code spans) l rest) missing _ (finds slot.Nothing e code spans rest)
+        resolve-is nm span (view (mem t code spans) l rest) no-local _ (finds slot.Nothing e code spans rest)
         (sym (cap .does span code spans (codeEnd t) (runsEnd t)) ∙ ap (λ (y : Up). up-of span nm y (ctxAt t₂ code spans l (codeEnd t) (runsEnd t)) (parentsOf t₂ code spans l)) q)
 
     pub at-upvalue : (i : ℕ) → l < levels → u ≡ up.At i → Placed l nm span t t₂ (Upvalue i)
@@ -125,18 +125,18 @@ no-class (true ∷ cs) = ne-eqb (suc (length cs)) 0 (λ (z : suc (length cs) ≡
 no-class (false ∷ cs) = ne-eqb (suc (length cs)) 0 (λ (z : suc (length cs) ≡ 0). omega arith)
 
 module _ (limit name : ℕ) (span : Span) (class : ℕ) where
-  variable-is : (b : Bool) → (eqb name this && eqb class 0) ≡ b → (l : ℕ) (m : Mem) (rest : Rest) → Agrees class m rest → get-variable limit name span
+  variable-is : (b : Bool) → (eqb name this-name && eqb class 0) ≡ b → (l : ℕ) (m : Mem) (rest : Rest) → Agrees class m rest → get-variable limit name span
       (view m l rest) ≡ go-on (need (not b) (ThisOutsideClass span) (view m l rest)) (λ _. resolve name span >>= λ place. get-place limit place name span)
   unfolding get-variable _>>=_ _>>_ the go-on view
   variable-is b e l (mem t code spans) rest h =
       ap (λ (b : Bool). go-on (need (not b) (ThisOutsideClass span) (view (mem t code spans) l rest)) (λ _. resolve name span >>= λ place. get-place limit place name span))
-      (ap (λ (x : Bool). eqb name this && x) (no-class (rest .classes) ∙ ap (λ (k : ℕ). eqb k 0) (h .innermost)) ∙ e)
+      (ap (λ (x : Bool). eqb name this-name && x) (no-class (rest .classes) ∙ ap (λ (k : ℕ). eqb k 0) (h .innermost)) ∙ e)
 
-  pub lost : (eqb name this && eqb class 0) ≡ true → {l : ℕ} (m : Mem) → Refused class l (get-variable limit name span) m (this-outside-class span)
+  pub lost : (eqb name this-name && eqb class 0) ≡ true → {l : ℕ} (m : Mem) → Refused class l (get-variable limit name span) m (this-outside-class span)
   unfolding need go-on refusal-of
   lost e {l} m = record { refuses = λ rest h. variable-is true e l m rest h }
 
-  module _ (e : (eqb name this && eqb class 0) ≡ false) where
+  module _ (e : (eqb name this-name && eqb class 0) ≡ false) where
     kept-as : {l n : ℕ} {before now : Mem} (r : Step) → Did class limit l n steady (resolve name span >>= λ place. get-place limit place name span) before now r
         → DidAs class limit l n steady (get-variable limit name span) before now r
     unfolding need go-on

@@ -4,7 +4,7 @@ ghost use Prim.Native.Nat.{ℕ, _<_};
 ghost use mathlib.Core.Bool.{_&&_};
 ghost use lib.Dec.{eqb};
 ghost use Rattle.rules.specs.Compiler.{get-variable, set-variable, define-name};
-ghost use Rattle.rules.specs.Tree.{this};
+ghost use Rattle.rules.specs.Tree.{this-name};
 ghost use Rattle.state.specs.Layout.{levels, Wf};
 ghost use Rattle.steps.specs.View.{mem, Fit, steady, Did, Placed};
 use op::Op;
@@ -53,7 +53,7 @@ pub fn resolve(t: &mut [u64], level: usize, name: u16, span: Span) -> Place
 
 // `this` where no class is around.
 pub fn lost_this(name: u16, class: u8) -> bool
-    ensures { λ r. ⌜ r ≡ (eqb name this && eqb class 0) ⌝ }
+    ensures { λ r. ⌜ r ≡ (eqb name this-name && eqb class 0) ⌝ }
 {
     if name != Name::THIS {
         return false;

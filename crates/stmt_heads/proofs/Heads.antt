@@ -10,7 +10,7 @@ use lib.ListN.{length, getD}
 use lib.Dec.{ltb}
 use borrow.Author.Tests.{eq-eqb, ne-eqb, lt-ltb}
 use Rattle.rules.specs.Base.{if_then_else_, lookup}
-use Rattle.rules.specs.Tree.{init, Superclass, Stmt}
+use Rattle.rules.specs.Tree.{init-name, Superclass, Stmt}
 use Rattle.rules.specs.Reader.{got}
 use Rattle.rules.specs.TreeFile.{flags, maybe, read-superclass, read-stmt}
 use Rattle.rules.specs.Compiler.{Compile, Initializer, Method, method-type, is-some}
@@ -98,13 +98,13 @@ a-count n h = lt-ltb 0 n (omega arith)
 
 -- ## What a method is
 
-pub init-kind : (name : ℕ) → name ≡ init → type-of 3 ≡ method-type name
+pub init-kind : (name : ℕ) → name ≡ init-name → type-of 3 ≡ method-type name
 unfolding type-of
-init-kind name h = sym (ap (λ (b : Bool). if b then Initializer else Method) (eq-eqb name init h))
+init-kind name h = sym (ap (λ (b : Bool). if b then Initializer else Method) (eq-eqb name init-name h))
 
-pub other-kind : (name : ℕ) → (name ≡ init → ⊥) → type-of 2 ≡ method-type name
+pub other-kind : (name : ℕ) → (name ≡ init-name → ⊥) → type-of 2 ≡ method-type name
 unfolding type-of
-other-kind name h = sym (ap (λ (b : Bool). if b then Initializer else Method) (ne-eqb name init h))
+other-kind name h = sym (ap (λ (b : Bool). if b then Initializer else Method) (ne-eqb name init-name h))
 
 -- ## The depth
 

@@ -9,7 +9,7 @@ use borrow.Author.Tests.{eq-eqb, ne-eqb}
 use Rattle.rules.specs.declared.Span.{Span}
 use Rattle.rules.specs.declared.Refusal.the-variants.{ClassInheritFromSelf}
 use Rattle.rules.specs.Answer.{NO-SPAN}
-use Rattle.rules.specs.Tree.{super, Superclass}
+use Rattle.rules.specs.Tree.{super-name, Superclass}
 use Rattle.rules.specs.Op as op
 use Rattle.rules.specs.Compiler.{Compile, _>>_, is-some, begin-scope, declare-local, define-local, emit-op, get-variable, compile-superclass}
 use Rattle.fields.specs.Words.{word8, word16, span-of}
@@ -34,10 +34,10 @@ module _ {limit l : ℕ} {t t₁ : List ℕ} (code spans : List ℕ) (fit : Fit 
   pub begun-fit : Fit (mem t₁ code spans) l limit
   begun-fit = b .gives {class = 2} code spans fit .ahead .fit
 
-  pub declared-fit : {t₂ : List ℕ} {n v : ℕ} {r : Step} → Tried l n steady (declare-local super NO-SPAN) t₁ t₂ r → r ≡ Next v → Fit (mem t₂ code spans) l limit
+  pub declared-fit : {t₂ : List ℕ} {n v : ℕ} {r : Step} → Tried l n steady (declare-local super-name NO-SPAN) t₁ t₂ r → r ≡ Next v → Fit (mem t₂ code spans) l limit
   declared-fit d q = went (d .gives {class = 2} code spans begun-fit) q .ahead .fit
 
-  pub defined-fit : {t₂ t₃ : List ℕ} {n v : ℕ} {r : Step} → Tried l n steady (declare-local super NO-SPAN) t₁ t₂ r → r ≡ Next v → Changed l steady define-local t₂ t₃ → Fit (mem t₃ code spans) l limit
+  pub defined-fit : {t₂ t₃ : List ℕ} {n v : ℕ} {r : Step} → Tried l n steady (declare-local super-name NO-SPAN) t₁ t₂ r → r ≡ Next v → Changed l steady define-local t₂ t₃ → Fit (mem t₃ code spans) l limit
   defined-fit d q g = g .gives {class = 2} code spans (declared-fit d q) .ahead .fit
 
 module _ {limit l : ℕ} (tree : List ℕ) (at name : ℕ) (span : Span) where
@@ -48,20 +48,20 @@ module _ {limit l : ℕ} (tree : List ℕ) (at name : ℕ) (span : Span) where
 
   module _ {k parent : ℕ} {place : Span} (p : parent ≡ word16 tree (at + 25)) (s : place ≡ span-of tree (at + 17)) (q : parent ≡ name → ⊥)
       {t t₁ : List ℕ} (code spans : List ℕ) (fit : Fit (mem t code spans) l limit) (b : Changed l deeper begin-scope t t₁) where
-    inherit-by : {now : Mem} {r : Step} → Did 2 limit l k steady (declare-local super NO-SPAN >> (define-local >> inherits limit parent place name span)) (mem t₁ code spans) now r
+    inherit-by : {now : Mem} {r : Step} → Did 2 limit l k steady (declare-local super-name NO-SPAN >> (define-local >> inherits limit parent place name span)) (mem t₁ code spans) now r
         → Did 2 limit l k deeper (compile-superclass limit name (some (superclass-of tree at)) span) (mem t code spans) now r
     unfolding compile-superclass
     inherit-by {now} {r} d =
         let e = ap₂ (λ (j : ℕ) (w : Span). inherits limit j w name span) p s in
         ask-seq (passed (not (eqb (word16 tree (at + 25)) name)) (ClassInheritFromSelf span name) (ap not (ne-eqb _ _ (λ h. q (p ∙ h))))) _
         (did-seq (b .gives code spans fit) _
-        (subst (λ (m : Compile Unit). Did 2 limit l k steady (declare-local super NO-SPAN >> (define-local >> m)) (mem t₁ code spans) now r) e d))
+        (subst (λ (m : Compile Unit). Did 2 limit l k steady (declare-local super-name NO-SPAN >> (define-local >> m)) (mem t₁ code spans) now r) e d))
 
-    pub inherit-stop : {t₂ : List ℕ} {n : ℕ} {r : Step} {x : Why} → Tried l n steady (declare-local super NO-SPAN) t₁ t₂ r → r ≡ Stop x
+    pub inherit-stop : {t₂ : List ℕ} {n : ℕ} {r : Step} {x : Why} → Tried l n steady (declare-local super-name NO-SPAN) t₁ t₂ r → r ≡ Stop x
         → Did 2 limit l k deeper (compile-superclass limit name (some (superclass-of tree at)) span) (mem t code spans) (mem t₂ code spans) r
     inherit-stop d h = inherit-by (halt _ (d .gives code spans (begun-fit code spans fit b)) h)
 
-    pub inherit-done : {t₂ t₃ : List ℕ} {n v : ℕ} {r r′ : Step} {now : Mem} → Tried l n steady (declare-local super NO-SPAN) t₁ t₂ r → r ≡ Next v → Changed l steady define-local t₂ t₃
+    pub inherit-done : {t₂ t₃ : List ℕ} {n v : ℕ} {r r′ : Step} {now : Mem} → Tried l n steady (declare-local super-name NO-SPAN) t₁ t₂ r → r ≡ Next v → Changed l steady define-local t₂ t₃
         → Did 2 limit l k steady (inherits limit parent place name span) (mem t₃ code spans) now r′
         → Did 2 limit l k deeper (compile-superclass limit name (some (superclass-of tree at)) span) (mem t code spans) now r′
     inherit-done d h g d′ =

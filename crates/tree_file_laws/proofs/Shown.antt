@@ -8,6 +8,7 @@ use Rattle.rules.specs.Tree.{Stmts, StmtFun, StmtReturn, ExprVar, []ˢ, _∷ˢ_
 use Rattle.rules.specs.Reader.{got}
 use Rattle.rules.specs.TreeFile as t
 use Rattle.rules.proofs.Examples.{hex, P12-tree, from-to}
+use Rattle.rules.proofs.Computes as computes
 use Rattle.tree_file_laws.proofs.Fits.{record-depth, nested-funs}
 use Rattle.tree_file_laws.proofs.Names as n
 use Rattle.tree_file_laws.proofs.Names.{names-of}
@@ -36,7 +37,7 @@ pub record P12-shown : Type 0 where
   pub too-many : first-passing 3 1 (opened P12-tree) ≡ some (at-place 39 2 2)
 
 pub P12-so : P12-shown
-unfolding hex t.computes n.names-of n.texts-of n.read-texts n.read-text
+unfolding hex computes.tree-file n.names-of n.texts-of n.read-texts n.read-text
 P12-so =
     record {
       is-read = refl;

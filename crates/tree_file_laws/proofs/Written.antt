@@ -28,6 +28,7 @@ use Rattle.rules.specs.TreeEncode.{stmt-bytes, stmts-bytes, fun-bytes, methods-
 use Rattle.rules_laws.proofs.Facts.{All, all-map}
 use Rattle.rules_laws.proofs.ReadBack.{Narrow, Reads, Comes, first, _⟫_, return, need, here, byte, mark, mark-is, u16, u64, span, many}
 use Rattle.rules_laws.proofs.Trees.{If-some, option-size}
+use Rattle.rules.proofs.Computes as computes
 use Rattle.tree_file_laws.proofs.Fits.{Count, Known, Fits-literal, Fits-expr, Fits-exprs, Fits-superclass, Fits-stmt, Fits-stmts, Fits-fun, Fits-methods}
 use Rattle.tree_file_laws.proofs.Fits.{Fits-text, Above, Rising, Fits-file}
 use Rattle.tree_file_laws.proofs.Fits.{expr-depth, exprs-depth, stmt-depth, record-depth, fun-depth, methods-depth}
@@ -38,12 +39,12 @@ use Rattle.tree_file_laws.proofs.Texts.{all-differ, above}
 -- ## What the tables have under the encoder's bytes
 
 flag-of : (b : Bool) → lookup (bit b) t.flags ≡ some b
-unfolding bit t.computes
+unfolding bit computes.tree-file
 flag-of false = refl
 flag-of true = refl
 
 infix-of : (op : OpInfix) → lookup (w.infix-byte op) t.infix-ops ≡ some op
-unfolding w.infix-byte t.computes
+unfolding w.infix-byte computes.tree-file
 infix-of Add = refl
 infix-of Subtract = refl
 infix-of Multiply = refl
@@ -58,7 +59,7 @@ infix-of LogicAnd = refl
 infix-of LogicOr = refl
 
 prefix-of : (op : OpPrefix) → lookup (w.prefix-byte op) t.prefix-ops ≡ some op
-unfolding w.prefix-byte t.computes
+unfolding w.prefix-byte computes.tree-file
 prefix-of Negate = refl
 prefix-of Not = refl
 
@@ -136,7 +137,7 @@ module _ (tree : List ℕ) where
 
     literal : (fault : Refusal) (s : Span) (v : ExprLiteral) → Fits-literal names v →
         Back (t.literal-fields tree names fault s) (w.literal-bytes v) (Literal s v)
-    unfolding t.literal-fields t.literal-of w.literal-bytes t.computes
+    unfolding t.literal-fields t.literal-of w.literal-bytes computes.tree-file
     literal fault s (LitBool false) h xs =
         first tree _ (kind t.literal-kinds fault 0 t.a-false refl xs) (first tree (λ v. r.return (Literal s v)) (return tree (LitBool false)) (return tree _))
     literal fault s (LitBool true) h xs =
@@ -167,7 +168,7 @@ module _ (tree : List ℕ) where
         (first tree _ (marked t.expr-marks (TreeForm at) high low k _ m) (first tree _ (span tree (TreeForm at) s ys n) (rw z at (h (TreeForm at))))))
 
     mutual
-      unfolding t.read-exprs exprs-bytes expr-bytes t.computes
+      unfolding t.read-exprs exprs-bytes expr-bytes computes.tree-file
 
       expr : (e : Expr) (depth : ℕ) → Fits-expr names e → expr-depth e ≤ depth → Back (t.read-expr tree names depth) (expr-bytes e) e
       expr (ExprAssign s n value) depth h l xs =
@@ -293,7 +294,7 @@ module _ (tree : List ℕ) where
 
     module _ (depth funs : ℕ) (may : 0 < depth) (s : Span) (n : Narrow s) where
       block : (ts : Stmts) → Count (count-stmts ts) → Children-of (depth - 1) funs ts → Child depth funs (StmtBlock s ts)
-      unfolding stmt-bytes t.computes
+      unfolding stmt-bytes computes.tree-file
       block ts c h xs =
           simp append-assoc
           (stmt-record depth funs may t.SB tt 0x53 0x42 refl s n _ _ xs
@@ -301,7 +302,7 @@ module _ (tree : List ℕ) where
 
       class : (m : ℕ) (sup : Option Superclass) (ms : Methods) → Known names m → Count (count-methods ms) → If-some (Fits-superclass names) sup →
           option-size (λ _. 1) sup ≤ depth - 1 → Methods-of (depth - 1) funs ms → Child depth funs (StmtClass s m sup ms)
-      unfolding stmt-bytes t.computes
+      unfolding stmt-bytes computes.tree-file
       class m sup ms k c p l h xs =
           simp append-assoc
           (stmt-record depth funs may t.SC tt 0x53 0x43 refl s n _ _ xs
@@ -311,7 +312,7 @@ module _ (tree : List ℕ) where
           (first tree _ (option-superclass sup (depth - 1) p l _) (first tree _ (h xs) (return tree _)))))))
 
       expression : (e : Expr) → Fits-expr names e → expr-depth e ≤ depth - 1 → Child depth funs (StmtExpr s e)
-      unfolding stmt-bytes t.computes
+      unfolding stmt-bytes computes.tree-file
       expression e h l xs =
           simp append-assoc
           (stmt-record depth funs may t.SE tt 0x53 0x45 refl s n _ _ xs
@@ -320,7 +321,7 @@ module _ (tree : List ℕ) where
       for : (init : Stmts) (cond : Option Expr) (body : Stmt) (incr : Option Expr) → Child-or-none (depth - 1) funs init →
           If-some (Fits-expr names) cond → option-size expr-depth cond ≤ depth - 1 → Child (depth - 1) funs body →
           If-some (Fits-expr names) incr → option-size expr-depth incr ≤ depth - 1 → Child depth funs (StmtFor s init cond body incr)
-      unfolding stmt-bytes t.computes
+      unfolding stmt-bytes computes.tree-file
       for init cond body incr h c l k i m xs =
           simp append-assoc
           (stmt-record depth funs may t.SO tt 0x53 0x4F refl s n _ _ xs
@@ -333,14 +334,14 @@ module _ (tree : List ℕ) where
           (first tree _ (option-expr incr _ (bits .third-bit) (depth - 1) i m xs) (return tree _))))))))
 
       function-stmt : (f : Fun) → 0 < funs → Function (depth - 1) (funs - 1) f → Child depth funs (StmtFun s f)
-      unfolding stmt-bytes t.computes
+      unfolding stmt-bytes computes.tree-file
       function-stmt f l h xs =
           simp append-assoc
           (stmt-record depth funs may t.SF (lt→ltb 0 funs l) 0x53 0x46 refl s n _ _ xs (λ fault. first tree _ (h fault xs) (return tree _)))
 
       choice : (cond : Expr) (yes-part : Stmt) (no-part : Stmts) → Fits-expr names cond → expr-depth cond ≤ depth - 1 →
           Child (depth - 1) funs yes-part → Child-or-none (depth - 1) funs no-part → Child depth funs (StmtIf s cond yes-part no-part)
-      unfolding stmt-bytes t.computes
+      unfolding stmt-bytes computes.tree-file
       choice cond yes-part no-part c l h k xs =
           simp append-assoc
           (stmt-record depth funs may t.SI tt 0x53 0x49 refl s n _ _ xs
@@ -349,14 +350,14 @@ module _ (tree : List ℕ) where
           (first tree _ (h _) (first tree _ (k (has-stmt no-part) refl xs) (return tree _))))))
 
       print : (e : Expr) → Fits-expr names e → expr-depth e ≤ depth - 1 → Child depth funs (StmtPrint s e)
-      unfolding stmt-bytes t.computes
+      unfolding stmt-bytes computes.tree-file
       print e h l xs =
           simp append-assoc
           (stmt-record depth funs may t.SP tt 0x53 0x50 refl s n _ _ xs
           (λ fault. first tree _ (expr e (depth - 1) h l xs) (return tree _)))
 
       return-stmt : (v : Option Expr) → If-some (Fits-expr names) v → option-size expr-depth v ≤ depth - 1 → Child depth funs (StmtReturn s v)
-      unfolding stmt-bytes t.computes
+      unfolding stmt-bytes computes.tree-file
       return-stmt v h l xs =
           simp append-assoc
           (stmt-record depth funs may t.SR tt 0x53 0x52 refl s n _ _ xs
@@ -364,7 +365,7 @@ module _ (tree : List ℕ) where
 
       variable : (m : ℕ) (v : Option Expr) → Known names m → If-some (Fits-expr names) v → option-size expr-depth v ≤ depth - 1 →
           Child depth funs (StmtVar s m v)
-      unfolding stmt-bytes t.computes
+      unfolding stmt-bytes computes.tree-file
       variable m v k h l xs =
           simp append-assoc
           (stmt-record depth funs may t.SV tt 0x53 0x56 refl s n _ _ xs
@@ -373,7 +374,7 @@ module _ (tree : List ℕ) where
 
       while : (cond : Expr) (body : Stmt) → Fits-expr names cond → expr-depth cond ≤ depth - 1 → Child (depth - 1) funs body →
           Child depth funs (StmtWhile s cond body)
-      unfolding stmt-bytes t.computes
+      unfolding stmt-bytes computes.tree-file
       while cond body c l h xs =
           simp append-assoc
           (stmt-record depth funs may t.SW tt 0x53 0x57 refl s n _ _ xs

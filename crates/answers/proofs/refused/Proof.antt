@@ -6,39 +6,39 @@ use Rattle.answers.proofs.refused.Statement.{statement}
 use Rattle.answers.proofs.refused.Tie as tie
 use Rattle.answers.proofs.refused.Reads as reads
 use Rattle.answers.proofs.refused.Lts as lts
-use Rattle.answers.proofs.at_place.Reads as at-place-reads
+use Rattle.answers.proofs.at_offset.Reads as at-offset-reads
 use Rattle.answers.proofs.at_span.Reads as at-span-reads
 use Rattle.answers.proofs.with_length.Reads as with-length-reads
 
 enum-told : tie.Need-enum-told
 enum-told c = search needs
 
-at-place-requires : tie.Need-at-place-requires
-at-place-requires c κs = search needs
+at-offset-requires : tie.Need-at-offset-requires
+at-offset-requires c κs = search needs
 
 enum-told-2 : tie.Need-enum-told-2
 enum-told-2 c = search needs
 
-at-place-requires-2 : tie.Need-at-place-requires-2
-at-place-requires-2 c κs = search needs
+at-offset-requires-2 : tie.Need-at-offset-requires-2
+at-offset-requires-2 c κs = search needs
 
 enum-known-r : tie.Need-enum-known-r
 enum-known-r c = search needs
 
-at-place-requires-3 : tie.Need-at-place-requires-3
-at-place-requires-3 c κs = search needs
+at-offset-requires-3 : tie.Need-at-offset-requires-3
+at-offset-requires-3 c κs = search needs
 
 enum-known-r-2 : tie.Need-enum-known-r-2
 enum-known-r-2 c = search needs
 
-at-place-requires-4 : tie.Need-at-place-requires-4
-at-place-requires-4 c κs = search needs
+at-offset-requires-4 : tie.Need-at-offset-requires-4
+at-offset-requires-4 c κs = search needs
 
 enum-known-r-3 : tie.Need-enum-known-r-3
 enum-known-r-3 c = search needs
 
-at-place-requires-5 : tie.Need-at-place-requires-5
-at-place-requires-5 c κs = search needs
+at-offset-requires-5 : tie.Need-at-offset-requires-5
+at-offset-requires-5 c κs = search needs
 
 enum-known-r-4 : tie.Need-enum-known-r-4
 enum-known-r-4 c = search needs
@@ -127,8 +127,8 @@ at-span-requires-14 c κs = search needs
 enum-told-3 : tie.Need-enum-told-3
 enum-told-3 c = search needs
 
-at-place-requires-6 : tie.Need-at-place-requires-6
-at-place-requires-6 c κs = search needs
+at-offset-requires-6 : tie.Need-at-offset-requires-6
+at-offset-requires-6 c κs = search needs
 
 enum-known-r-18 : tie.Need-enum-known-r-18
 enum-known-r-18 c = search needs
@@ -139,40 +139,40 @@ with-length-requires c κs = search needs
 enum-told-4 : tie.Need-enum-told-4
 enum-told-4 c = search needs
 
-at-place-requires-7 : tie.Need-at-place-requires-7
-at-place-requires-7 c κs = search needs
+at-offset-requires-7 : tie.Need-at-offset-requires-7
+at-offset-requires-7 c κs = search needs
 
 enum-told-5 : tie.Need-enum-told-5
 enum-told-5 c = search needs
 
-at-place-requires-8 : tie.Need-at-place-requires-8
-at-place-requires-8 c κs = search needs
+at-offset-requires-8 : tie.Need-at-offset-requires-8
+at-offset-requires-8 c κs = search needs
 
 enum-told-6 : tie.Need-enum-told-6
 enum-told-6 c = search needs
 
-at-place-requires-9 : tie.Need-at-place-requires-9
-at-place-requires-9 c κs = search needs
+at-offset-requires-9 : tie.Need-at-offset-requires-9
+at-offset-requires-9 c κs = search needs
 
 returns : tie.Need-returns
 unfolding refusal
-returns c = c .at-place .ensures ∙ sym (ap refusal (c .before .enum-told .given .1))
+returns c = c .at-offset .ensures ∙ sym (ap refusal (c .before .enum-told .given .1))
 
 returns-2 : tie.Need-returns-2
 unfolding refusal
-returns-2 c = c .at-place2 .ensures ∙ sym (ap refusal (c .before .enum-told2 .given .1))
+returns-2 c = c .at-offset2 .ensures ∙ sym (ap refusal (c .before .enum-told2 .given .1))
 
 returns-3 : tie.Need-returns-3
 unfolding refusal
-returns-3 c = c .at-place3 .ensures ∙ sym (ap refusal (c .before .before .r .given .1))
+returns-3 c = c .at-offset3 .ensures ∙ sym (ap refusal (c .before .before .r .given .1))
 
 returns-4 : tie.Need-returns-4
 unfolding refusal
-returns-4 c = c .at-place4 .ensures ∙ sym (ap refusal (c .before .before .r2 .given .1))
+returns-4 c = c .at-offset4 .ensures ∙ sym (ap refusal (c .before .before .r2 .given .1))
 
 returns-5 : tie.Need-returns-5
 unfolding refusal
-returns-5 c = c .at-place5 .ensures ∙ sym (ap refusal (c .before .before .r3 .given .1))
+returns-5 c = c .at-offset5 .ensures ∙ sym (ap refusal (c .before .before .r3 .given .1))
 
 returns-6 : tie.Need-returns-6
 unfolding refusal
@@ -232,7 +232,7 @@ returns-19 c = c .at-span14 .ensures ∙ sym (ap refusal (c .before .before .r17
 
 returns-20 : tie.Need-returns-20
 unfolding refusal
-returns-20 c = c .at-place6 .ensures ∙ sym (ap refusal (c .before .enum-told3 .given .1))
+returns-20 c = c .at-offset6 .ensures ∙ sym (ap refusal (c .before .enum-told3 .given .1))
 
 returns-21 : tie.Need-returns-21
 unfolding refusal
@@ -240,30 +240,30 @@ returns-21 c = c .with-length .ensures ∙ sym (ap refusal (c .before .before .r
 
 returns-22 : tie.Need-returns-22
 unfolding refusal
-returns-22 c = c .at-place7 .ensures ∙ sym (ap refusal (c .before .enum-told4 .given .1))
+returns-22 c = c .at-offset7 .ensures ∙ sym (ap refusal (c .before .enum-told4 .given .1))
 
 returns-23 : tie.Need-returns-23
 unfolding refusal
-returns-23 c = c .at-place8 .ensures ∙ sym (ap refusal (c .before .enum-told5 .given .1))
+returns-23 c = c .at-offset8 .ensures ∙ sym (ap refusal (c .before .enum-told5 .given .1))
 
 returns-24 : tie.Need-returns-24
 unfolding refusal
-returns-24 c = c .at-place9 .ensures ∙ sym (ap refusal (c .before .enum-told6 .given .1))
+returns-24 c = c .at-offset9 .ensures ∙ sym (ap refusal (c .before .enum-told6 .given .1))
 
 pub refused-spec : {M : Type 1} → statement M
 refused-spec =
     tie.close
     (tie.spec
     enum-told
-    at-place-requires
+    at-offset-requires
     enum-told-2
-    at-place-requires-2
+    at-offset-requires-2
     enum-known-r
-    at-place-requires-3
+    at-offset-requires-3
     enum-known-r-2
-    at-place-requires-4
+    at-offset-requires-4
     enum-known-r-3
-    at-place-requires-5
+    at-offset-requires-5
     enum-known-r-4
     at-span-requires
     enum-known-r-5
@@ -293,15 +293,15 @@ refused-spec =
     enum-known-r-17
     at-span-requires-14
     enum-told-3
-    at-place-requires-6
+    at-offset-requires-6
     enum-known-r-18
     with-length-requires
     enum-told-4
-    at-place-requires-7
+    at-offset-requires-7
     enum-told-5
-    at-place-requires-8
+    at-offset-requires-8
     enum-told-6
-    at-place-requires-9
+    at-offset-requires-9
     returns
     returns-2
     returns-3

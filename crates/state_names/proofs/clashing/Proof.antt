@@ -5,14 +5,14 @@ use mathlib.Core.Path.{_≡_, sym, _∙_}
 use lib.ListN.{getD}
 use borrow.Author.Tests.{lt-ltb}
 use borrow.Author.Needs.{needs}
-use Rattle.rules.specs.Compiler.{Local, declared}
+use Rattle.rules.specs.Compiler.{Local, declared-here}
 use Rattle.state_names.proofs.Declare as ways
 use Rattle.state.specs.Layout.{stack, localOf}
 use Rattle.state_names.proofs.clashing.Statement.{statement}
 use Rattle.state_names.proofs.clashing.Tie as tie
 
 abbrev Inv-loop : tie.InvT-loop
-Inv-loop t base n depth name i₀ i = (i ≤ n) × (declared depth name (stack (λ j. localOf (getD t (base + j) 0)) i) ≡ declared depth name (stack (λ j. localOf (getD t (base + j) 0)) n))
+Inv-loop t base n depth name i₀ i = (i ≤ n) × (declared-here depth name (stack (λ j. localOf (getD t (base + j) 0)) i) ≡ declared-here depth name (stack (λ j. localOf (getD t (base + j) 0)) n))
 
 abbrev μ-loop : tie.MeasureT-loop
 μ-loop t base n depth name i₀ i = i
