@@ -5,7 +5,7 @@ use mathlib.Core.Logic.{⊎-elim}
 use lib.ListN.{length}
 use borrow.Author.Needs.{needs}
 use Rattle.rules.proofs.Computes as computes
-use Rattle.op.proofs.Widths.{from, Held, begun, taken, passed, found}
+use Rattle.op.proofs.Widths.{beside, Held, begun, taken, passed, found}
 use Rattle.op.proofs.entry.Statement.{statement}
 use Rattle.op.proofs.entry.Tie as tie
 
@@ -46,8 +46,8 @@ loop-again c =
     ⊎-elim (λ p. taken held _ (omega arith) (p .0 .taken) (p .1)) (λ p. passed held _ (omega arith) (p .0 .left) (p .1)) (c .if1 .came)
 
 returns : tie.Need-returns Inv-loop μ-loop
-unfolding computes.op from
-returns c = found 255 (c .before .loop .inv) (c .loop-test .left) (omega arith) tt
+unfolding computes.op beside
+returns c = found 255 (c .before .loop .inv) (c .loop-test .left) tt
 
 pub entry-spec : {M : Type 1} → statement M
 entry-spec =

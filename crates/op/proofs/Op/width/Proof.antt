@@ -1,7 +1,6 @@
 -- `Op::width` is the rules' width of every byte: what the table has, and of the mark the width of a CLOSURE.
 use native.Mathlib.Omega.{arith}
 use borrow.Author.Needs.{needs}
-use Rattle.rules.proofs.Computes as computes
 use Rattle.op.proofs.Widths.{fixed, marked}
 use Rattle.op.proofs.Op.width.Statement.{statement}
 use Rattle.op.proofs.Op.width.Tie as tie
@@ -17,13 +16,11 @@ add-result c = search needs
 
 -- CLOSURE
 returns : tie.Need-returns
-unfolding computes.op
-returns c = marked 255 (c .before .before .args .op) (c .before .before .args .upvalues) (c .before .entry .ensures) (omega arith) tt (c .if1 .taken)
+returns c = marked 255 (c .before .before .args .op) (c .before .before .args .upvalues) (c .before .entry .ensures) (omega arith) (c .if1 .taken)
 
 -- the others
 returns-2 : tie.Need-returns-2
-unfolding computes.op
-returns-2 c = fixed 255 (c .before .before .args .op) (c .before .before .args .upvalues) (c .before .entry .ensures) (omega arith) tt (c .if1 .left)
+returns-2 c = fixed 255 (c .before .before .args .op) (c .before .before .args .upvalues) (c .before .entry .ensures) (c .if1 .left)
 
 pub width-spec : {M : Type 1} → statement M
 width-spec = tie.close (tie.spec entry-requires mul-result add-result returns returns-2)
