@@ -22,7 +22,7 @@ typedef struct {
     size_t length;
 } bytes;
 
-static bytes read_file(const char *path) {
+static inline bytes read_file(const char *path) {
     FILE *file = fopen(path, "rb");
     if (file == NULL || fseek(file, 0, SEEK_END) != 0) die("the file cannot be opened");
     bytes b = {NULL, (size_t)ftell(file)};
