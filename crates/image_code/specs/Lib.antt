@@ -1,3 +1,3 @@
--- What the contracts of this crate cite beside the rules: an instruction's form as a number, a table of constants as words, a ring of starts.
+-- What the contracts of the crates that judge a code cite beside the rules: an instruction's form as a number, a table of constants as words.
 pub mod Forms
 pub mod Table

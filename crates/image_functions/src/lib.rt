@@ -138,7 +138,7 @@ fn code_right(
         return Done::Bad;
     }
     let end = first + size;
-    let Verdict::Yes(n) = image_code::code_fits(&s[first..end], kinds, upvalues, ring) else {
+    let Verdict::Yes(n) = image_judge::code_fits(&s[first..end], kinds, upvalues, ring) else {
         return Done::Bad;
     };
     Done::Is(n, end)

@@ -1,0 +1,2 @@
+-- Laws about the whole judgement of a code.
+mod Walked
