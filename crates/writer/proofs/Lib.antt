@@ -1,4 +1,3 @@
 -- Laws of what the output holds.
 pub mod Padding
 pub mod Records
-pub mod Header

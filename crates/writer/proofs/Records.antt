@@ -1,16 +1,18 @@
 -- A whole function's record: what is put one after the other is what the rules' encoder makes of the function that stands at a level.
 use mathlib.Core.Path.{_≡_, refl, sym, ap, ap₂, _∙_, subst}
 use mathlib.Core.List.{List, [], _∷_, _++_}
-use Prim.Native.Nat.{ℕ, zero, suc, _+_, _-_, _*_, _≤_, _<_}
+use Prim.Native.Nat.{ℕ, zero, suc, _+_, _-_, _*_}
 use native.Mathlib.Omega.{arith}
 use lib.ListN.{length, getD}
 use Rattle.rules.specs.Base.{le}
-use Rattle.rules.specs.Chunk.{Constant, Run, ObjectFunction}
+use Rattle.rules.specs.Chunk.{Constant, Run}
 use Rattle.rules.specs.Image.{join, constant-bytes, run-bytes, function-bytes}
 use Rattle.rules.specs.Compiler.{finish}
-use Rattle.state.specs.Layout.{row, constantOf, runAt, upvaluesOf, upvalueOf, codeFrom, codeEnd, runsFrom, runsEnd, chunkAt, ctxAt, upvalues-place, upvalue-count-place, constants-place, constant-count-place, name-place, arity-place, level-words}
+use Rattle.state.specs.Layout.{row, constantOf, runAt, upvalueOf, codeFrom, codeEnd, runsFrom, runsEnd, chunkAt, ctxAt, upvalues-place, upvalue-count-place, constants-place, constant-count-place, name-place, arity-place, level-words}
 use Rattle.state.proofs.Laws.{row-cong, length-row}
-use Rattle.writer.specs.Put.{Put, stretch, byte-at, constant-at, head-bytes}
+use Rattle.writer_bytes.specs.Put.{stretch, byte-at}
+use Rattle.writer_constants.specs.Constants.{constant-at}
+use Rattle.writer.specs.Put.{Put, head-bytes}
 
 -- a stretch is a row of the level
 stretch-row : {A : Type 0} (g : ℕ → A) (from n : ℕ) → stretch g from n ≡ row (λ i. g (from + i)) n

@@ -1,2 +1,2 @@
--- What the contracts of this crate cite: what the output holds, and what is put.
+-- What the contracts of this crate cite.
 pub mod Put

@@ -1,20 +1,15 @@
 -- `put_function`: head, constants, runs, the mark of the code and the code.
-use Prim.Native.Nat.{ℕ, _+_, _*_}
 use Rattle.state.specs.Layout.{runAt}
-use Rattle.writer.specs.Put.{constant-at}
-use Rattle.writer.proofs.Padding.{put-then, head-next, constants-next, runs-next}
+use Rattle.writer_constants.specs.Constants.{constant-at}
+use Rattle.writer_bytes.proofs.Padding.{put-then}
+use Rattle.writer_runs.proofs.Rows.{runs-next}
+use Rattle.writer_constants.proofs.Rows.{constants-next}
+use Rattle.writer.proofs.Padding.{head-next}
 use Rattle.writer.proofs.Records.{as-function}
 use native.Mathlib.Omega.{arith}
 use borrow.Author.Needs.{needs}
 use Rattle.writer.proofs.put_function.Statement.{statement}
 use Rattle.writer.proofs.put_function.Tie as tie
-use Rattle.writer.proofs.put_function.Reads as reads
-use Rattle.writer.proofs.put_function.Lts as lts
-use Rattle.writer.proofs.put_code.Reads as put-code-reads
-use Rattle.writer.proofs.put_constants.Reads as put-constants-reads
-use Rattle.writer.proofs.put_head.Reads as put-head-reads
-use Rattle.writer.proofs.put_mark.Reads as put-mark-reads
-use Rattle.writer.proofs.put_runs.Reads as put-runs-reads
 
 mul-base : tie.Need-mul-base
 mul-base c = search needs

@@ -1,15 +1,11 @@
 -- `put_head`: the mark and six numbers.
 use Rattle.rules.specs.Base.{le}
 use Rattle.writer.specs.Put.{head-bytes}
-use Rattle.writer.proofs.Padding.{put-then, le-next}
+use Rattle.writer_bytes.proofs.Padding.{put-then, le-next}
 use native.Mathlib.Omega.{arith}
 use borrow.Author.Needs.{needs}
 use Rattle.writer.proofs.put_head.Statement.{statement}
 use Rattle.writer.proofs.put_head.Tie as tie
-use Rattle.writer.proofs.put_head.Reads as reads
-use Rattle.writer.proofs.put_head.Lts as lts
-use Rattle.writer.proofs.put_le.Reads as put-le-reads
-use Rattle.writer.proofs.put_mark.Reads as put-mark-reads
 
 put-mark-requires : tie.Need-put-mark-requires
 put-mark-requires c κs = search needs

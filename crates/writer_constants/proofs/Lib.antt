@@ -1,0 +1,2 @@
+-- Laws of constants, open to the crate that puts functions.
+pub mod Rows

@@ -1,0 +1,2 @@
+-- Laws of runs, open to the crate that puts functions.
+pub mod Rows
