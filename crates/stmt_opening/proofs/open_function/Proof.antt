@@ -1,8 +1,8 @@
 -- `open_function` meets its contract. Assumes nothing.
-use Rattle.stmt_functions.proofs.Opening.{too-many, first-stop, first-wf, params-last, params-there}
+use Rattle.stmt_opening.proofs.Opening.{too-many, first-stop, first-wf, params-last, params-there}
 use borrow.Author.Needs.{needs}
-use Rattle.stmt_functions.proofs.open_function.Statement.{statement}
-use Rattle.stmt_functions.proofs.open_function.Tie as tie
+use Rattle.stmt_opening.proofs.open_function.Statement.{statement}
+use Rattle.stmt_opening.proofs.open_function.Tie as tie
 
 add-u16-at : tie.Need-add-u16-at
 add-u16-at c = search needs

@@ -1,8 +1,8 @@
 -- `declare_named` meets its contract. Assumes nothing.
-use Rattle.stmt_functions.proofs.Names.{named-again, named-full, named-new}
+use Rattle.stmt_opening.proofs.Names.{named-again, named-full, named-new}
 use borrow.Author.Needs.{needs}
-use Rattle.stmt_functions.proofs.declare_named.Statement.{statement}
-use Rattle.stmt_functions.proofs.declare_named.Tie as tie
+use Rattle.stmt_opening.proofs.declare_named.Statement.{statement}
+use Rattle.stmt_opening.proofs.declare_named.Tie as tie
 
 declare-local-requires : tie.Need-declare-local-requires
 declare-local-requires c κs = search needs

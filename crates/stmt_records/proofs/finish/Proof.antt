@@ -3,9 +3,9 @@ use Prim.Native.Nat.{ℕ, _-_, _+_}
 use native.Mathlib.Omega.{arith}
 use lib.Seq.{getD-set-other}
 use borrow.Author.Needs.{needs, below-set}
-use Rattle.stmt_functions.proofs.Records.{filed}
-use Rattle.stmt_functions.proofs.finish.Statement.{statement}
-use Rattle.stmt_functions.proofs.finish.Tie as tie
+use Rattle.stmt_records.proofs.Records.{filed}
+use Rattle.stmt_records.proofs.finish.Statement.{statement}
+use Rattle.stmt_records.proofs.finish.Tie as tie
 use Rattle.state.specs.Layout.{image-at}
 
 slice-read-long : tie.Need-slice-read-long

@@ -24,8 +24,8 @@ use Rattle.steps.proofs.Views.{ahead-kept}
 use Rattle.step_scopes.proofs.Scopes.{entered}
 use Rattle.steps.proofs.Monad.{regroup}
 use Rattle.stmt_output_laws.specs.Parts.{open-function}
-use Rattle.stmt_functions.specs.Functions.{names-at, NamesThere, FunHead, declare-named, Locally, NamedAs, Named, ParamsDeclared, Inside, FunctionOpenedAs, FunctionOpened}
-use Rattle.stmt_functions.proofs.Names.{kept-on, named-on, named-stop}
+use Rattle.stmt_opening.specs.Opening.{names-at, NamesThere, FunHead, declare-named, Locally, NamedAs, Named, ParamsDeclared, Inside, FunctionOpenedAs, FunctionOpened}
+use Rattle.stmt_opening.proofs.Names.{kept-on, named-on, named-stop}
 use Rattle.steps.specs.declared.Why.{Why}
 use Rattle.steps.specs.Why.{too-many-params, refusal-of}
 

@@ -1,8 +1,8 @@
 -- `slot_zero` meets its contract. Assumes nothing.
 use native.Mathlib.Omega.{arith}
-use Rattle.stmt_functions.proofs.Names.{method-slot, function-slot}
-use Rattle.stmt_functions.proofs.slot_zero.Statement.{statement}
-use Rattle.stmt_functions.proofs.slot_zero.Tie as tie
+use Rattle.stmt_opening.proofs.Names.{method-slot, function-slot}
+use Rattle.stmt_opening.proofs.slot_zero.Statement.{statement}
+use Rattle.stmt_opening.proofs.slot_zero.Tie as tie
 
 returns : tie.Need-returns
 returns c = method-slot (c .before .args .kind) (c .before .args .name) (omega arith)

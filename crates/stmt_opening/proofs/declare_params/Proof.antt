@@ -3,10 +3,10 @@
 use mathlib.Core.Path.{_≡_, refl}
 use native.Mathlib.Omega.{arith}
 use lib.ListN.{length}
-use Rattle.stmt_functions.proofs.Names.{Walk, walk-start, walk-there, walk-stop, walk-step, walk-done}
+use Rattle.stmt_opening.proofs.Names.{Walk, walk-start, walk-there, walk-stop, walk-step, walk-done}
 use borrow.Author.Needs.{needs}
-use Rattle.stmt_functions.proofs.declare_params.Statement.{statement}
-use Rattle.stmt_functions.proofs.declare_params.Tie as tie
+use Rattle.stmt_opening.proofs.declare_params.Statement.{statement}
+use Rattle.stmt_opening.proofs.declare_params.Tie as tie
 
 abbrev Inv-loop : tie.InvT-loop
 Inv-loop tree at count t₀ level span next₀ left₀ t next left = (Walk tree level span count at t₀ t next left) × (length t ≡ length t₀)

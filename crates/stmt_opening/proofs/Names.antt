@@ -22,7 +22,7 @@ use Rattle.steps.proofs.Views.{view-locals}
 use Rattle.rules.proofs.Slips as slips
 use Rattle.rules.proofs.Slips.{enough-locals, already-declared}
 use Rattle.steps.proofs.Monad.{regroup}
-use Rattle.stmt_functions.specs.Functions.{names-at, NamesThere, declare-named, Locally, NamedAs, Named, ParamsDeclared}
+use Rattle.stmt_opening.specs.Opening.{names-at, NamesThere, declare-named, Locally, NamedAs, Named, ParamsDeclared}
 use Rattle.rules.specs.declared.Refusal.{Refusal}
 use Rattle.steps.specs.declared.Why.{Why}
 use Rattle.steps.specs.Why.{already-defined, too-many-locals, refusal-of}

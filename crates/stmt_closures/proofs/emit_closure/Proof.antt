@@ -1,10 +1,10 @@
 -- `emit_closure` meets its contract. Assumes nothing.
 use mathlib.Core.Path.{refl}
 use Rattle.steps.proofs.Steps.{went}
-use Rattle.stmt_functions.proofs.Closing.{closure-first, closure-second, closure-last}
+use Rattle.stmt_closures.proofs.Closures.{closure-first, closure-second, closure-last}
 use borrow.Author.Needs.{needs}
-use Rattle.stmt_functions.proofs.emit_closure.Statement.{statement}
-use Rattle.stmt_functions.proofs.emit_closure.Tie as tie
+use Rattle.stmt_closures.proofs.emit_closure.Statement.{statement}
+use Rattle.stmt_closures.proofs.emit_closure.Tie as tie
 
 emit-op-requires : tie.Need-emit-op-requires
 emit-op-requires c κs = search needs
