@@ -7,8 +7,8 @@
  * the number is 0 the pointer may be null. Nothing is kept after the call, and nothing is written outside what was lent to be written.
  *
  * The stack. puffbramble_read takes up to 64 KB, by the depth of the file's records (41 KB was seen at depth 128), puffbramble_compile up to
- * 256 KB (181 KB was seen at depth 128; `tools/stack` measures it). puffbramble_check, puffbramble_code_answer and puffbramble_code_of take up to 1.2 MB, whatever the image
- * (1,044 KB was seen): their tables are local.
+ * 256 KB (181 KB was seen at depth 128; `tools/stack` measures it). puffbramble_check, puffbramble_code_answer, puffbramble_code_of and
+ * puffbramble_directory_of take up to 1.2 MB, whatever the image (1,044 KB was seen): their tables are local.
  * Every function may be called from several threads at once.
  *
  * From Rust, declare the same in an `extern "C"` block: pb_answer is a `#[repr(C)] struct` of five u64, size_t is usize.
@@ -27,11 +27,14 @@ extern "C" {
  *
  *   number  what the answer is: 0 accepted, else a refusal (01's table; docs/PROMISES.md says when each is given)
  *   at      3, 4, 5: the place in the tree file, in bytes; 10 to 23, and 0 from puffbramble_span_of: the span's start; 0 from
- *           puffbramble_code_of: the code's place in the image
- *   end     10 to 23, and 0 from puffbramble_span_of: the span's end; 0 from puffbramble_code_of: the place behind the code
+ *           puffbramble_code_of and puffbramble_code_through: the code's place in the image; 0 from puffbramble_directory_of: the
+ *           directory's
+ *   end     10 to 23, and 0 from puffbramble_span_of: the span's end; 0 from puffbramble_code_of, puffbramble_code_through and
+ *           puffbramble_directory_of: the place behind the code, or the directory
  *   name    10, 11, 12: the number of the name
  *   length  0 from the compiler: the length of the image; 31: the length that is needed; 0 from puffbramble_check: the number of instructions;
- *           0 from puffbramble_code_of: the length of the code
+ *           0 from puffbramble_code_of and puffbramble_code_through: the length of the code; 0 from puffbramble_directory_of: how many
+ *           functions it tells of
  */
 typedef struct {
     uint64_t number;
@@ -73,6 +76,7 @@ enum pb_number {
 /* Compiles a tree file to an image.
  *
  *   tree, tree_len      the file, in bytes; it is not changed
+ *   options             what is asked for beside the image: PB_DIRECTORY, or 0; the other bits say nothing
  *   out, out_len        where the image goes: PB_OUTPUT_BYTES(tree_len) is room enough for every file
  *   table, table_words  a work area: at least PB_TABLE_WORDS words, or the answer is 1; more changes nothing
  *   code, code_len      a work area for the code of the functions that are open: PB_CODE_BYTES(tree_len) is enough
@@ -91,7 +95,11 @@ enum pb_number {
  *   30           code or spans too short, or more than 262,144 bytes of code are open
  *   31           out is too short for the image: the length needed is in `length`
  *   0            compiled: the image's length is in `length`
- * After 0, out has the image and then zeros; after any other answer only zeros. The work areas end all zero, whatever the answer. */
+ * After 0, out has the image and then zeros; after any other answer only zeros. The work areas end all zero, whatever the answer.
+ *
+ * With PB_DIRECTORY the image ends in a directory (docs/FORMATS.md): 6 bytes and 4 for each function, which the lengths of 0 and 31 count. The bytes
+ * before it are the image without it. */
+#define PB_DIRECTORY ((uint32_t)2)
 #define PB_TABLE_WORDS ((size_t)17412)
 #define PB_OUTPUT_BYTES(tree_len) (17 * (size_t)(tree_len))
 #define PB_CODE_BYTES(tree_len) ((size_t)(tree_len) < 262144 ? (size_t)(tree_len) : (size_t)262144)
@@ -100,8 +108,8 @@ enum pb_number {
 #define PB_FIRST_CODE_BYTES(tree_len) ((size_t)(tree_len) / 3 + 64 < 262144 ? (size_t)(tree_len) / 3 + 64 : (size_t)262144)
 #define PB_FIRST_SPAN_WORDS(tree_len) (3 * PB_FIRST_CODE_BYTES(tree_len))
 
-pb_answer puffbramble_compile(const uint8_t *tree, size_t tree_len, uint8_t *out, size_t out_len, uint64_t *table, size_t table_words,
-                              uint8_t *code, size_t code_len, uint32_t *spans, size_t spans_words);
+pb_answer puffbramble_compile(const uint8_t *tree, size_t tree_len, uint32_t options, uint8_t *out, size_t out_len, uint64_t *table,
+                              size_t table_words, uint8_t *code, size_t code_len, uint32_t *spans, size_t spans_words);
 
 /* Reads a tree file without compiling it.
  *
@@ -134,6 +142,25 @@ pb_answer puffbramble_code_answer(const uint8_t *image, size_t image_len, size_t
  * image[at] to image[end - 1]. Or 40 where the bytes are no image, or 41 where it has no function k: there `at`, `end` and `length` are 0. Each call
  * checks the whole image. */
 pb_answer puffbramble_code_of(const uint8_t *image, size_t image_len, size_t k);
+
+/* Where an image's directory stands.
+ *
+ *   image, image_len   the image, in bytes
+ *
+ * Answers 40 where the bytes are no image; else 0. Where the image has a directory, its place is in `at`, which is never 0 then, the place behind
+ * it, the image's end, in `end`, and the number of its functions in `length`; where it has none all are 0. Each call checks the whole image. */
+pb_answer puffbramble_directory_of(const uint8_t *image, size_t image_len);
+
+/* The code of a function through the directory: what puffbramble_code_of answers, from the directory's entry and that function's record alone.
+ *
+ *   image, image_len   an image that was checked, in bytes
+ *   place              its directory's place, from puffbramble_directory_of
+ *   k                  the function's number, from 0
+ *
+ * For such an image and place the answer is that of puffbramble_code_of (proved). For all other bytes and places it is 0 with a stretch that lies in
+ * the image, 40 where no directory stands there that ends where the image does or its entry leads to no function's record, or 41 where it has no
+ * entry k: nothing is read outside the image, and nothing is trusted. */
+pb_answer puffbramble_code_through(const uint8_t *image, size_t image_len, size_t place, size_t k);
 
 /* The span of one code byte.
  *

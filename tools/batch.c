@@ -35,10 +35,22 @@ static void put_u32(FILE *out, uint64_t n) {
     if (fwrite(b, 1, 4, out) != 4) die("the answers cannot be written");
 }
 
-static void put_answer(FILE *out, pb_answer a, const uint8_t *image, size_t length) {
+static void put_fields(FILE *out, pb_answer a) {
     put_u32(out, a.number), put_u32(out, a.at), put_u32(out, a.end), put_u32(out, a.name), put_u32(out, a.length);
+}
+
+static void put_bytes(FILE *out, const uint8_t *bytes, size_t length) {
     put_u32(out, length);
-    if (length > 0 && fwrite(image, 1, length, out) != length) die("the answers cannot be written");
+    if (length > 0 && fwrite(bytes, 1, length, out) != length) die("the answers cannot be written");
+}
+
+static void put_answer(FILE *out, pb_answer a, const uint8_t *image, size_t length) {
+    put_fields(out, a), put_bytes(out, image, length);
+}
+
+/* With the fields that later requests fill, and the list of counts, which is empty. */
+static void put_full(FILE *out, pb_answer a, const uint8_t *image, size_t length) {
+    put_fields(out, a), put_u32(out, 0), put_u32(out, 0), put_bytes(out, image, length), put_u32(out, 0);
 }
 
 /* The checker on each image. */
@@ -46,6 +58,21 @@ static void check_all(source *in, FILE *out) {
     while (in->at < in->length) {
         size_t length = take_u32(in);
         put_answer(out, puffbramble_check(take(in, length), length), NULL, 0);
+    }
+}
+
+/* The code of one function of each image, through the directory where there is one. */
+static void look_up_all(source *in, FILE *out) {
+    while (in->at < in->length) {
+        size_t k = take_u32(in), length = take_u32(in);
+        const uint8_t *image = take(in, length);
+        pb_answer directory = puffbramble_directory_of(image, length), a = puffbramble_code_of(image, length, k);
+        if (directory.at > 0) {
+            pb_answer through = puffbramble_code_through(image, length, directory.at, k);
+            if (memcmp(&through, &a, sizeof a) != 0) die("the directory and the walk differ");
+        }
+        if (a.end > length || a.at > a.end) die("a code outside its image");
+        put_answer(out, a, image + a.at, a.end - a.at);
     }
 }
 
@@ -81,8 +108,11 @@ static int all_zero(const void *memory, size_t bytes) {
 
 /* One case. The areas hold something before the call, and what they hold after it is looked at. Plenty is what the header names for a file of
  * this length: filling and clearing more would take longer than most trees do. */
-static void compile_one(source *in, FILE *out, areas *a) {
-    size_t code = take_u32(in), spans = take_u32(in), room = take_u32(in), length = take_u32(in);
+static void compile_one(source *in, FILE *out, areas *a, int full) {
+    uint32_t options = full ? take_u32(in) : 0;
+    size_t code = take_u32(in), spans = take_u32(in), room = take_u32(in);
+    if (full) take_u32(in);
+    size_t length = take_u32(in);
     const uint8_t *tree = take(in, length);
     if (code == PLENTY) code = PB_CODE_BYTES(length);
     if (spans == PLENTY) spans = PB_SPAN_WORDS(length);
@@ -91,23 +121,32 @@ static void compile_one(source *in, FILE *out, areas *a) {
     uint8_t *o = filled(&a->out, room), *c = filled(&a->code, code);
     uint64_t *t = filled(&a->table, table_bytes);
     uint32_t *s = filled(&a->spans, span_bytes);
-    pb_answer r = puffbramble_compile(tree, length, o, room, t, PB_TABLE_WORDS, c, code, s, spans);
+    pb_answer r = puffbramble_compile(tree, length, options, o, room, t, PB_TABLE_WORDS, c, code, s, spans);
     if (!all_zero(t, table_bytes) || !all_zero(c, code) || !all_zero(s, span_bytes)) die("a work area is not left zero");
     size_t image = r.number == 0 ? r.length : 0;
     if (image > room || !all_zero(o + image, room - image)) die("the output behind the image is not left zero");
-    put_answer(out, r, o, image);
+    if (full) put_full(out, r, o, image);
+    else put_answer(out, r, o, image);
 }
 
 static void compile_all(source *in, FILE *out) {
     areas a = {0};
-    while (in->at < in->length) compile_one(in, out, &a);
+    while (in->at < in->length) compile_one(in, out, &a, 0);
+}
+
+/* Cases that say what is asked for too. */
+static void compile_full(source *in, FILE *out) {
+    areas a = {0};
+    while (in->at < in->length) compile_one(in, out, &a, 1);
 }
 
 int main(int argc, char **argv) {
     void (*all)(source *, FILE *) = compile_all;
     if (argc == 4 && strcmp(argv[1], "--images") == 0) all = check_all;
     else if (argc == 4 && strcmp(argv[1], "--read") == 0) all = read_all;
-    else if (argc != 3) die("usage: batch [--images | --read] INPUT ANSWERS");
+    else if (argc == 4 && strcmp(argv[1], "--full") == 0) all = compile_full;
+    else if (argc == 4 && strcmp(argv[1], "--lookup") == 0) all = look_up_all;
+    else if (argc != 3) die("usage: batch [--full | --images | --lookup | --read] INPUT ANSWERS");
     bytes file = read_file(argv[argc - 2]);
     source in = {file.bytes, file.length, 0};
     FILE *out = fopen(argv[argc - 1], "wb");

@@ -18,7 +18,7 @@ static uint32_t number(const uint8_t *at, int width) {
 /* ## Compile */
 
 /* Lends areas of the sizes that are enough for every file, and compiles. The image is the output's first `length` bytes. */
-static pb_answer compile(bytes tree, uint8_t **image) {
+static pb_answer compile(bytes tree, uint32_t options, uint8_t **image) {
     size_t room = PB_OUTPUT_BYTES(tree.length), code = PB_CODE_BYTES(tree.length), spans = PB_SPAN_WORDS(tree.length);
     uint64_t *table = lent(8 * PB_TABLE_WORDS);
     uint8_t *code_area = lent(code);
@@ -26,7 +26,7 @@ static pb_answer compile(bytes tree, uint8_t **image) {
     *image = lent(room);
     printf("tree      %zu bytes\n", tree.length);
     printf("lent      output %zu bytes, table %zu words of 8, code %zu bytes, spans %zu words of 4\n", room, PB_TABLE_WORDS, code, spans);
-    pb_answer a = puffbramble_compile(tree.bytes, tree.length, *image, room, table, PB_TABLE_WORDS, code_area, code, span_area, spans);
+    pb_answer a = puffbramble_compile(tree.bytes, tree.length, options, *image, room, table, PB_TABLE_WORDS, code_area, code, span_area, spans);
     free(table), free(code_area), free(span_area);
     return a;
 }
@@ -73,9 +73,9 @@ typedef struct {
     size_t code_length;
 } function;
 
-/* Where the code of function k stands, where there is one. */
-static pb_answer code_of(const uint8_t *image, size_t length, size_t k) {
-    pb_answer a = puffbramble_code_of(image, length, k);
+/* Where the code of function k stands, where there is one: through the directory at its place, or by a walk over the functions where that is 0. */
+static pb_answer code_of(const uint8_t *image, size_t length, size_t directory, size_t k) {
+    pb_answer a = directory > 0 ? puffbramble_code_through(image, length, directory, k) : puffbramble_code_of(image, length, k);
     if (a.number != 0) {
         printf("code      %llu: %s\n", (unsigned long long)a.number, REFUSALS[a.number]);
         exit(1);
@@ -84,9 +84,9 @@ static pb_answer code_of(const uint8_t *image, size_t length, size_t k) {
 }
 
 /* Function k. Its record ends with its code, so it begins where the code before it ends, and its runs stand before the code's mark. */
-static function function_of(const uint8_t *image, size_t length, size_t k) {
-    pb_answer code = code_of(image, length, k);
-    const uint8_t *at = image + (k == 0 ? 6 : code_of(image, length, k - 1).end);
+static function function_of(const uint8_t *image, size_t length, size_t directory, size_t k) {
+    pb_answer code = code_of(image, length, directory, k);
+    const uint8_t *at = image + (k == 0 ? 6 : code_of(image, length, directory, k - 1).end);
     function f = {number(at + 2, 2), at[4], number(at + 5, 2), number(at + 9, 4), NULL, image + code.at, code.length};
     f.run = f.code - 2 - 11 * (size_t)f.runs;
     return f;
@@ -114,8 +114,14 @@ static void print_image(bytes tree, const uint8_t *image, size_t length) {
     printf("check     %llu: %llu instructions\n", (unsigned long long)checked.number, (unsigned long long)checked.length);
     printf("image");
     print_hex(image, length);
+    pb_answer directory = puffbramble_directory_of(image, length);
+    if (directory.at > 0) {
+        printf("directory at %llu, offsets", (unsigned long long)directory.at);
+        for (uint64_t k = 0; k < directory.length; k++) printf(" %u", number(image + directory.at + 6 + 4 * k, 4));
+        printf("\n");
+    }
     for (uint32_t k = 0; k < number(image + 2, 4); k++) {
-        function f = function_of(image, length, k);
+        function f = function_of(image, length, directory.at, k);
         printf("function  %u ", k), print_name(tree, f.name);
         printf(", %u parameters, %u captured, code of %zu bytes", f.arity, f.upvalues, f.code_length);
         print_hex(f.code, f.code_length);
@@ -123,7 +129,7 @@ static void print_image(bytes tree, const uint8_t *image, size_t length) {
 }
 
 static int print_span(const uint8_t *image, size_t length, const char *k, const char *offset) {
-    function f = function_of(image, length, strtoul(k, NULL, 10));
+    function f = function_of(image, length, puffbramble_directory_of(image, length).at, strtoul(k, NULL, 10));
     size_t at = strtoul(offset, NULL, 10);
     pb_answer a = span_of(f, at);
     if (a.number != 0) {
@@ -141,11 +147,17 @@ static void write_image(const char *path, const uint8_t *image, size_t length) {
 }
 
 int main(int argc, char **argv) {
+    uint32_t options = 0;
+    if (argc > 2 && strcmp(argv[2], "--directory") == 0) {
+        options = PB_DIRECTORY;
+        memmove(argv + 2, argv + 3, (size_t)(argc - 3) * sizeof *argv);
+        argc--;
+    }
     int byte = argc == 5 && strcmp(argv[2], "--byte") == 0, keep = argc == 4 && strcmp(argv[2], "--image") == 0;
-    if (argc != 2 && !byte && !keep) die("usage: show TREE [--image FILE | --byte K AT]");
+    if (argc != 2 && !byte && !keep) die("usage: show TREE [--directory] [--image FILE | --byte K AT]");
     bytes tree = read_file(argv[1]);
     uint8_t *image;
-    pb_answer a = compile(tree, &image);
+    pb_answer a = compile(tree, options, &image);
     print_answer(tree, a);
     if (a.number != 0) return 1;
     if (byte) return print_span(image, a.length, argv[3], argv[4]);

@@ -106,7 +106,7 @@ __attribute__((noinline)) static size_t reading(void) {
 
 __attribute__((noinline)) static size_t compiling(void) {
     paint();
-    pb_answer a = puffbramble_compile(tree, length, out, PB_OUTPUT_BYTES(length), table, PB_TABLE_WORDS, code, PB_CODE_BYTES(length), spans,
+    pb_answer a = puffbramble_compile(tree, length, 0, out, PB_OUTPUT_BYTES(length), table, PB_TABLE_WORDS, code, PB_CODE_BYTES(length), spans,
                                       PB_SPAN_WORDS(length));
     if (a.number != 0) fprintf(stderr, "stack: a tree is refused: %d at %d\n", (int)a.number, (int)a.at), exit(1);
     return taken(frame());

@@ -1,6 +1,8 @@
 //! An image that was checked once, and what is looked up in it.
 
-use crate::{check, code_of, place_of, span_of, Refusal, Run, Span};
+use std::ops::Range;
+
+use crate::{check, code_through, directory_of, place_of, span_of, Refusal, Run, Span};
 
 /// The bytes of a run's record.
 const RUN: usize = 11;
@@ -10,6 +12,7 @@ const RUN: usize = 11;
 pub struct Image {
     bytes: Vec<u8>,
     instructions: u64,
+    directory: Option<usize>,
 }
 
 /// One function of an image, as its record has it.
@@ -27,7 +30,8 @@ impl Image {
     /// Checks the bytes.
     pub fn new(bytes: Vec<u8>) -> Result<Self, Refusal> {
         let instructions = check(&bytes)?;
-        Ok(Self { bytes, instructions })
+        let directory = directory_of(&bytes)?;
+        Ok(Self { bytes, instructions, directory })
     }
 
     pub fn bytes(&self) -> &[u8] {
@@ -43,12 +47,25 @@ impl Image {
         self.number(2, 4) as usize
     }
 
-    /// Function `k`, or `NoSuchFunction`. Each lookup checks the bytes anew.
+    /// Whether a directory stands at the image's end.
+    pub fn has_directory(&self) -> bool {
+        self.directory.is_some()
+    }
+
+    /// Where the code of function `k` stands: through the directory, or where there is none by a walk that checks the bytes anew.
+    fn place(&self, k: usize) -> Result<Range<usize>, Refusal> {
+        match self.directory {
+            Some(place) => code_through(&self.bytes, place, k),
+            None => place_of(&self.bytes, k),
+        }
+    }
+
+    /// Function `k`, or `NoSuchFunction`.
     pub fn function(&self, k: usize) -> Result<Function<'_>, Refusal> {
-        let code = place_of(&self.bytes, k)?;
+        let code = self.place(k)?;
         // a record ends with its code, so function `k` begins where the code before it ends
         let begin = match k.checked_sub(1) {
-            Some(before) => place_of(&self.bytes, before)?.end,
+            Some(before) => self.place(before)?.end,
             None => 6,
         };
         // the runs stand before the code and its mark of two bytes
@@ -65,7 +82,8 @@ impl Image {
 
     /// The code of function `k`: that stretch of the image's own bytes.
     pub fn code(&self, k: usize) -> Result<&[u8], Refusal> {
-        code_of(&self.bytes, k)
+        // the place lies in the image: the contract says so
+        Ok(self.bytes.get(self.place(k)?).unwrap_or(&[]))
     }
 
     /// Where in the text a code byte of function `k` comes from: `NoSuchFunction`, `NoSuchByte`, or the span.

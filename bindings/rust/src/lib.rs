@@ -1,8 +1,8 @@
 //! Puffbramble for Rust programs: tree files to images, images checked, and the lookups, over the functions of include/puffbramble.h.
 //! What they answer is proved; this crate lends them memory and gives the answers types. Nothing here panics, whatever the bytes.
 //!
-//! The stack: `check`, `code_answer`, `code_of` and what an `Image` is asked for take up to 1.2 MB of it, so a thread that calls them needs 2 MB,
-//! Rust's default; the others take up to 256 KB.
+//! The stack: `check`, `code_answer`, `code_of`, `directory_of` and what an `Image` is asked for take up to 1.2 MB of it, so a thread that calls them
+//! needs 2 MB, Rust's default; the others take up to 256 KB.
 //!
 //! The archive is x86-64's: elsewhere this crate is empty.
 #![cfg(target_arch = "x86_64")]
@@ -71,26 +71,44 @@ impl Areas {
     }
 }
 
+/// What is asked for beside the image.
+#[derive(Clone, Copy, Debug, Default, Eq, PartialEq)]
+pub struct Options {
+    /// The image ends in a directory.
+    pub directory: bool,
+}
+
+impl Options {
+    fn bits(self) -> u32 {
+        if self.directory { 2 } else { 0 }
+    }
+}
+
 /// Compiles a tree file to an image, in memory of its own: in the first room, and where that is too small in one that is enough. Where
 /// the first is enough, the other gives the same.
 pub fn compile(tree: &[u8]) -> Result<Vec<u8>, Refusal> {
-    match compile_with(tree, Sizes::first(tree.len())) {
-        Err(Refusal::CodeFull | Refusal::OutFull { .. }) => compile_with(tree, Sizes::enough(tree.len())),
+    compile_with(tree, Options::default())
+}
+
+/// The same, with what is asked for beside the image.
+pub fn compile_with(tree: &[u8], options: Options) -> Result<Vec<u8>, Refusal> {
+    match in_room(tree, options, Sizes::first(tree.len())) {
+        Err(Refusal::CodeFull | Refusal::OutFull { .. }) => in_room(tree, options, Sizes::enough(tree.len())),
         answer => answer,
     }
 }
 
-fn compile_with(tree: &[u8], sizes: Sizes) -> Result<Vec<u8>, Refusal> {
+fn in_room(tree: &[u8], options: Options, sizes: Sizes) -> Result<Vec<u8>, Refusal> {
     let mut areas = Areas::new(sizes);
-    let length = compile_in(tree, &mut areas)?.len();
+    let length = compile_in(tree, options, &mut areas)?.len();
     let mut image = areas.output;
     image.truncate(length);
     Ok(image)
 }
 
 /// Compiles a tree file to an image in the areas that are lent.
-pub fn compile_in<'a>(tree: &[u8], areas: &'a mut Areas) -> Result<&'a [u8], Refusal> {
-    let answer = raw::compile(tree, areas);
+pub fn compile_in<'a>(tree: &[u8], options: Options, areas: &'a mut Areas) -> Result<&'a [u8], Refusal> {
+    let answer = raw::compile(tree, options.bits(), areas);
     Refusal::of(answer)?;
     // the length is never above the output's: the contract says that the output holds the image
     Ok(usize::try_from(answer.length).ok().and_then(|length| areas.output.get(..length)).unwrap_or(&[]))
@@ -121,6 +139,19 @@ pub fn code_of(image: &[u8], k: usize) -> Result<&[u8], Refusal> {
 /// Where the code of function `k` stands.
 pub(crate) fn place_of(image: &[u8], k: usize) -> Result<Range<usize>, Refusal> {
     let answer = raw::code_of(image, k);
+    Refusal::of(answer).map(|()| answer.at as usize..answer.end as usize)
+}
+
+/// Where the directory of an image stands, or none: `ImageRefused` where these bytes are no image. It checks the whole image.
+pub fn directory_of(image: &[u8]) -> Result<Option<usize>, Refusal> {
+    let answer = raw::directory_of(image);
+    Refusal::of(answer).map(|()| (answer.at > 0).then_some(answer.at as usize))
+}
+
+/// Where the code of function `k` stands, from the directory's entry and that function's record alone. For an image that was checked and its directory's
+/// place it is what `code_of` gives; for other bytes and places a stretch of the bytes, `ImageRefused` or `NoSuchFunction`.
+pub fn code_through(image: &[u8], place: usize, k: usize) -> Result<Range<usize>, Refusal> {
+    let answer = raw::code_through(image, place, k);
     Refusal::of(answer).map(|()| answer.at as usize..answer.end as usize)
 }
 

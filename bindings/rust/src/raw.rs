@@ -16,6 +16,7 @@ extern "C" {
     fn puffbramble_compile(
         tree: *const u8,
         tree_len: usize,
+        options: u32,
         out: *mut u8,
         out_len: usize,
         table: *mut u64,
@@ -29,16 +30,19 @@ extern "C" {
     fn puffbramble_check(image: *const u8, image_len: usize) -> Answer;
     fn puffbramble_code_answer(image: *const u8, image_len: usize, k: usize) -> Answer;
     fn puffbramble_code_of(image: *const u8, image_len: usize, k: usize) -> Answer;
+    fn puffbramble_directory_of(image: *const u8, image_len: usize) -> Answer;
+    fn puffbramble_code_through(image: *const u8, image_len: usize, place: usize, k: usize) -> Answer;
     fn puffbramble_span_of(words: *const u32, words_len: usize, offset: usize) -> Answer;
 }
 
-pub fn compile(tree: &[u8], areas: &mut Areas) -> Answer {
+pub fn compile(tree: &[u8], options: u32, areas: &mut Areas) -> Answer {
     let Areas { table, code, spans, output } = areas;
     // Five slices that do not overlap: four are borrowed to be changed.
     unsafe {
         puffbramble_compile(
             tree.as_ptr(),
             tree.len(),
+            options,
             output.as_mut_ptr(),
             output.len(),
             table.as_mut_ptr(),
@@ -65,6 +69,14 @@ pub fn code_answer(image: &[u8], k: usize) -> Answer {
 
 pub fn code_of(image: &[u8], k: usize) -> Answer {
     unsafe { puffbramble_code_of(image.as_ptr(), image.len(), k) }
+}
+
+pub fn directory_of(image: &[u8]) -> Answer {
+    unsafe { puffbramble_directory_of(image.as_ptr(), image.len()) }
+}
+
+pub fn code_through(image: &[u8], place: usize, k: usize) -> Answer {
+    unsafe { puffbramble_code_through(image.as_ptr(), image.len(), place, k) }
 }
 
 pub fn span_of(runs: &[Run], offset: usize) -> Answer {

@@ -16,6 +16,7 @@ fn main() {
     on_x86::checks();
     on_x86::work_short();
     on_x86::p2();
+    on_x86::directory();
     on_x86::example();
     on_x86::texts();
     on_x86::damaged();
@@ -81,13 +82,13 @@ mod on_x86 {
             };
             let want = if case.told.number == 0 { Ok(&case.image[..]) } else { Err(refusal(&case.told)) };
             let mut areas = Areas::new(sizes);
-            assert!(compile_in(&case.tree, &mut areas) == want, "{pack}.pack, case {k}: {:?} is wanted", case.told);
+            assert!(compile_in(&case.tree, Options::default(), &mut areas) == want, "{pack}.pack, case {k}: {:?} is wanted", case.told);
             if case.code.or(case.spans).or(case.output).is_none() {
                 assert!(
                     compile(&case.tree) == want.map(<[u8]>::to_vec),
                     "{pack}.pack, case {k}: not the same in memory of its own"
                 );
-                let first = compile_in(&case.tree, &mut Areas::new(Sizes::first(case.tree.len()))).is_ok();
+                let first = compile_in(&case.tree, Options::default(), &mut Areas::new(Sizes::first(case.tree.len()))).is_ok();
                 second += usize::from(want.is_ok() && !first);
             }
             let read_as = if (2..=5).contains(&case.told.number) { Err(refusal(&case.told)) } else { Ok(()) };
@@ -112,9 +113,10 @@ mod on_x86 {
             assert_eq!(code_answer(image.bytes(), functions - 1), Ok(()));
             assert_eq!(code_answer(image.bytes(), functions), Err(Refusal::NoSuchFunction));
             assert_eq!(image.code(functions), Err(Refusal::NoSuchFunction));
-            // the last function's code is the image's end, and the runs add up to it
+            // the last function's code is the image's end but for a directory, and the runs add up to it
             let code = image.code(functions - 1).expect("the script");
-            assert!(image.bytes().ends_with(code));
+            assert_eq!(Ok(code), code_of(image.bytes(), functions - 1));
+            assert!(image.has_directory() || image.bytes().ends_with(code));
             assert_eq!(image.span(functions - 1, code.len()), Err(Refusal::NoSuchByte));
             assert!(code.is_empty() || image.span(functions - 1, code.len() - 1).is_ok());
         }
@@ -125,12 +127,12 @@ mod on_x86 {
     pub fn work_short() {
         let all = usize::MAX;
         let mut areas = Areas::new(Sizes { table_words: all, code_bytes: all, span_words: all, output_bytes: all });
-        assert!(compile_in(&p2_tree(), &mut areas).is_ok());
+        assert!(compile_in(&p2_tree(), Options::default(), &mut areas).is_ok());
         for (table_words, want) in
             [(0, Err(Refusal::WorkShort)), (TABLE_WORDS - 1, Err(Refusal::WorkShort)), (TABLE_WORDS, Ok(()))]
         {
             let mut areas = Areas::new(Sizes { table_words, ..Sizes::enough(35) });
-            assert_eq!(compile_in(&p2_tree(), &mut areas).map(|_| ()), want);
+            assert_eq!(compile_in(&p2_tree(), Options::default(), &mut areas).map(|_| ()), want);
         }
     }
 
@@ -152,6 +154,23 @@ mod on_x86 {
         assert_eq!(image.span(0, 5), Err(Refusal::NoSuchByte));
         assert_eq!(image.span(1, 0), Err(Refusal::NoSuchFunction));
         println!("P2: as document 01 has it");
+    }
+
+    /// The directory of P2's image by the request's text; what goes through it is what the walk gives, and no other place is trusted.
+    pub fn directory() {
+        let plain = compile(&p2_tree()).expect("P2 is accepted");
+        let asked = compile_with(&p2_tree(), Options { directory: true }).expect("with a directory too");
+        assert_eq!(asked, [&plain[..], b"DX\x01\0\0\0\x06\0\0\0"].concat());
+        assert_eq!((directory_of(&plain), directory_of(&asked)), (Ok(None), Ok(Some(73))));
+        assert_eq!(directory_of(&asked[..82]), Err(Refusal::ImageRefused));
+        assert_eq!(code_through(&asked, 73, 0), Ok(68..73));
+        assert_eq!(code_through(&asked, 73, 1), Err(Refusal::NoSuchFunction));
+        for place in (0..=84).filter(|&place| place != 73).chain([usize::MAX]) {
+            assert_eq!(code_through(&asked, place, 0), Err(Refusal::ImageRefused), "place {place}");
+        }
+        let image = Image::new(asked).expect("an image");
+        assert_eq!((image.has_directory(), image.code(0)), (true, Ok(&[0x00, 0x00, 0x1B, 0x01, 0x24][..])));
+        println!("directory: as the request has it");
     }
 
     /// The rules of examples/, whose image is the Rust's.

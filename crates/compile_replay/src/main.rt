@@ -1,12 +1,14 @@
-// Replays the vectors for the compiler (tests/vectors/README.md has their form): each tree is compiled with what its vector lends, and the answer's
-// five numbers and every byte of the output are compared with the vector's. Written is how many agree; tests/rust has made what is expected.
+// Replays the vectors for the compiler (tests/vectors/README.md has their form): each tree is compiled with what its vector asks for and lends, and
+// the answer's five numbers and every byte of the output are compared with the vector's. Written is how many agree; tests/rust has made what is
+// expected.
 ghost use Rattle.io.specs.Counts.{Counts};
 use rules::Answer;
 use state::Table;
 use vectors::Found;
 
-// What a vector lends: more than there is here means plenty, and all that is here.
+// What a vector asks for, and what it lends: more than there is here means plenty, and all that is here.
 struct Lent {
+    options: u32,
     code: u32,
     spans: u32,
     output: u32,
@@ -26,12 +28,14 @@ struct Told {
 }
 
 fn lent_next() -> Next {
-    let Found::Is(code) = vectors::next() else {
+    let Found::Is(options) = vectors::next() else {
         return Next::End;
     };
+    let code = vectors::next_u32();
     let spans = vectors::next_u32();
     let output = vectors::next_u32();
     Next::Is(Lent {
+        options,
         code,
         spans,
         output,
@@ -121,6 +125,7 @@ fn same_output(out: &[u8], image: &[u8]) -> bool {
 }
 
 fn agrees(
+    options: u32,
     told: Told,
     tree: &[u8],
     image: &[u8],
@@ -129,7 +134,7 @@ fn agrees(
     code: &mut [u8],
     spans: &mut [u32],
 ) -> bool {
-    let a = entry::compile(tree, out, table, code, spans);
+    let a = entry::compile(tree, options, out, table, code, spans);
     if !same_answer(a, told) {
         return false;
     }
@@ -148,7 +153,16 @@ fn in_spans(
     spans: &mut [u32],
 ) -> bool {
     let n = least_words(lent.spans, spans);
-    agrees(told, tree, image, out, table, code, &mut spans[..n])
+    agrees(
+        lent.options,
+        told,
+        tree,
+        image,
+        out,
+        table,
+        code,
+        &mut spans[..n],
+    )
 }
 
 // What it lends of the code bytes.

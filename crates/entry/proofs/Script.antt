@@ -10,8 +10,8 @@ use Rattle.rules.specs.Tree.{Stmts}
 use Rattle.rules.specs.Reader.{got}
 use Rattle.rules.specs.Chunk.{ObjectFunction}
 use Rattle.rules.specs.Image.{join}
-use Rattle.rules.specs.Compiler.{Compiler, new, Outcome, ok, Compile, the, finish, compile-stmts, compile-script, compile-functions}
-use Rattle.rules.specs.Entry.{Compiled, functions-are, refused, from-outcome}
+use Rattle.rules.specs.Compiler.{Compiler, new, Outcome, ok, Compile, the, compile-stmts, compile-script, compile-functions}
+use Rattle.rules.specs.Entry.{functions-are, refused, from-outcome}
 use Rattle.state.specs.Layout.{image-at, ctxAt}
 use Rattle.steps.specs.View.{mem, Rest, view, Agrees, Fit, depth-at, Turn, steady, _⨾_, Gave, Refused, Did, Started}
 use Rattle.steps.specs.Why.{refusal-of}
@@ -52,7 +52,7 @@ module _ {t code spans out : List ℕ} {limit : ℕ} (clean : Clean t code spans
 
   first-holds : Holds t out []
   unfolding join
-  first-holds = record { bytes = clean .clear ∙ zeros-padded (length out) 6; long = clean .started .image (image-at + 1) (omega arith) }
+  first-holds = record { bytes = clean .clear ∙ zeros-padded (length out) 6; long = clean .started .image (image-at + 1) (omega arith); counted = tt }
 
   no-depth : depth-at (mem t code spans) 0 ≡ 0
   unfolding depth-at view ctxAt
@@ -128,18 +128,20 @@ module _ {t code spans out : List ℕ} {limit : ℕ} (clean : Clean t code spans
             can-finish = can-put (ended .ahead .fit) (clean .small)
 
             holds-then : Holds t₂ out₁ (grew .made)
-            holds-then = let h = grew .added .put [] first-holds in record { bytes = h .bytes; long = word (image-at + 1) (omega arith) ∙ h .long }
+            holds-then = let h = grew .added .put [] first-holds in record { bytes = h .bytes; long = word (image-at + 1) (omega arith) ∙ h .long; counted = h .counted }
 
             count-then : getD t₂ image-at 0 ≡ length (grew .made)
             count-then = sym (whole .agrees none-yet first-agrees .made)
 
-            recorded : {t₃ out₃ : List ℕ} {m : ℕ} → Filed 0 t₂ code₂ spans₂ out₁ t₃ out₃ → m ≡ 6 + getD t₃ (image-at + 1) 0 → Recorded (from-outcome (compile-functions limit stmts)) t₃ out₃ m
-            recorded f h = record {
+            recorded : {t₃ out₃ : List ℕ} {m : ℕ} → n ≤ max-tree → Filed 0 t₂ code₂ spans₂ out₁ t₃ out₃ → m ≡ 6 + getD t₃ (image-at + 1) 0
+                → Recorded (from-outcome (compile-functions limit stmts)) t₃ out₃ m
+            recorded short f h = record {
               functions = grew .made ++ (function-at t₂ code₂ spans₂ 0 ∷ []);
               is = gave-script (grew .made) refl whole;
               holds = f .put (grew .made) holds-then;
               count = f .count ∙ ap (λ (c : ℕ). c + 1) count-then ∙ sym (length-append (grew .made) (function-at t₂ code₂ spans₂ 0 ∷ []));
               long = h;
+              small = omega (arith, f .count, f .bytes, few-then short, little-then short);
             }
 
 -- ## The answers
@@ -168,4 +170,4 @@ module _ {tree t code spans out : List ℕ} {count at limit : ℕ} (rows : Rows 
             (can-finish clean (rows .stmts) g q d p, few-then clean (rows .stmts) g q d p (rows .short), little-then clean (rows .stmts) g q d p (rows .short))
 
         pub scripted : {t₃ out₃ : List ℕ} → Filed 0 t₂ code₂ spans₂ out₁ t₃ out₃ → Scripted limit (rows-at tree count at) (length tree) t₃ out₃ (Next (6 + getD t₃ (image-at + 1) 0))
-        scripted f = record { did = λ stmts e. recorded clean stmts (by-rows stmts e) q d p f refl }
+        scripted f = record { did = λ stmts e. recorded clean stmts (by-rows stmts e) q d p (rows .short) f refl }

@@ -1,9 +1,8 @@
 -- The whole, cut in parts: the script's statements, the output without its header, the header, and what is answered.
 use mathlib.Core.Path.{_≡_}
-use mathlib.Core.List.{List, _∷_, _++_}
+use mathlib.Core.List.{List}
 use Prim.Native.Nat.{ℕ, _+_, _*_, _/_, _≤_, min}
 use lib.ListN.{length, getD, replicate}
-use Rattle.rules.specs.Base.{le}
 use Rattle.rules.specs.Limits.{first-limits, max-tree, max-code}
 use Rattle.rules.specs.Answer.{NO-SPAN}
 use Rattle.rules.specs.Tree.{Stmts}
@@ -57,6 +56,8 @@ pub record Recorded (made : Compiled) (t out : List ℕ) (n : ℕ) : Type 0 wher
   pub holds : Holds t out functions
   pub count : getD t image-at 0 ≡ length functions
   pub long : n ≡ 6 + getD t (image-at + 1) 0
+  -- no sum is too large, with a directory behind it
+  pub small : n + 6 + 4 * getD t image-at 0 ≤ 1152921504606846976
 
 abbrev pub ScriptedAs : Compiled → (t out : List ℕ) → Step → Type 0
 ScriptedAs made t out (Next n) = Recorded made t out n
@@ -67,5 +68,5 @@ pub record Scripted (limit : ℕ) (rows : Read Stmts) (end : ℕ) (t out : List 
 
 -- ## What is answered, and what the output holds in the end: after a refusal it is still to be cleared
 
-pub record Written (made : Compiled) (out : List ℕ) (r : Made) : Type 0 where
-  pub is : (lent : Lent) → lent .output-bytes ≡ length out → write-out lent made ≡ leaves lent (answer-of r) (output-of out r)
+pub record Written (options : ℕ) (made : Compiled) (out : List ℕ) (r : Made) : Type 0 where
+  pub is : (lent : Lent) → lent .options ≡ options → lent .output-bytes ≡ length out → write-out lent made ≡ leaves lent (answer-of r) (output-of out r)

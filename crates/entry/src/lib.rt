@@ -75,13 +75,14 @@ fn compile_script(
 fn compile_sound(
     tree: &[u8],
     script: Script,
+    options: u32,
     out: &mut [u8],
     t: &mut [u64],
     code: &mut [u8],
     spans: &mut [u32],
 ) -> Made
     requires { ⌜ (checked-file (now tree) ≡ checks.Checked.Sound script) × (length (now t) ≡ table-words) ⌝ }
-    ensures { λ r. ⌜ Written (rules.compile-tree first-limits (now (tree .entry)) (limit-of (now (code .entry)) (now (spans .entry)))) (now (out .exit)) r ⌝ }
+    ensures { λ r. ⌜ Written options (rules.compile-tree first-limits (now (tree .entry)) (limit-of (now (code .entry)) (now (spans .entry)))) (now (out .exit)) r ⌝ }
 {
     let limit = code_limit(code.len(), spans.len());
     areas::clear8(out);
@@ -97,7 +98,7 @@ fn compile_sound(
         limit,
     );
     match r {
-        Step::Next(n) => finish_image(out, n, t[Table::FUNCTIONS]),
+        Step::Next(n) => finish_image(out, n, t[Table::FUNCTIONS], options),
         Step::Stop(why) => Made::Refused(refusal_of(why)),
     }
 }
@@ -105,12 +106,13 @@ fn compile_sound(
 // 1, then 2 to 5 over the whole file, and then what a sound file comes to.
 fn compile_lent(
     tree: &[u8],
+    options: u32,
     out: &mut [u8],
     table: &mut [u64],
     code: &mut [u8],
     spans: &mut [u32],
 ) -> Made
-    ensures { λ r. ⌜ Written (rules.compile-lent first-limits (now (tree .entry)) (lent-of (now (table .entry)) (now (code .entry)) (now (spans .entry)) (now (out .entry)))) (now (out .exit)) r ⌝ }
+    ensures { λ r. ⌜ Written options (rules.compile-lent first-limits (now (tree .entry)) (lent-of options (now (table .entry)) (now (code .entry)) (now (spans .entry)) (now (out .entry)))) (now (out .exit)) r ⌝ }
 {
     if table.len() < Table::WORDS {
         return Made::Refused(Refusal::WorkShort);
@@ -118,7 +120,15 @@ fn compile_lent(
     match tree::read(tree) {
         Checked::Bad(x) => Made::Refused(x),
         Checked::Sound(script) => {
-            compile_sound(tree, script, out, &mut table[..Table::WORDS], code, spans)
+            compile_sound(
+                tree,
+                script,
+                options,
+                out,
+                &mut table[..Table::WORDS],
+                code,
+                spans,
+            )
         }
     }
 }
@@ -126,13 +136,14 @@ fn compile_lent(
 // The entry. Whatever the answer, what the work areas held is gone.
 pub fn compile(
     tree: &[u8],
+    options: u32,
     out: &mut [u8],
     table: &mut [u64],
     code: &mut [u8],
     spans: &mut [u32],
 ) -> Answer
-    ensures { λ r. ⌜ record { answer = r; output = now (out .exit); table = now (table .exit); code = now (code .exit); spans = now (spans .exit) } ≡ rules.compile (now (tree .entry)) (record { table-words = length (now (table .entry)); code-bytes = length (now (code .entry)); span-words = length (now (spans .entry)); output-bytes = length (now (out .entry)) }) ⌝ }
+    ensures { λ r. ⌜ record { answer = r; output = now (out .exit); table = now (table .exit); code = now (code .exit); spans = now (spans .exit) } ≡ rules.compile (now (tree .entry)) (record { options = options; table-words = length (now (table .entry)); code-bytes = length (now (code .entry)); span-words = length (now (spans .entry)); output-bytes = length (now (out .entry)) }) ⌝ }
 {
-    let made = compile_lent(tree, out, table, code, spans);
+    let made = compile_lent(tree, options, out, table, code, spans);
     end_call(made, out, table, code, spans)
 }

@@ -1,2 +1,3 @@
--- What a call leaves, part by part.
+-- What a call leaves, part by part, and the image with what is asked for.
 pub mod Ends
+pub mod Images

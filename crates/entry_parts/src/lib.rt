@@ -1,9 +1,10 @@
-// Parts of the entry that need no compiler: the code limit, which refusal the compiler's numbers are, and how a call
+// Parts of the entry that need no compiler: the code limit, what is asked for, which refusal the compiler's numbers are, and how a call
 // ends.
 ghost use mathlib.Core.Path.{_≡_};
-ghost use Prim.Native.Nat.{_/_, _≤_, min};
+ghost use Prim.Native.Nat.{_+_, _*_, _/_, _≤_, min};
+ghost use Rattle.rules.specs.Base.{if_then_else_};
 ghost use Rattle.rules.specs.Limits.{max-code};
-ghost use Rattle.rules.specs.Entry.{leaves};
+ghost use Rattle.rules.specs.Entry.{asks-directory, leaves};
 ghost use Rattle.steps.specs.Why.{refusal-of};
 ghost use Rattle.entry_parts.specs.Ends.{lent-of, answer-of, output-of, Finished};
 use answers::accepted;
@@ -13,6 +14,7 @@ use rules::Limit;
 use rules::Refusal;
 use steps::Why;
 use writer::put_header;
+use writer_directory::put_directory;
 
 // What became of a tree: an image of so many bytes in the output, or a refusal.
 pub enum Made {
@@ -34,6 +36,13 @@ pub fn code_limit(code: usize, spans: usize) -> usize
     ensures { λ r. ⌜ r ≡ min (min code (spans / 3)) max-code ⌝ }
 {
     least(least(code, spans / 3), Limit::CODE_BYTES)
+}
+
+// The image is to end in a directory. The other bits say nothing.
+fn asks_directory(options: u32) -> bool
+    ensures { λ r. ⌜ r ≡ asks-directory options ⌝ }
+{
+    options / 2 % 2 == 1
 }
 
 pub fn refusal_of(why: Why) -> Refusal
@@ -61,19 +70,36 @@ pub fn refusal_of(why: Why) -> Refusal
     }
 }
 
-// An image of `n` bytes, of which only the header is missing in the output. 31 comes after all else.
-pub fn finish_image(out: &mut [u8], n: usize, functions: u64) -> Made
-    requires { ⌜ 6 ≤ n ⌝ }
-    ensures { λ r. ⌜ Finished functions n (now (out .entry)) (now (out .exit)) r ⌝ }
+// How long an image is whose records end at `n`, with a directory or without: its mark and count are six bytes, and each function has four.
+fn whole_bytes(n: usize, functions: usize, directory: bool) -> usize
+    requires { ⌜ n + 6 + 4 * functions ≤ 1152921504606846976 ⌝ }
+    ensures { λ r. ⌜ r ≡ (if directory then n + 6 + 4 * functions else n) ⌝ }
 {
-    if out.len() < n {
-        return Made::Refused(Refusal::OutFull(n));
+    if directory {
+        return n + 6 + 4 * functions;
     }
-    put_header(out, functions);
-    Made::Image(n)
+    n
 }
 
-// Whatever was made, what the work areas held is gone, and after a refusal what the output held too.
+// An image whose records end at `n`: in the output its header is missing, and its directory where that is asked for. 31 comes after all else.
+pub fn finish_image(out: &mut [u8], n: usize, functions: u64, options: u32) -> Made
+    requires { ⌜ (6 ≤ n) × (n + 6 + 4 * functions ≤ 1152921504606846976) ⌝ }
+    ensures { λ r. ⌜ Finished options functions n (now (out .entry)) (now (out .exit)) r ⌝ }
+{
+    let directory = asks_directory(options);
+    let whole = whole_bytes(n, functions as usize, directory);
+    if out.len() < whole {
+        return Made::Refused(Refusal::OutFull(whole));
+    }
+    if directory {
+        put_directory(out, n, functions);
+    }
+    put_header(out, functions);
+    Made::Image(whole)
+}
+
+// Whatever was made, what the work areas held is gone, and after a refusal what the output held too. What was asked for has no part in that, so the
+// contract says it of 0.
 pub fn end_call(
     made: Made,
     out: &mut [u8],
@@ -81,7 +107,7 @@ pub fn end_call(
     code: &mut [u8],
     spans: &mut [u32],
 ) -> Answer
-    ensures { λ r. ⌜ record { answer = r; output = now (out .exit); table = now (table .exit); code = now (code .exit); spans = now (spans .exit) } ≡ leaves (lent-of (now (table .entry)) (now (code .entry)) (now (spans .entry)) (now (out .entry))) (answer-of made) (output-of (now (out .entry)) made) ⌝ }
+    ensures { λ r. ⌜ record { answer = r; output = now (out .exit); table = now (table .exit); code = now (code .exit); spans = now (spans .exit) } ≡ leaves (lent-of 0 (now (table .entry)) (now (code .entry)) (now (spans .entry)) (now (out .entry))) (answer-of made) (output-of (now (out .entry)) made) ⌝ }
 {
     areas::clear64(table);
     areas::clear8(code);

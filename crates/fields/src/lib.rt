@@ -143,6 +143,9 @@ impl Mark {
 
     // CD: behind the runs, in `read-function`
     pub const CODE: u16 = 0x4344;
+
+    // DX: `read-directory`
+    pub const DIRECTORY: u16 = 0x4458;
 }
 
 // A number in a wider type. A call asks its caller for nothing, where a cast in place asks that the number fits.

@@ -7,26 +7,29 @@ use Prim.Native.Nat.{ℕ, zero, suc, _+_, _-_, _<_, _≤_}
 use native.Mathlib.Omega.{arith}
 use lib.ListN.{length, getD, getElem?, take, drop, length-take, length-drop}
 use lib.Dec.{eqb, ltb, leb}
-use borrow.Author.Tests.{lt-ltb, le-ltb, eqb-true, eqb-false, leb-true, leb-false}
+use borrow.Author.Tests.{lt-ltb, le-ltb, eq-eqb, ne-eqb, eqb-true, eqb-false, leb-true, leb-false}
 use Rattle.rules.specs.Base.{if_then_else_}
 use Rattle.rules.specs.declared.Answer.{Answer}
 use Rattle.rules.specs.declared.Refusal.the-variants.{ImageRefused, NoSuchFunction}
 use Rattle.rules.specs.Answer.{refusal, accepted, at-offset}
 use Rattle.rules.specs.Reader.{Read, got, bad, go-on, _>>_, many}
 use Rattle.rules.specs.Chunk.{ObjectFunction}
+use Rattle.rules.specs.Image.{image-bytes}
 use Rattle.rules.specs.ImageFile.{read-function}
 use Rattle.rules.specs.Checker.{sound, image-of, function-numbered, code-in, code-of, code-before, place-in, code-place, code-verdict, code-answer}
-use Rattle.image_code.specs.declared.Verdict.{Verdict}
-use Rattle.image_code.specs.declared.Verdict.the-variants as verdict
+use Rattle.rules.specs.Checker.{code-part, directory-verdict, directory-of, record-part}
 use Rattle.fields.specs.Words.{word32, letters}
 use Rattle.image_records.specs.declared.Place.{Place}
 use Rattle.image_records.specs.declared.Place.the-variants as place
+use Rattle.image_records.specs.declared.Head.{Head}
 use Rattle.image_records.specs.declared.Head.the-variants as head
-use Rattle.image_records.specs.declared.Header.{Header}
 use Rattle.image_records.specs.Told.{place-told, head-at, code-told}
 use Rattle.image_records.proofs.Many.{got-bad, same-got, many-length, Nth, nth-of, place-bad, place-at}
-use Rattle.image_records.proofs.Records.{Headed, headed, head-fails, Body, body-of, Coded, coded, at-code, whole-function, made}
-use Rattle.image.specs.Counted.{counted-in, code-part, Lies}
+use Rattle.image_records.specs.declared.Header.{Header}
+use Rattle.image_records.proofs.Records.{Headed, headed, head-fails, Body, body-of, coded, at-code, whole-function}
+use Rattle.image_directory.specs.Behind.{behind-right}
+use Rattle.image_functions.specs.declared.Done.the-variants.{Is, Bad}
+use Rattle.image.specs.Counted.{counted-in, Lies}
 use Rattle.image.proofs.Sound.{elem-none}
 use Rattle.image.proofs.Whole.{after, image-is, no-room, no-mark, no-functions}
 
@@ -56,36 +59,73 @@ pub record Accepted (s : List ℕ) : Type 0 where
   pub are : many (word32 s 2) (read-function s) 6 ≡ got fs end
   pub is : image-of s ≡ some fs
 
-module _ (s : List ℕ) (n : ℕ) where
-  not-no : verdict.Yes n ≡ counted-in (image-of s) → verdict.No ≡ counted-in (image-of s) → ⊥
-  not-no e f = let z : verdict.Yes n ≡ verdict.No = e ∙ sym f in let y : _≡_ {A = ℕ} 0 1 = cc in omega arith
+module _ (s : List ℕ) (n end : ℕ) where
+  not-bad : Is n end ≡ counted-in (image-of s) → Bad ≡ counted-in (image-of s) → ⊥
+  not-bad e f = let z : Is n end ≡ Bad = e ∙ sym f in let y : _≡_ {A = ℕ} 0 1 = cc in omega arith
 
-  read-by : (r : Read (List ObjectFunction)) → many (word32 s 2) (read-function s) 6 ≡ r → image-of s ≡ after (length s) r → verdict.Yes n ≡ counted-in (image-of s) → 6 ≤ length s → Accepted s
+  read-by : (r : Read (List ObjectFunction)) → many (word32 s 2) (read-function s) 6 ≡ r → image-of s ≡ after s r
+      → Is n end ≡ counted-in (image-of s) → 6 ≤ length s → Accepted s
   unfolding after counted-in
-  read-by (bad fault) e i y h = absurd (not-no y (sym (ap counted-in i)))
-  read-by (got fs end) e i y h = by (eqb end (length s)) (sound fs) i
+  read-by (bad fault) e i y h = absurd (not-bad y (sym (ap counted-in i)))
+  read-by (got fs last) e i y h = by (behind-right s (got fs last)) (sound fs) i
     where
       by : (t u : Bool) → image-of s ≡ (if t then (if u then some fs else none) else none) → Accepted s
-      by true true i = record { fs = fs; end = end; room = h; are = e; is = i }
-      by true false i = absurd (not-no y (sym (ap counted-in i)))
-      by false u i = absurd (not-no y (sym (ap counted-in i)))
+      by true true i = record { fs = fs; end = last; room = h; are = e; is = i }
+      by true false i = absurd (not-bad y (sym (ap counted-in i)))
+      by false u i = absurd (not-bad y (sym (ap counted-in i)))
 
-  count-by : (k : ℕ) → k ≡ word32 s 2 → 6 ≤ length s → letters s 0 ≡ 0x494D → verdict.Yes n ≡ counted-in (image-of s) → Accepted s
-  count-by zero q h m y = absurd (not-no y (no-functions s h m 0 q refl))
+  count-by : (k : ℕ) → k ≡ word32 s 2 → 6 ≤ length s → letters s 0 ≡ 0x494D → Is n end ≡ counted-in (image-of s) → Accepted s
+  count-by zero q h m y = absurd (not-bad y (no-functions s h m 0 q refl))
   count-by (suc k) q h m y = read-by (many (word32 s 2) (read-function s) 6) refl (image-is s h m (word32 s 2) refl (omega arith)) y h
 
-  accepted-by : (t u : Bool) → leb 6 (length s) ≡ t → eqb (letters s 0) 0x494D ≡ u → verdict.Yes n ≡ counted-in (image-of s) → Accepted s
+  accepted-by : (t u : Bool) → leb 6 (length s) ≡ t → eqb (letters s 0) 0x494D ≡ u → Is n end ≡ counted-in (image-of s) → Accepted s
   accepted-by true true e f y = count-by (word32 s 2) refl (leb-true _ _ e) (eqb-true _ _ f) y
-  accepted-by true false e f y = absurd (not-no y (no-mark s (leb-true _ _ e) (eqb-false _ _ f)))
-  accepted-by false u e f y = absurd (not-no y (no-room s (leb-false _ _ e)))
+  accepted-by true false e f y = absurd (not-bad y (no-mark s (leb-true _ _ e) (eqb-false _ _ f)))
+  accepted-by false u e f y = absurd (not-bad y (no-room s (leb-false _ _ e)))
 
-  pub accepted-is : verdict.Yes n ≡ counted-in (image-of s) → Accepted s
+  pub accepted-is : Is n end ≡ counted-in (image-of s) → Accepted s
   accepted-is y = accepted-by _ _ refl refl y
 
-none-by : (o : Option (List ObjectFunction)) → verdict.No ≡ counted-in o → o ≡ none
+none-by : (o : Option (List ObjectFunction)) → Bad ≡ counted-in o → o ≡ none
 unfolding counted-in
 none-by none e = refl
 none-by (some fs) e = absurd (let y : _≡_ {A = ℕ} 0 1 = cc in omega arith)
+
+-- ## A function's code, behind its record's other parts
+
+pub record Code-at (s : List ℕ) (f : ObjectFunction) (next : ℕ) : Type 0 where
+  pub start : ℕ
+  pub within : start + length (f .chunk .ops) ≤ length s
+  pub ends : next ≡ start + length (f .chunk .ops)
+  pub content : take (length (f .chunk .ops)) (drop start s) ≡ f .chunk .ops
+
+module _ (s : List ℕ) (at next : ℕ) (f : ObjectFunction) (e : read-function s at ≡ got f next) where
+  code-in-part : (start size : ℕ) → start + size ≤ length s → next ≡ start + size → f .chunk .ops ≡ take size (drop start s) → Code-at s f next
+  code-in-part start size w n o =
+      let l : length (f .chunk .ops) ≡ size = ap length o ∙ simp (length-take, length-drop) (omega arith) in
+      record { start = start; within = omega arith; ends = omega arith; content = rw l (sym o) }
+
+  module _ (h : Header) (is-head : head.Is h ≡ head-at s at) where
+    abbrev b : Headed s at h
+    b = headed s at h is-head
+
+    abbrev o : Body s (b .name) (b .arity) (h .upvalues) (h .constants) (h .runs) (h .code) (at + 17) f next
+    o = body-of s (b .name) (b .arity) (h .upvalues) (h .constants) (h .runs) (h .code) (at + 17) f next (sym (b .is) ∙ e)
+
+    code-by : (p : Place) → p ≡ code-told s (h .code) (o .code-at) → Code-at s f next
+    code-by place.Bad c = absurd (got-bad (at-code s at h b (o .cs) (o .runs-at) (o .constants-are) (o .rs) (o .code-at) (o .runs-are) c) e)
+    code-by (place.At start) c =
+        let d = coded s (h .code) (o .code-at) start c in
+        let w = whole-function s at h b (o .cs) (o .runs-at) (o .constants-are) (o .rs) (o .code-at) (o .runs-are) start d in
+        let q = same-got e w in
+        code-in-part start (h .code) (d .within) (q .1) (ap (λ (g : ObjectFunction). g .chunk .ops) (q .0))
+
+  head-by : (hd : Head) → hd ≡ head-at s at → Code-at s f next
+  head-by head.Bad c = absurd (got-bad (head-fails s at c) e)
+  head-by (head.Is h) c = code-by h c (code-told s (h .code) (o h c .code-at)) refl
+
+  pub code-stands : Code-at s f next
+  code-stands = head-by (head-at s at) refl
 
 module _ (s : List ℕ) (k : ℕ) where
   -- where the code of a checked image begins
@@ -96,11 +136,11 @@ module _ (s : List ℕ) (k : ℕ) where
   unfolding code-of code-in code-place place-in
   refused-by e = record { content = sym (ap code-in e); place = sym (ap (λ (o : Option ObjectFunction). place-in o begins) e) }
 
-  pub no-image : verdict.No ≡ counted-in (image-of s) → Refused s k
+  pub no-image : Bad ≡ counted-in (image-of s) → Refused s k
   unfolding function-numbered
   no-image e = refused-by (ap (function-numbered k) (none-by (image-of s) e))
 
-  pub answer-none : verdict.No ≡ counted-in (image-of s) → refusal ImageRefused ≡ code-answer s k
+  pub answer-none : Bad ≡ counted-in (image-of s) → refusal ImageRefused ≡ code-answer s k
   unfolding code-answer code-verdict
   answer-none e = sym (ap (code-verdict k) (none-by (image-of s) e))
 
@@ -134,68 +174,23 @@ module _ (s : List ℕ) (k : ℕ) where
         here : read-function s at ≡ got (nth .value) (nth .next)
         here = ap (read-function s) (same-got (place-at _ at is-at .is) (nth .before) .1) ∙ nth .is
 
-        pub lost-end : {A : Type 0} → place.Bad ≡ place-told (read-function s at) → A
-        lost-end e = absurd (got-bad (place-bad _ e) here)
+        start-is : begins ≡ nth .next - length (nth .value .chunk .ops)
+        unfolding code-before go-on _>>_
+        start-is =
+            ap (λ (r : Read (List ObjectFunction)). code-before (go-on r (λ _. read-function s))) (nth .before) ∙ ap code-before (nth .is)
 
-        pub lost-head : {A : Type 0} → head.Bad ≡ head-at s at → A
-        lost-head e = absurd (got-bad (head-fails s at e) here)
-
-        module _ (next : ℕ) (is-next : place.At next ≡ place-told (read-function s at)) (hd : Header) (is-head : head.Is hd ≡ head-at s at) where
-          abbrev b : Headed s at hd
-          b = headed s at hd is-head
-
-          abbrev o : Body s (b .name) (b .arity) (hd .upvalues) (hd .constants) (hd .runs) (hd .code) (at + 17) (nth .value) (nth .next)
-          o = body-of s (b .name) (b .arity) (hd .upvalues) (hd .constants) (hd .runs) (hd .code) (at + 17) (nth .value) (nth .next) (sym (b .is) ∙ here)
-
-          next-is : nth .next ≡ next
-          next-is = same-got here (place-at _ next is-next .is) .1
-
-          -- where its code stands
-          pub record Code-at : Type 0 where
-            pub start : ℕ
-            pub within : start + hd .code ≤ length s
-            pub ends : next ≡ start + hd .code
-            pub ops : nth .value .chunk .ops ≡ take (hd .code) (drop start s)
-
-          code-by : (p : Place) → p ≡ code-told s (hd .code) (o .code-at) → Code-at
-          code-by place.Bad e = absurd (got-bad (at-code s at hd b (o .cs) (o .runs-at) (o .constants-are) (o .rs) (o .code-at) (o .runs-are) e) here)
-          code-by (place.At start) e =
-              let d = coded s (hd .code) (o .code-at) start e in
-              let w = whole-function s at hd b (o .cs) (o .runs-at) (o .constants-are) (o .rs) (o .code-at) (o .runs-are) start d in
-              let q = same-got here w in
-              record {
-                start = start;
-                within = d .within;
-                ends = sym next-is ∙ q .1;
-                ops = ap (λ (f : ObjectFunction). f .chunk .ops) (q .0);
-              }
-
-          abbrev c : Code-at
-          c = code-by (code-told s (hd .code) (o .code-at)) refl
-
-          pub code-fits-in : hd .code ≤ next
-          code-fits-in = omega (arith, c .ends)
-
-          start-is : begins ≡ next - length (nth .value .chunk .ops)
-          unfolding code-before go-on _>>_
-          start-is =
-              ap (λ (r : Read (List ObjectFunction)). code-before (go-on r (λ _. read-function s))) (nth .before) ∙
-              ap code-before (nth .is) ∙ ap (λ (m : ℕ). m - length (nth .value .chunk .ops)) next-is
-
-          pub stands : (size start : ℕ) → size ≡ hd .code → start ≡ next - size → Stands s k start size
-          unfolding code-of code-in code-place place-in
-          stands size start q r =
-              let w = c .within in
-              let e = c .ends in
-              let p : start ≡ c .start = omega arith in
-              let f = numbered ∙ nth .there in
-              let l : length (nth .value .chunk .ops) ≡ hd .code = ap length (c .ops) ∙ simp (length-take, length-drop) (omega arith) in
-              record {
-                within = omega arith;
-                content = rw (q, p) (sym (ap code-in f ∙ c .ops));
-                place = sym (ap (λ (x : Option ObjectFunction). place-in x begins) f ∙ start-is ∙ rw (l, ← q, ← r) refl);
-                number = answer-there h;
-              }
+        stands : Stands s k (nth .next - length (nth .value .chunk .ops)) (length (nth .value .chunk .ops))
+        unfolding code-of code-in code-place place-in
+        stands =
+            let c = code-stands s at (nth .next) (nth .value) here in
+            let p : nth .next - length (nth .value .chunk .ops) ≡ c .start = omega (arith, c .ends) in
+            let f = numbered ∙ nth .there in
+            record {
+              within = omega (arith, c .within, c .ends);
+              content = rw p (c .content ∙ sym (ap code-in f));
+              place = sym (ap (λ (x : Option ObjectFunction). place-in x begins) f ∙ start-is);
+              number = answer-there h;
+            }
 
 -- ## The answer
 
@@ -233,6 +228,17 @@ module _ (s : List ℕ) (k : ℕ) where
         lies = record { within = rw (l, ← (t .place)) w; content = rw (l, ← (t .place)) (t .content) };
       }
 
+-- what is told of the record that the walk ends at
+module _ (s : List ℕ) (k : ℕ) (a : Accepted s) (h : k < word32 s 2) (at : ℕ) (is-at : place.At at ≡ place-told (many k (read-function s) 6)) where
+  pub told-record : (r : Answer) → r ≡ record-part s (read-function s at) → Told s k r
+  unfolding record-part
+  told-record r e =
+      let n = nth s k a h in
+      let c = code-stands s at (n .next) (n .value) (here s k a h at is-at) in
+      let t = told-stands s k (n .next - length (n .value .chunk .ops)) (length (n .value .chunk .ops)) (n .next) (stands s k a h at is-at)
+      (omega (arith, c .ends)) in
+      record { is = e ∙ ap (record-part s) (here s k a h at is-at) ∙ t .is; lies = t .lies }
+
 -- what is told, as the ends of a part of the image
 module _ (s : List ℕ) (k : ℕ) (a : Answer) (e : a ≡ code-part s k) (l : Lies s k) where
   pub place-of : a .at ≡ code-place s k
@@ -252,3 +258,30 @@ module _ (s : List ℕ) (k : ℕ) (a : Answer) (e : a ≡ code-part s k) (l : Li
       let m : end - first ≡ length (code-of s k) = omega arith in
       let f : first ≡ code-place s k = p ∙ place-of in
       rw (m, f) (l .content)
+
+-- ## The directory
+
+module _ (s : List ℕ) where
+  pub no-directory : Bad ≡ counted-in (image-of s) → refusal ImageRefused ≡ directory-of s
+  unfolding directory-of directory-verdict
+  no-directory e = sym (ap (directory-verdict (length s)) (none-by (image-of s) e))
+
+  module _ (n end : ℕ) (y : Is n end ≡ counted-in (image-of s)) where
+    abbrev a : Accepted s
+    a = accepted-is s n end y
+
+    end-is : end ≡ length (image-bytes (a .fs))
+    unfolding counted-in
+    end-is = let z = y ∙ ap counted-in (a .is) in cc
+
+    pub nothing-behind : end ≡ length s → accepted 0 ≡ directory-of s
+    unfolding directory-of directory-verdict
+    nothing-behind e = sym (ap (directory-verdict (length s)) (a .is) ∙ rw (eq-eqb _ _ (sym end-is ∙ e)) refl)
+
+    pub directory-told : (end ≡ length s → ⊥) → (at last count : ℕ) → at ≡ end → last ≡ length s → count ≡ word32 s 2
+        → record { number = 0; at = at; end = last; name = 0; length = count } ≡ directory-of s
+    unfolding directory-of directory-verdict
+    directory-told e at last count p q r =
+        let c : count ≡ length (a .fs) = r ∙ sym (many-length (read-function s) (word32 s 2) 6 (a .end) (a .fs) (a .are)) in
+        let l : at ≡ length (image-bytes (a .fs)) = p ∙ end-is in
+        rw (l, q, c) (sym (ap (directory-verdict (length s)) (a .is) ∙ rw (ne-eqb _ _ (λ x. e (end-is ∙ x))) refl))

@@ -3,33 +3,33 @@ use mathlib.Core.Path.{_≡_, refl, sym, ap, _∙_}
 use mathlib.Core.Bool.{Bool, true, false, _&&_}
 use mathlib.Core.Option.{Option, none, some}
 use mathlib.Core.List.{List, [], _∷_}
-use Prim.Native.Nat.{ℕ, zero, suc, _+_, _-_, _<_, _≤_}
+use Prim.Native.Nat.{ℕ, zero, suc, _+_, _<_, _≤_}
 use native.Mathlib.Omega.{arith}
 use lib.ListN.{length, getD, getElem?}
-use lib.Dec.{eqb, ltb, leb}
-use borrow.Author.Tests.{lt-ltb, le-ltb, eq-eqb, ne-eqb, eqb-true, eqb-false, leb-true, leb-false}
+use lib.Dec.{eqb, leb}
+use borrow.Author.Tests.{lt-ltb, eqb-true, eqb-false, leb-true, leb-false}
 use Rattle.rules.specs.Base.{if_then_else_}
-use Rattle.rules.specs.declared.Refusal.{Refusal}
 use Rattle.rules.specs.declared.Refusal.the-variants.{ImageRefused}
-use Rattle.rules.specs.declared.Answer.{Answer}
 use Rattle.rules.specs.Answer.{refusal, accepted}
-use Rattle.rules.specs.Reader.{Read, got, bad, Reader, go-on, _>>=_, _>>_, return, here, need, u8, u32, mark-is, many}
+use Rattle.rules.specs.Reader.{Read, got, bad, go-on, _>>=_, _>>_, return, here, need, u8, many}
 use Rattle.rules.specs.Chunk.{ObjectFunction}
-use Rattle.rules.specs.ImageFile.{read-function, read-functions, read-image}
+use Rattle.rules.specs.ImageFile.{read-function, read-behind, read-functions, read-image}
 use Rattle.rules.specs.Checker.{named-once, sound, checked, image-of, verdict, check, instruction-count}
-use Rattle.image_code.specs.declared.Verdict.{Verdict}
-use Rattle.image_code.specs.declared.Verdict.the-variants.{Yes, No}
 use Rattle.fields.specs.Words.{word32, letters}
 use Rattle.fields.proofs.Reading.{found, a-u8, a-u32, mark-is-it, mark-is-not, mark-is-cut}
 use Rattle.image_records.specs.declared.Head.{Head}
 use Rattle.image_records.specs.declared.Head.the-variants as head
-use Rattle.image_records.specs.Told.{head-at}
-use Rattle.image_records.proofs.Many.{Fails, many-first, many-none, nth-of}
+use Rattle.image_records.specs.declared.Place.the-variants as place
+use Rattle.image_records.specs.Told.{head-at, place-told}
+use Rattle.image_records.proofs.Many.{many-first, many-none}
 use Rattle.image_records.proofs.Records.{headed, head-fails, body-of}
+use Rattle.image_records.proofs.Lengths.{image-length}
+use Rattle.image_directory.specs.Behind.{ends, behind-right}
 use Rattle.image_constants.specs.Earlier.{functions-in, is-got, earlier}
+use Rattle.image_functions.specs.declared.Done.the-variants.{Is, Bad}
 use Rattle.image_functions.specs.Judged.{right-all, count-all, functions-done}
 use Rattle.image.specs.Counted.{counted-in}
-use Rattle.image.proofs.Sound.{Bytes-of, sound-is, counts-agree, and-of, no-true}
+use Rattle.image.proofs.Sound.{Bytes-of, sound-is, counts-agree}
 
 -- ## A function's code is bytes
 
@@ -74,9 +74,9 @@ module _ (s : List ℕ) (bytes : (i : ℕ) → getD s i 0 < 256) where
 
 -- ## The header
 
-unfoldable pub after : (size : ℕ) → Read (List ObjectFunction) → Option (List ObjectFunction)
-after size (bad fault) = none
-after size (got fs end) = if eqb end size then (if sound fs then some fs else none) else none
+unfoldable pub after : (image : List ℕ) → Read (List ObjectFunction) → Option (List ObjectFunction)
+after image (bad fault) = none
+after image (got fs end) = if behind-right image (got fs end) then (if sound fs then some fs else none) else none
 
 module _ (s : List ℕ) where
   cut-mark : length s < 2 → image-of s ≡ none
@@ -96,32 +96,39 @@ module _ (s : List ℕ) where
   no-room-by true false e f h = other-mark (leb-true _ _ e) (eqb-false _ _ f)
   no-room-by false u e f h = cut-mark (leb-false _ _ e)
 
-  pub no-room : length s < 6 → No ≡ counted-in (image-of s)
+  pub no-room : length s < 6 → Bad ≡ counted-in (image-of s)
   unfolding counted-in
   no-room h = sym (ap counted-in (no-room-by _ _ refl refl h))
 
-  pub no-mark : 6 ≤ length s → (letters s 0 ≡ 0x494D → ⊥) → No ≡ counted-in (image-of s)
+  pub no-mark : 6 ≤ length s → (letters s 0 ≡ 0x494D → ⊥) → Bad ≡ counted-in (image-of s)
   unfolding image-of read-image read-functions checked _>>=_ _>>_ go-on counted-in
   no-mark h n = rw (mark-is-not s ImageRefused 0x494D 0 (omega arith) n) refl
 
   module _ (h : 6 ≤ length s) (m : letters s 0 ≡ 0x494D) (count : ℕ) (is-count : count ≡ word32 s 2) where
-    pub no-functions : count ≡ 0 → No ≡ counted-in (image-of s)
+    pub no-functions : count ≡ 0 → Bad ≡ counted-in (image-of s)
     unfolding image-of read-image read-functions checked _>>=_ _>>_ go-on need counted-in
     no-functions z =
         let e : word32 s 2 ≡ 0 = sym is-count ∙ z in
         rw (mark-is-it s ImageRefused 0x494D 0 (omega arith) m, a-u32 s .whole ImageRefused 2 h, e) refl
 
     after-is : (r : Read (List ObjectFunction))
-        → checked (go-on r (λ functions. here >>= λ end. need (eqb end (length s)) ImageRefused >> return functions)) ≡ after (length s) r
-    unfolding checked after go-on here need return _>>=_ _>>_
+        → checked (go-on r (λ functions. read-behind s functions >> (here >>= λ end. need (eqb end (length s)) ImageRefused >> return functions))) ≡ after s r
+    unfolding checked after behind-right ends go-on here need return _>>=_ _>>_
     after-is (bad fault) = refl
-    after-is (got fs end) = by (eqb end (length s))
+    after-is (got fs end) = by (read-behind s fs end)
       where
-        by : (t : Bool) → checked (go-on (need t ImageRefused end) (λ _. return fs)) ≡ (if t then (if sound fs then some fs else none) else none)
-        by true = refl
-        by false = refl
+        by-end : (t : Bool) (last : ℕ)
+            → checked (go-on (need t ImageRefused last) (λ _. return fs)) ≡ (if t then (if sound fs then some fs else none) else none)
+        by-end true last = refl
+        by-end false last = refl
 
-    pub image-is : 0 < count → image-of s ≡ after (length s) (many count (read-function s) 6)
+        by : (r : Read Unit)
+            → checked (go-on r (λ _. here >>= λ last. need (eqb last (length s)) ImageRefused >> return fs))
+            ≡ (if ends (length s) r then (if sound fs then some fs else none) else none)
+        by (bad fault) = refl
+        by (got u last) = by-end (eqb last (length s)) last
+
+    pub image-is : 0 < count → image-of s ≡ after s (many count (read-function s) 6)
     unfolding image-of read-image read-functions _>>=_ _>>_ go-on need
     image-is p =
         let l : 0 < word32 s 2 = omega arith in
@@ -130,48 +137,59 @@ module _ (s : List ℕ) where
 
     -- ## The answer
     module _ (p : 0 < count) (bytes : (i : ℕ) → getD s i 0 < 256) where
-      counted-as : counted-in (image-of s) ≡ counted-in (after (length s) (many count (read-function s) 6))
-      counted-as = ap counted-in (image-is p)
+      abbrev functions : Read (List ObjectFunction)
+      functions = many count (read-function s) 6
 
-      no-by : (r : Read (List ObjectFunction)) → many count (read-function s) 6 ≡ r → No ≡ functions-done 0 [] (length s) r → counted-in (after (length s) r) ≡ No
+      counted-as : (r : Read (List ObjectFunction)) → functions ≡ r → counted-in (image-of s) ≡ counted-in (after s r)
+      counted-as r e = ap counted-in (image-is p ∙ ap (after s) e)
+
+      wrong-by : (r : Read (List ObjectFunction)) → functions ≡ r → Bad ≡ functions-done 0 [] r → counted-in (after s r) ≡ Bad
       unfolding functions-done after counted-in
-      no-by (bad fault) e f = refl
-      no-by (got fs end) e f = by (eqb end (length s)) (right-all [] fs) refl f
+      wrong-by (bad fault) e f = refl
+      wrong-by (got fs end) e f = by (behind-right s (got fs end)) (right-all [] fs) refl f
         where
-          by : (t u : Bool) → right-all [] fs ≡ u → No ≡ (if t && u then Yes (0 + count-all [] fs) else No)
-              → counted-in (if t then (if sound fs then some fs else none) else none) ≡ No
-          by false u g f = refl
-          by true true g f = absurd (let z : _≡_ {A = ℕ} 0 1 = cc in omega arith)
+          by : (t u : Bool) → right-all [] fs ≡ u → Bad ≡ (if u then Is (0 + count-all [] fs) end else Bad)
+              → counted-in (if t then (if sound fs then some fs else none) else none) ≡ Bad
+          by t true g f = absurd (let z : _≡_ {A = ℕ} 0 1 = cc in omega arith)
           by true false g f = rw (sound-is fs (bytes-of s bytes count 6 end fs e), g) refl
+          by false false g f = refl
 
-      pub answered-no : No ≡ functions-done 0 [] (length s) (many count (read-function s) 6) → No ≡ counted-in (image-of s)
-      answered-no f = sym (counted-as ∙ no-by (many count (read-function s) 6) refl f)
+      pub answered-wrong : Bad ≡ functions-done 0 [] functions → Bad ≡ counted-in (image-of s)
+      answered-wrong f = sym (counted-as functions refl ∙ wrong-by functions refl f)
 
-      pub record Read-all (n : ℕ) : Type 0 where
+      pub record Read-all (n end : ℕ) : Type 0 where
         pub fs : List ObjectFunction
-        pub end : ℕ
-        pub are : many count (read-function s) 6 ≡ got fs end
-        pub ends : end ≡ length s
+        pub are : functions ≡ got fs end
         pub fine : right-all [] fs ≡ true
         pub number : n ≡ count-all [] fs
 
-      yes-by : (n : ℕ) (r : Read (List ObjectFunction)) → many count (read-function s) 6 ≡ r → Yes n ≡ functions-done 0 [] (length s) r → Read-all n
+      all-by : (n end : ℕ) (r : Read (List ObjectFunction)) → functions ≡ r → Is n end ≡ functions-done 0 [] r → Read-all n end
       unfolding functions-done
-      yes-by n (bad fault) e f = absurd (let z : _≡_ {A = ℕ} 0 1 = cc in omega arith)
-      yes-by n (got fs end) e f = by (eqb end (length s)) (right-all [] fs) refl refl f
+      all-by n end (bad fault) e f = absurd (let z : _≡_ {A = ℕ} 0 1 = cc in omega arith)
+      all-by n end (got fs last) e f = by (right-all [] fs) refl f
         where
-          by : (t u : Bool) → eqb end (length s) ≡ t → right-all [] fs ≡ u → Yes n ≡ (if t && u then Yes (0 + count-all [] fs) else No) → Read-all n
-          by false u k g f = absurd (let z : _≡_ {A = ℕ} 0 1 = cc in omega arith)
-          by true false k g f = absurd (let z : _≡_ {A = ℕ} 0 1 = cc in omega arith)
-          by true true k g f =
+          by : (t : Bool) → right-all [] fs ≡ t → Is n end ≡ (if t then Is (0 + count-all [] fs) last else Bad) → Read-all n end
+          by false g f = absurd (let z : _≡_ {A = ℕ} 0 1 = cc in omega arith)
+          by true g f =
               let q : n ≡ 0 + count-all [] fs = cc in
-              record { fs = fs; end = end; are = e; ends = eqb-true _ _ k; fine = g; number = omega arith }
+              let l : last ≡ end = cc in
+              record { fs = fs; are = e ∙ ap (got fs) l; fine = g; number = omega arith }
 
-      module _ (n : ℕ) (f : Yes n ≡ functions-done 0 [] (length s) (many count (read-function s) 6)) where
-        abbrev a : Read-all n
-        a = yes-by n (many count (read-function s) 6) refl f
+      module _ (n end : ℕ) (f : Is n end ≡ functions-done 0 [] functions) where
+        abbrev a : Read-all n end
+        a = all-by n end functions refl f
 
-        pub all-read : is-got (many count (read-function s) 6) ≡ true
+        pub ends-at : place.At end ≡ place-told functions
+        unfolding place-told
+        ends-at = sym (ap place-told (a .are))
+
+        pub answered-behind : false ≡ behind-right s functions → Bad ≡ counted-in (image-of s)
+        unfolding after counted-in
+        answered-behind b =
+            let c : behind-right s (got (a .fs) end) ≡ false = ap (behind-right s) (sym (a .are)) ∙ sym b in
+            sym (counted-as (got (a .fs) end) (a .are) ∙ rw c refl)
+
+        pub all-read : is-got functions ≡ true
         unfolding is-got
         all-read = ap is-got (a .are)
 
@@ -181,41 +199,44 @@ module _ (s : List ℕ) where
 
         sound-by : (b : Bool) → b ≡ named-once (earlier s count) → sound (a .fs) ≡ b
         sound-by b e =
-            sound-is (a .fs) (bytes-of s bytes count 6 (a .end) (a .fs) (a .are)) ∙
+            sound-is (a .fs) (bytes-of s bytes count 6 end (a .fs) (a .are)) ∙
             ap (λ (t : Bool). t && named-once (a .fs)) (a .fine) ∙ sym (e ∙ ap named-once earlier-is)
 
-        answer-by : (b : Bool) → b ≡ named-once (earlier s count) → counted-in (image-of s) ≡ counted-in (if b then some (a .fs) else none)
-        unfolding after
-        answer-by b e =
-            counted-as ∙ ap (λ (r : Read (List ObjectFunction)). counted-in (after (length s) r)) (a .are) ∙ rw (eq-eqb _ _ (a .ends), sound-by b e) refl
+        module _ (d : true ≡ behind-right s functions) where
+          answer-by : (b : Bool) → b ≡ named-once (earlier s count) → counted-in (image-of s) ≡ counted-in (if b then some (a .fs) else none)
+          unfolding after
+          answer-by b e =
+              let c : behind-right s (got (a .fs) end) ≡ true = ap (behind-right s) (sym (a .are)) ∙ sym d in
+              counted-as (got (a .fs) end) (a .are) ∙ rw (c, sound-by b e) refl
 
-        pub answered-unnamed : false ≡ named-once (earlier s count) → No ≡ counted-in (image-of s)
-        unfolding counted-in
-        answered-unnamed e = sym (answer-by false e)
+          pub answered-unnamed : false ≡ named-once (earlier s count) → Bad ≡ counted-in (image-of s)
+          unfolding counted-in
+          answered-unnamed e = sym (answer-by false e)
 
-        pub answered-yes : true ≡ named-once (earlier s count) → Yes n ≡ counted-in (image-of s)
-        unfolding counted-in
-        answered-yes e =
-            let c = counts-agree [] (a .fs) (bytes-of s bytes count 6 (a .end) (a .fs) (a .are)) (a .fine) in
-            ap Yes (a .number ∙ c) ∙ sym (answer-by true e)
+          pub answered-yes : true ≡ named-once (earlier s count) → Is n end ≡ counted-in (image-of s)
+          unfolding counted-in
+          answered-yes e =
+              let c = counts-agree [] (a .fs) (bytes-of s bytes count 6 end (a .fs) (a .are)) (a .fine) in
+              let l = image-length s count end (a .fs) (a .are) in
+              ap (λ (m : ℕ). Is m end) (a .number ∙ c) ∙ ap (Is (instruction-count (a .fs) (a .fs))) l ∙ sym (answer-by true e)
 
 -- ## The answer's form
 
-verdict-no : (o : Option (List ObjectFunction)) → No ≡ counted-in o → refusal ImageRefused ≡ verdict o
+verdict-no : (o : Option (List ObjectFunction)) → Bad ≡ counted-in o → refusal ImageRefused ≡ verdict o
 unfolding counted-in verdict
 verdict-no none e = refl
 verdict-no (some fs) e = absurd (let z : _≡_ {A = ℕ} 0 1 = cc in omega arith)
 
-verdict-yes : (n : ℕ) (o : Option (List ObjectFunction)) → Yes n ≡ counted-in o → accepted n ≡ verdict o
+verdict-yes : (n end : ℕ) (o : Option (List ObjectFunction)) → Is n end ≡ counted-in o → accepted n ≡ verdict o
 unfolding counted-in verdict
-verdict-yes n none e = absurd (let z : _≡_ {A = ℕ} 0 1 = cc in omega arith)
-verdict-yes n (some fs) e = let q : n ≡ instruction-count fs fs = cc in ap accepted q
+verdict-yes n end none e = absurd (let z : _≡_ {A = ℕ} 0 1 = cc in omega arith)
+verdict-yes n end (some fs) e = let q : n ≡ instruction-count fs fs = cc in ap accepted q
 
 module _ (s : List ℕ) where
-  pub check-no : No ≡ counted-in (image-of s) → refusal ImageRefused ≡ check s
+  pub check-no : Bad ≡ counted-in (image-of s) → refusal ImageRefused ≡ check s
   unfolding check
   check-no e = verdict-no (image-of s) e
 
-  pub check-yes : (n : ℕ) → Yes n ≡ counted-in (image-of s) → accepted n ≡ check s
+  pub check-yes : (n end : ℕ) → Is n end ≡ counted-in (image-of s) → accepted n ≡ check s
   unfolding check
-  check-yes n e = verdict-yes n (image-of s) e
+  check-yes n end e = verdict-yes n end (image-of s) e

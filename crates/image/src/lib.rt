@@ -1,60 +1,62 @@
-// The image checker and the lookup of a function's code.
+// The image checker, the lookup of a function's code, and where the directory stands.
 
 ghost use mathlib.Core.Path.{_≡_};
 ghost use Prim.Native.Nat.{_+_};
-ghost use Rattle.rules.specs.Checker.{image-of, code-place, code-answer};
+ghost use Rattle.rules.specs.Checker.{image-of, code-place, code-answer, code-part, directory-of};
 ghost use Rattle.rules.specs.Checker as Checker;
-ghost use Rattle.image.specs.Counted.{counted-in, code-part, Lies};
+ghost use Rattle.image.specs.Counted.{counted-in, Lies};
 use answers::accepted;
 use answers::refused;
 use fields::Mark;
-use image_code::Verdict;
-use image_records::Head;
+use image_functions::Done;
 use image_records::Header;
 use image_records::Place;
 use rules::Answer;
 use rules::Refusal;
 
-// How many instructions an image has.
-fn count_of(image: &[u8]) -> Verdict
+// How many instructions an image has, and where its functions end.
+fn count_of(image: &[u8]) -> Done
     ensures { λ r. ⌜ r ≡ counted-in (image-of (now (image .entry))) ⌝ }
 {
     if !fields::has(image, 0, Header::FIRST) {
-        return Verdict::No;
+        return Done::Bad;
     }
     if fields::mark_at(image, 0) != Mark::IMAGE {
-        return Verdict::No;
+        return Done::Bad;
     }
     let count = fields::wide32(fields::u32_at(image, 2));
     if count == 0 {
-        return Verdict::No;
+        return Done::Bad;
     }
-    let Verdict::Yes(n) = image_functions::judge(image, count) else {
-        return Verdict::No;
+    let Done::Is(n, end) = image_functions::judge(image, count) else {
+        return Done::Bad;
     };
-    if image_naming::all_named_once(image, count) {
-        return Verdict::Yes(n);
+    if !image_directory::behind(image, count, end) {
+        return Done::Bad;
     }
-    Verdict::No
+    if image_naming::all_named_once(image, count) {
+        return Done::Is(n, end);
+    }
+    Done::Bad
 }
 
 // 0 with the number of instructions in `length`, or 40.
 pub fn check(image: &[u8]) -> Answer
     ensures { λ r. ⌜ r ≡ Checker.check (now (image .entry)) ⌝ }
 {
-    let Verdict::Yes(n) = count_of(image) else {
+    let Done::Is(n, end) = count_of(image) else {
         return refused(Refusal::ImageRefused);
     };
     accepted(n)
 }
 
 // Where the code of function `k` stands: 0 with its place in `at`, its end in `end` and its length in `length`; 40 where the bytes are no image,
-// else 41 where it has no function `k`. The refusals below 41 never come: an image that was checked can be read.
+// else 41 where it has no function `k`. The refusal below 41 never comes: an image that was checked can be read.
 pub fn code_part(image: &[u8], k: usize) -> Answer
     ensures { λ r. ⌜ r ≡ code-part (now (image .entry)) k ⌝ }
     ensures { λ r. ⌜ Lies (now (image .entry)) k ⌝ }
 {
-    let Verdict::Yes(n) = count_of(image) else {
+    let Done::Is(n, end) = count_of(image) else {
         return refused(Refusal::ImageRefused);
     };
     if k >= fields::wide32(fields::u32_at(image, 2)) {
@@ -63,21 +65,7 @@ pub fn code_part(image: &[u8], k: usize) -> Answer
     let Place::At(at) = image_records::function_place(image, k) else {
         return refused(Refusal::ImageRefused);
     };
-    let Place::At(next) = image_records::skip_function(image, at) else {
-        return refused(Refusal::ImageRefused);
-    };
-    let Head::Is(h) = image_records::head_of(image, at) else {
-        return refused(Refusal::ImageRefused);
-    };
-    let size = fields::long32(h.code);
-    let end = fields::long(next);
-    Answer {
-        number: 0,
-        at: end - size,
-        end,
-        name: 0,
-        length: size,
-    }
+    image_directory::record_part(image, at)
 }
 
 // The code of function `k`: that very stretch of the image, or an empty part where the lookup is refused.
@@ -103,4 +91,32 @@ pub fn code_answer(image: &[u8], k: usize) -> Answer
         name: 0,
         length: 0,
     }
+}
+
+// Where the directory of an image stands: 0 with its place in `at`, its end in `end` and the number of functions in `length`; 0 and zeros where there
+// is none; 40 where the bytes are no image.
+pub fn directory_of(image: &[u8]) -> Answer
+    ensures { λ r. ⌜ r ≡ directory-of (now (image .entry)) ⌝ }
+{
+    let Done::Is(n, at) = count_of(image) else {
+        return refused(Refusal::ImageRefused);
+    };
+    if at == image.len() {
+        return accepted(0);
+    }
+    Answer {
+        number: 0,
+        at: fields::long(at),
+        end: fields::long(image.len()),
+        name: 0,
+        length: fields::long32(fields::u32_at(image, 2)),
+    }
+}
+
+// The lookup through the directory at `place`, for an image that was checked: what is told is what `code_part` tells, at the cost of the
+// function's record alone.
+pub fn code_through(image: &[u8], place: usize, k: usize) -> Answer
+    ensures { λ r. ⌜ r ≡ Checker.code-through (now (image .entry)) place k ⌝ }
+{
+    image_directory::code_through(image, place, k)
 }

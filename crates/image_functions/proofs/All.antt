@@ -1,6 +1,6 @@
 -- Laws of all functions, one after the other.
 use mathlib.Core.Path.{_≡_, refl, sym, ap, _∙_}
-use mathlib.Core.Bool.{Bool, true, false, _&&_}
+use mathlib.Core.Bool.{Bool, true, false}
 use mathlib.Core.Option.{Option, none, some}
 use mathlib.Core.List.{List, [], _∷_, _++_}
 use mathlib.Core.Logic.{⊎-elim}
@@ -10,16 +10,12 @@ use native.Mathlib.Nat.{eq-or-lt-of-le}
 use native.Mathlib.Numerals.{add-one}
 use lib.ListN.{length, getD, set, length-set, getElem?}
 use lib.Seq.{getD-set-same, getD-set-other}
-use lib.Dec.{eqb}
-use borrow.Author.Tests.{eq-eqb, ne-eqb}
 use Rattle.rules.specs.Base.{if_then_else_}
 use Rattle.rules.specs.Reader.{Read, got, bad, many}
 use Rattle.rules.specs.Chunk.{ObjectFunction}
 use Rattle.rules.specs.Division.{division}
 use Rattle.rules.specs.ImageFile.{read-function}
 use Rattle.rules.specs.Checker.{instructions}
-use Rattle.image_code.specs.declared.Verdict.{Verdict}
-use Rattle.image_code.specs.declared.Verdict.the-variants as verdict
 use Rattle.image_records.specs.declared.Head.the-variants as head
 use Rattle.image_records.specs.declared.Header.{Header}
 use Rattle.image_records.specs.Told.{head-at}
@@ -122,24 +118,20 @@ pub record Going (s : List ℕ) (count counts-room stamps-room ring-room : ℕ) 
   pub place : many k (read-function s) 6 ≡ got (earlier s k) at
   pub low : total ≤ at
   pub inside : at ≤ length s
-  pub left : functions-done 0 [] (length s) (many count (read-function s) 6) ≡ functions-done total (earlier s k) (length s) (many (count - k) (read-function s) at)
+  pub left : functions-done 0 [] (many count (read-function s) 6) ≡ functions-done total (earlier s k) (many (count - k) (read-function s) at)
   pub counts-size : length counts ≡ counts-room
   pub words-size : length words ≡ 256
   pub stamps-size : length stamps ≡ stamps-room
   pub ring-size : length ring ≡ ring-room
 
-module _ (n : ℕ) (before : List ObjectFunction) (size : ℕ) (f : ObjectFunction) where
-  wrong-on : (r : Read (List ObjectFunction)) → right before f ≡ false → functions-done n before size (onto f r) ≡ verdict.No
+module _ (n : ℕ) (before : List ObjectFunction) (f : ObjectFunction) where
+  wrong-on : (r : Read (List ObjectFunction)) → right before f ≡ false → functions-done n before (onto f r) ≡ done.Bad
   unfolding functions-done onto right-all
   wrong-on (bad fault) e = refl
-  wrong-on (got fs end) e = rw e (by (eqb end size))
-    where
-      by : (b : Bool) → (if b && false then verdict.Yes (n + count-all before (f ∷ fs)) else verdict.No) ≡ verdict.No
-      by true = refl
-      by false = refl
+  wrong-on (got fs end) e = rw e refl
 
   right-on : (r : Read (List ObjectFunction)) → right before f ≡ true
-      → functions-done n before size (onto f r) ≡ functions-done (n + instructions (division before f)) (before ++ (f ∷ [])) size r
+      → functions-done n before (onto f r) ≡ functions-done (n + instructions (division before f)) (before ++ (f ∷ [])) r
   unfolding functions-done onto right-all count-all
   right-on (bad fault) e = refl
   right-on (got fs end) e =
@@ -175,8 +167,8 @@ module _ (s : List ℕ) (count : ℕ) where
         low = omega arith;
         inside = room;
         left =
-            ap (functions-done 0 [] (length s)) (passed-none (read-function s) count 6) ∙
-            ap (λ (l : List ObjectFunction). functions-done 0 l (length s) (many (count - 0) (read-function s) 6)) (sym e);
+            ap (functions-done 0 []) (passed-none (read-function s) count 6) ∙
+            ap (λ (l : List ObjectFunction). functions-done 0 l (many (count - 0) (read-function s) 6)) (sym e);
         counts-size = refl;
         words-size = w;
         stamps-size = refl;
@@ -186,19 +178,19 @@ module _ (s : List ℕ) (count : ℕ) where
   module _ (size stamps-room ring-room : ℕ) (counts words stamps ring : List ℕ) (at k total : ℕ)
       (g : Going s count size stamps-room ring-room counts words stamps ring at k total) where
     stop-by : k < count → (r : Read ObjectFunction) → read-function s at ≡ r → done.Bad ≡ function-done (earlier s k) r
-        → functions-done total (earlier s k) (length s) (many (count - k) (read-function s) at) ≡ verdict.No
+        → functions-done total (earlier s k) (many (count - k) (read-function s) at) ≡ done.Bad
     unfolding function-done functions-done
     stop-by h (bad fault) e b =
-        ap (functions-done total (earlier s k) (length s)) (left-stops (read-function s) count k at h (record { fault = fault; is = e }) .is)
+        ap (functions-done total (earlier s k)) (left-stops (read-function s) count k at h (record { fault = fault; is = e }) .is)
     stop-by h (got f next) e b =
-        ap (functions-done total (earlier s k) (length s)) (left-goes (read-function s) count k at next f h e) ∙ wrong-on total (earlier s k) (length s) f _ (by (right (earlier s k) f) b)
+        ap (functions-done total (earlier s k)) (left-goes (read-function s) count k at next f h e) ∙ wrong-on total (earlier s k) f _ (by (right (earlier s k) f) b)
       where
         by : (t : Bool) → done.Bad ≡ (if t then done.Is (instructions (division (earlier s k) f)) next else done.Bad) → t ≡ false
         by true b = absurd (let z : _≡_ {A = ℕ} 0 1 = cc in omega arith)
         by false b = refl
 
     pub going-stop : k < count → done.Bad ≡ function-done (earlier s k) (read-function s at)
-        → verdict.No ≡ functions-done 0 [] (length s) (many count (read-function s) 6)
+        → done.Bad ≡ functions-done 0 [] (many count (read-function s) 6)
     going-stop h b = sym (g .left ∙ stop-by h (read-function s at) refl b)
 
     module _ (n next : ℕ) (e : done.Is n next ≡ function-done (earlier s k) (read-function s at)) where
@@ -221,22 +213,18 @@ module _ (s : List ℕ) (count : ℕ) where
             low = omega (arith, g .low);
             inside = grows .1;
             left =
-                g .left ∙ ap (functions-done total (earlier s k) (length s)) (left-goes (read-function s) count k at next (d .value) h (d .is)) ∙
-                right-on total (earlier s k) (length s) (d .value) _ (d .fine) ∙
-                ap (λ (x : ℕ). functions-done (total + x) (earlier s k ++ (d .value ∷ [])) (length s) (many (count - (k + 1)) (read-function s) next)) (sym (d .number)) ∙
-                ap (λ (l : List ObjectFunction). functions-done (total + n) l (length s) (many (count - (k + 1)) (read-function s) next)) (sym m);
+                g .left ∙ ap (functions-done total (earlier s k)) (left-goes (read-function s) count k at next (d .value) h (d .is)) ∙
+                right-on total (earlier s k) (d .value) _ (d .fine) ∙
+                ap (λ (x : ℕ). functions-done (total + x) (earlier s k ++ (d .value ∷ [])) (many (count - (k + 1)) (read-function s) next)) (sym (d .number)) ∙
+                ap (λ (l : List ObjectFunction). functions-done (total + n) l (many (count - (k + 1)) (read-function s) next)) (sym m);
             counts-size = z;
             words-size = w;
             stamps-size = t;
             ring-size = o;
           }
 
-    last : count ≤ k → functions-done 0 [] (length s) (many count (read-function s) 6) ≡ (if eqb at (length s) && true then verdict.Yes (total + 0) else verdict.No)
+    pub going-done : count ≤ k → done.Is total at ≡ functions-done 0 [] (many count (read-function s) 6)
     unfolding functions-done right-all count-all
-    last h = g .left ∙ ap (functions-done total (earlier s k) (length s)) (left-none (read-function s) count k at h)
-
-    pub going-done : count ≤ k → at ≡ length s → verdict.Yes total ≡ functions-done 0 [] (length s) (many count (read-function s) 6)
-    going-done h e = let z : total + 0 ≡ total = omega arith in sym (last h ∙ rw (eq-eqb _ _ e, z) refl)
-
-    pub going-past : count ≤ k → (at ≡ length s → ⊥) → verdict.No ≡ functions-done 0 [] (length s) (many count (read-function s) 6)
-    going-past h e = sym (last h ∙ rw (ne-eqb _ _ e) refl)
+    going-done h =
+        let z : total + 0 ≡ total = omega arith in
+        sym (g .left ∙ ap (functions-done total (earlier s k)) (left-none (read-function s) count k at h) ∙ rw z refl)

@@ -91,8 +91,7 @@ unfoldable pub count-all : (earlier functions : List ObjectFunction) → ℕ
 count-all earlier [] = 0
 count-all earlier (f ∷ fs) = instructions (division earlier f) + count-all (earlier ++ (f ∷ [])) fs
 
--- of functions that end where the image does, behind others that have `n` instructions
-unfoldable pub functions-done : (n : ℕ) → (earlier : List ObjectFunction) → (size : ℕ) → Read (List ObjectFunction) → Verdict
-functions-done n earlier size (bad _) = verdict.No
-functions-done n earlier size (got fs end) =
-    if eqb end size && right-all earlier fs then verdict.Yes (n + count-all earlier fs) else verdict.No
+-- behind others that have `n` instructions: how many there are then, and where the functions end
+unfoldable pub functions-done : (n : ℕ) → (earlier : List ObjectFunction) → Read (List ObjectFunction) → Done
+functions-done n earlier (bad _) = done.Bad
+functions-done n earlier (got fs end) = if right-all earlier fs then done.Is (n + count-all earlier fs) end else done.Bad

@@ -22,7 +22,7 @@ use image_records::Summed;
 // An image of at most this many bytes is small: it pays for small tables only.
 const SMALL: usize = 4096;
 
-// How many instructions a function has, and where it ends.
+// How many instructions a function has, or functions in a row, and where they end.
 pub enum Done {
     Is(usize, usize),
     Bad,
@@ -203,7 +203,7 @@ fn note_count(s: &[u8], at: usize, k: usize, counts: &mut [u16])
     }
 }
 
-// All `count` functions, to the image's last byte: how many instructions they have.
+// All `count` functions: how many instructions they have, and where they end.
 fn judge_all(
     s: &[u8],
     count: usize,
@@ -211,27 +211,24 @@ fn judge_all(
     words: &mut [u64; 256],
     stamps: &mut [u32],
     ring: &mut [u8],
-) -> Verdict
+) -> Done
     requires { ⌜ (count < 4294967296) × (6 ≤ length (now s)) ⌝ }
     requires { ⌜ (length (now words) ≡ 256) × ((stamps-least ≤ length (now stamps)) × Wide (length (now s)) (length (now ring))) ⌝ }
-    ensures { λ r. ⌜ r ≡ functions-done 0 [] (length (now (s .entry))) (many count (read-function (now (s .entry))) 6) ⌝ }
+    ensures { λ r. ⌜ r ≡ functions-done 0 [] (many count (read-function (now (s .entry))) 6) ⌝ }
 {
     let mut at: usize = Header::FIRST;
     let mut k: usize = 0;
     let mut total: usize = 0;
     while k < count {
         let Done::Is(n, next) = function(s, at, k, counts, words, stamps, ring) else {
-            return Verdict::No;
+            return Done::Bad;
         };
         note_count(s, at, k, counts);
         total += n;
         at = next;
         k += 1;
     }
-    if at == s.len() {
-        return Verdict::Yes(total);
-    }
-    Verdict::No
+    Done::Is(total, at)
 }
 
 // The same with words for functions of up to 256 constants. All tables are lent to each function, and none is cleared between two.
@@ -241,10 +238,10 @@ fn judge_with(
     counts: &mut [u16],
     stamps: &mut [u32],
     ring: &mut [u8],
-) -> Verdict
+) -> Done
     requires { ⌜ (count < 4294967296) × (6 ≤ length (now s)) ⌝ }
     requires { ⌜ (stamps-least ≤ length (now stamps)) × Wide (length (now s)) (length (now ring)) ⌝ }
-    ensures { λ r. ⌜ r ≡ functions-done 0 [] (length (now (s .entry))) (many count (read-function (now (s .entry))) 6) ⌝ }
+    ensures { λ r. ⌜ r ≡ functions-done 0 [] (many count (read-function (now (s .entry))) 6) ⌝ }
 {
     let mut words = [0u64; 256];
     judge_all(s, count, counts, &mut words, stamps, ring)
@@ -256,19 +253,19 @@ fn small_lent(
     counts: &mut [u16; 256],
     stamps: &mut [u32; 512],
     ring: &mut [u8; SMALL],
-) -> Verdict
+) -> Done
     requires { ⌜ (count < 4294967296) × ((6 ≤ length (now s)) × (length (now s) ≤ small-size)) ⌝ }
     requires { ⌜ (length (now stamps) ≡ 512) × (length (now ring) ≡ small-size) ⌝ }
-    ensures { λ r. ⌜ r ≡ functions-done 0 [] (length (now (s .entry))) (many count (read-function (now (s .entry))) 6) ⌝ }
+    ensures { λ r. ⌜ r ≡ functions-done 0 [] (many count (read-function (now (s .entry))) 6) ⌝ }
 {
     judge_with(s, count, counts, stamps, ring)
 }
 
 // Tables are made of zeros, which takes a small image longer than its reading: so it gets small ones. No code of it is longer than its ring, and
 // with 19 bytes and more to each it has less than 256 functions.
-fn judge_small(s: &[u8], count: usize) -> Verdict
+fn judge_small(s: &[u8], count: usize) -> Done
     requires { ⌜ (count < 4294967296) × ((6 ≤ length (now s)) × (length (now s) ≤ small-size)) ⌝ }
-    ensures { λ r. ⌜ r ≡ functions-done 0 [] (length (now (s .entry))) (many count (read-function (now (s .entry))) 6) ⌝ }
+    ensures { λ r. ⌜ r ≡ functions-done 0 [] (many count (read-function (now (s .entry))) 6) ⌝ }
 {
     let mut counts = [0u16; 256];
     let mut stamps = [0u32; 512];
@@ -282,18 +279,18 @@ fn few_lent(
     counts: &mut [u16; 2048],
     stamps: &mut [u32; 4096],
     ring: &mut [u8; WINDOW],
-) -> Verdict
+) -> Done
     requires { ⌜ (count < 4294967296) × (6 ≤ length (now s)) ⌝ }
     requires { ⌜ (length (now stamps) ≡ 4096) × (length (now ring) ≡ window-size) ⌝ }
-    ensures { λ r. ⌜ r ≡ functions-done 0 [] (length (now (s .entry))) (many count (read-function (now (s .entry))) 6) ⌝ }
+    ensures { λ r. ⌜ r ≡ functions-done 0 [] (many count (read-function (now (s .entry))) 6) ⌝ }
 {
     judge_with(s, count, counts, stamps, ring)
 }
 
 // Few functions get a small table of counts.
-fn judge_few(s: &[u8], count: usize) -> Verdict
+fn judge_few(s: &[u8], count: usize) -> Done
     requires { ⌜ (count < 4294967296) × (6 ≤ length (now s)) ⌝ }
-    ensures { λ r. ⌜ r ≡ functions-done 0 [] (length (now (s .entry))) (many count (read-function (now (s .entry))) 6) ⌝ }
+    ensures { λ r. ⌜ r ≡ functions-done 0 [] (many count (read-function (now (s .entry))) 6) ⌝ }
 {
     let mut counts = [0u16; 2048];
     let mut stamps = [0u32; 4096];
@@ -307,17 +304,17 @@ fn many_lent(
     counts: &mut [u16; 65536],
     stamps: &mut [u32; 4096],
     ring: &mut [u8; WINDOW],
-) -> Verdict
+) -> Done
     requires { ⌜ (count < 4294967296) × (6 ≤ length (now s)) ⌝ }
     requires { ⌜ (length (now stamps) ≡ 4096) × (length (now ring) ≡ window-size) ⌝ }
-    ensures { λ r. ⌜ r ≡ functions-done 0 [] (length (now (s .entry))) (many count (read-function (now (s .entry))) 6) ⌝ }
+    ensures { λ r. ⌜ r ≡ functions-done 0 [] (many count (read-function (now (s .entry))) 6) ⌝ }
 {
     judge_with(s, count, counts, stamps, ring)
 }
 
-fn judge_many(s: &[u8], count: usize) -> Verdict
+fn judge_many(s: &[u8], count: usize) -> Done
     requires { ⌜ (count < 4294967296) × (6 ≤ length (now s)) ⌝ }
-    ensures { λ r. ⌜ r ≡ functions-done 0 [] (length (now (s .entry))) (many count (read-function (now (s .entry))) 6) ⌝ }
+    ensures { λ r. ⌜ r ≡ functions-done 0 [] (many count (read-function (now (s .entry))) 6) ⌝ }
 {
     let mut counts = [0u16; 65536];
     let mut stamps = [0u32; 4096];
@@ -326,9 +323,9 @@ fn judge_many(s: &[u8], count: usize) -> Verdict
 }
 
 // All `count` functions of an image.
-pub fn judge(s: &[u8], count: usize) -> Verdict
+pub fn judge(s: &[u8], count: usize) -> Done
     requires { ⌜ (count < 4294967296) × (6 ≤ length (now s)) ⌝ }
-    ensures { λ r. ⌜ r ≡ functions-done 0 [] (length (now (s .entry))) (many count (read-function (now (s .entry))) 6) ⌝ }
+    ensures { λ r. ⌜ r ≡ functions-done 0 [] (many count (read-function (now (s .entry))) 6) ⌝ }
 {
     if s.len() <= SMALL {
         return judge_small(s, count);

@@ -3,3 +3,5 @@ pub mod Many
 pub mod Records
 pub mod Running
 pub mod Forward
+pub mod Lengths
+pub mod Faults

@@ -16,7 +16,7 @@ use Rattle.rules.specs.Reader.{Read, got, bad, Reader, go-on, _>>=_, _>>_, retu
 use Rattle.rules.specs.Chunk.{Constant, CN, CS, CF, same-constant, Run, ObjectFunction}
 use Rattle.rules.specs.ImageFile.{ConstantMark, number-mark, string-mark, function-mark, constant-marks, constant-fields, read-constant, read-run, read-function}
 use Rattle.fields.specs.Words.{word8, word16, word32, word64, letters}
-use Rattle.fields.proofs.Reading.{Field, then-on, then-bad, a-u8, a-u16, a-u32, a-u64, a-mark, mark-is-it, mark-is-not, mark-is-cut}
+use Rattle.fields.proofs.Reading.{Field, then-on, then-bad, a-u8, a-u16, a-u32, a-u64, a-mark, mark-is-it, mark-is-not, mark-is-cut, marked}
 use Rattle.image_records.specs.declared.Word.{Word}
 use Rattle.image_records.specs.declared.Word.the-variants as word
 use Rattle.image_records.specs.declared.Place.{Place}
@@ -390,6 +390,7 @@ pub record Body (s : List ℕ) (name arity upvalues constants runs size at : ℕ
   pub start : ℕ
   pub constants-are : many constants (read-constant s) at ≡ got cs runs-at
   pub runs-are : many runs (read-run s) runs-at ≡ got rs code-at
+  pub begins : start ≡ code-at + 2
   pub ops-are : many size (u8 s ImageRefused) start ≡ got ops next
   pub is : f ≡ made s name arity upvalues cs rs ops
 
@@ -412,6 +413,7 @@ module _ (s : List ℕ) (name arity upvalues constants runs size at : ℕ) (f : 
         start = c .next;
         constants-are = a .is;
         runs-are = b .is;
+        begins = marked s ImageRefused 0x4344 (b .next) (c .is) .on;
         ops-are = d .is ∙ ap (got (d .value)) m;
         is = cc;
       }

@@ -19,12 +19,12 @@ fn answer(
     code: &mut [u8],
     spans: &mut [u32],
 ) -> Answer
-    ensures { λ r. ⌜ Answered (now (tree .entry)) (record { table-words = length (now (table .entry)); code-bytes = length (now (code .entry)); span-words = length (now (spans .entry)); output-bytes = length (now (out .entry)) }) r (now (out .exit)) ⌝ }
+    ensures { λ r. ⌜ Answered (now (tree .entry)) (record { options = 0; table-words = length (now (table .entry)); code-bytes = length (now (code .entry)); span-words = length (now (spans .entry)); output-bytes = length (now (out .entry)) }) r (now (out .exit)) ⌝ }
 {
     if MOST < tree.len() {
         return refused(Refusal::TreeTooLong);
     }
-    entry::compile(tree, out, table, code, spans)
+    entry::compile(tree, 0, out, table, code, spans)
 }
 
 fn least(n: u64, out: &[u8]) -> usize

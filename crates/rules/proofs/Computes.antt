@@ -72,7 +72,7 @@ unfolding base tree chunk in-compiler.emit-place in-compiler.through in-compiler
 compiler = tt
 
 unfoldable pub image : Unit {0}
-unfolding base chunk in-image.join in-image.constant-bytes in-image.run-bytes in-image.function-bytes in-image.image-bytes
+unfolding base chunk in-image.join in-image.constant-bytes in-image.run-bytes in-image.function-bytes in-image.image-bytes in-image.places in-image.directory-bytes in-image.image-with
 image = tt
 
 unfoldable pub tree-encode : Unit {0}
@@ -83,7 +83,7 @@ unfolding tree image in-tree-encode.byte in-tree-encode.opening in-tree-encode.i
 tree-encode = tt
 
 unfoldable pub entry : Unit {0}
-unfolding base answer tree-file compiler image in-entry.code-limit in-entry.from-outcome in-entry.from-read in-entry.leaves in-entry.write-image
+unfolding base answer tree-file compiler image in-entry.asks-directory in-entry.code-limit in-entry.from-outcome in-entry.from-read in-entry.leaves in-entry.write-image
     in-entry.write-out in-entry.compile-tree in-entry.compile-lent in-entry.compile-within
 entry = tt
 
@@ -95,8 +95,8 @@ unfolding base op chunk in-division.function-kind in-division.kind-of in-divisio
 division = tt
 
 unfoldable pub image-file : Unit {0}
-unfolding reader in-image-file.constant-marks in-image-file.constant-fields in-image-file.read-constant in-image-file.read-run
-    in-image-file.read-function in-image-file.read-functions in-image-file.read-image
+unfolding reader image in-image-file.constant-marks in-image-file.constant-fields in-image-file.read-constant in-image-file.read-run
+    in-image-file.read-function in-image-file.read-offsets in-image-file.read-directory in-image-file.read-behind in-image-file.read-functions in-image-file.read-image
 image-file = tt
 
 unfoldable pub checker : Unit {0}
@@ -104,5 +104,5 @@ unfolding answer division image-file in-checker.runs-apart in-checker.distinct i
     in-checker.names-in-all in-checker.named-once in-checker.closes in-checker.closures in-checker.closed-at in-checker.closed-in
     in-checker.closed-once in-checker.facts in-checker.sound in-checker.instructions in-checker.instruction-count in-checker.checked
     in-checker.image-of in-checker.verdict in-checker.check in-checker.function-numbered in-checker.code-in in-checker.code-of in-checker.code-before
-    in-checker.place-in in-checker.code-place in-checker.code-verdict in-checker.code-answer in-checker.span-of
+    in-checker.place-in in-checker.code-place in-checker.code-verdict in-checker.code-answer in-checker.code-part in-checker.directory-verdict in-checker.directory-of in-checker.directory-entry in-checker.record-part in-checker.entry-part in-checker.code-through in-checker.span-of
 checker = tt

@@ -184,8 +184,11 @@ P2-image =
     ++ hex 11 0x52_55_00000000_00000000_02
     ++ hex 7 0x43_44_00_00_1B_01_24
 
+abbrev pub asked : (options table-words code-bytes span-words output-bytes : ℕ) → Lent
+asked options table code spans out = record { options = options; table-words = table; code-bytes = code; span-words = spans; output-bytes = out }
+
 abbrev pub lent : (table-words code-bytes span-words output-bytes : ℕ) → Lent
-lent table code spans out = record { table-words = table; code-bytes = code; span-words = spans; output-bytes = out }
+lent = asked 0
 
 -- what jumps go to
 abbrev pub target : Operands → (at : ℕ) → (bytes : List ℕ) → List ℕ

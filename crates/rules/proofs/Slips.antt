@@ -12,7 +12,7 @@ use Rattle.rules.specs.Base.{if_then_else_, position}
 use Rattle.rules.specs.declared.Span.{Span}
 use Rattle.rules.specs.declared.Refusal.{Refusal}
 use Rattle.rules.specs.declared.Refusal.the-variants.{AlreadyDefined, JumpTooLarge, TooManyArgs, TooManyParams, TooManyLocals, TooManyUpvalues}
-use Rattle.rules.specs.declared.Refusal.the-variants.{TreeTooDeep, TooManyOpen, TreeTooLong, CodeFull, OutFull, ImageRefused}
+use Rattle.rules.specs.declared.Refusal.the-variants.{TreeTooDeep, TooManyOpen, TreeTooLong, CodeFull, OutFull, ImageRefused, NoSuchFunction}
 use Rattle.rules.specs.declared.Answer.{Answer}
 use Rattle.rules.specs.Answer.{NO-SPAN, refusal, accepted}
 use Rattle.rules.specs.Tree.{Expr, Exprs, ExprAssign, ExprCall, ExprGet, ExprInfix, Literal, ExprPrefix, ExprSet, ExprSuper, ExprVar, []ᵉ, _∷ᵉ_, count-exprs}
@@ -22,18 +22,18 @@ use Rattle.rules.specs.TreeFile.{read-tree}
 use Rattle.rules.specs.TreeEncode.{encode}
 use Rattle.rules.specs.Op as op
 use Rattle.rules.specs.Chunk.{Chunk, Constant, CN, CS, same-constant, Run, push-span, ObjectFunction, write-constant, written, at-place, no-room}
-use Rattle.rules.specs.Image.{image-bytes}
+use Rattle.rules.specs.Image.{image-bytes, places, image-with}
 use Rattle.rules.specs.Compiler as c
 use Rattle.rules.specs.Compiler.{Compiler, CompilerCtx, FunctionType, Upvalue, ok, err, with-ctx, with-chunk, with-locals, with-upvalues}
 use Rattle.rules.specs.Compiler.{ends-in-return, same-upvalue, add-upvalue, added, captured, failed, declared-here, set-u16}
 use Rattle.rules.specs.Limits.{Limits, first-limits, max-tree, max-code}
 use Rattle.rules.specs.Entry as entry
-use Rattle.rules.specs.Entry.{Lent, Left, Compiled, functions-are, refused, compile-tree, compile-lent, compile-within}
+use Rattle.rules.specs.Entry.{Lent, Left, Compiled, functions-are, refused, leaves, compile-tree, compile-lent, compile-within, compile}
 use Rattle.rules.specs.ImageFile.{read-run}
 use Rattle.rules.specs.Reader.{got, bad}
 use Rattle.rules.specs.Division.{division, function-fits, run-fits}
-use Rattle.rules.specs.Checker.{check, span-of}
-use Rattle.rules.proofs.Examples.{hex, P2-tree, P2-image, P12-tree, from-to, lent, given, codes}
+use Rattle.rules.specs.Checker.{check, code-part, directory-of, code-through, span-of}
+use Rattle.rules.proofs.Examples.{hex, P2-tree, P2-image, P12-tree, from-to, asked, lent, given, codes}
 use Rattle.rules.proofs.Computes as computes
 
 -- ## "256 arguments", and `super` before the count
@@ -220,7 +220,7 @@ work-areas-zero limits tree lent = by-answer (compile-lent limits tree lent)
   where
     by-answer : (x : Compiled) → Zero lent (entry.write-out lent x)
     by-answer (refused r) = leaves-zero lent _ _
-    by-answer (functions-are fs) = image-zero lent (image-bytes fs)
+    by-answer (functions-are fs) = image-zero lent _
 
 -- ## The reader's limits are what it is given: P2 has depth 2, and P12 two `SF` inside one another
 
@@ -326,6 +326,72 @@ pub record Named : Type 0 where
 pub named : Named
 unfolding hex computes.entry computes.checker
 named = record { invoke = refl; method = refl }
+
+-- ## The directory: in the output and in 31's length where it is asked for, and held to the records by the checker
+
+abbrev P2-directory : List ℕ
+P2-directory = hex 10 0x44_58_01000000_06000000
+
+abbrev functions-in : Compiled → List ObjectFunction
+functions-in (refused r) = []
+functions-in (functions-are functions) = functions
+
+abbrev methods : List ObjectFunction
+methods = functions-in (compile-tree first-limits method-tree max-code)
+
+abbrev methods-image : List ℕ
+methods-image = image-with true methods
+
+pub record Directory : Type 0 where
+  pub asked-for : compile P2-tree (asked 2 17_412 5 15 84) ≡ leaves (asked 2 17_412 5 15 84) (accepted 83) (P2-image ++ P2-directory ++ 0 ∷ [])
+  pub out-full : compile P2-tree (asked 2 17_412 5 15 82) ≡ leaves (asked 2 17_412 5 15 82) (refusal (OutFull 83)) (replicate 82 0)
+  pub other-bits : compile P2-tree (asked 5 17_412 5 15 73) ≡ leaves (asked 5 17_412 5 15 73) (accepted 73) P2-image
+  pub accepts : check (P2-image ++ P2-directory) ≡ accepted 4
+  pub offset-off : check (P2-image ++ hex 10 0x44_58_01000000_07000000) ≡ refusal ImageRefused
+  pub count-off : check (P2-image ++ hex 10 0x44_58_00000000_06000000) ≡ refusal ImageRefused
+  pub cut-short : check (P2-image ++ hex 9 0x44_58_01000000_060000) ≡ refusal ImageRefused
+  pub one-byte-more : check (P2-image ++ P2-directory ++ 0 ∷ []) ≡ refusal ImageRefused
+  pub twice : check (P2-image ++ P2-directory ++ P2-directory) ≡ refusal ImageRefused
+  -- the second function's record stands behind the first's 32 bytes, and its offset is read
+  pub second-place : places 6 methods ≡ 6 ∷ 38 ∷ []
+  pub two-accepted : check methods-image ≡ accepted 10
+  pub second-off : check (image-bytes methods ++ hex 14 0x44_58_02000000_06000000_27000000) ≡ refusal ImageRefused
+  -- where it is, and where there is none
+  pub found : directory-of (P2-image ++ P2-directory) ≡ record { number = 0; at = 73; end = 83; name = 0; length = 1 }
+  pub none-there : directory-of P2-image ≡ accepted 0
+  -- through it
+  pub first-through : code-through methods-image (directory-of methods-image .at) 0 ≡ code-part methods-image 0
+  pub second-through : code-through methods-image (directory-of methods-image .at) 1 ≡ code-part methods-image 1
+  pub second-number : code-part methods-image 1 .number ≡ 0
+  pub no-third : code-through methods-image (directory-of methods-image .at) 2 ≡ refusal NoSuchFunction
+  pub no-directory : code-through P2-image 6 0 ≡ refusal ImageRefused
+  pub not-to-the-end : code-through (P2-image ++ P2-directory ++ 0 ∷ []) 73 0 ≡ refusal ImageRefused
+
+pub directory : Directory
+unfolding hex computes.entry computes.checker
+directory =
+    record {
+      asked-for = refl;
+      out-full = refl;
+      other-bits = refl;
+      accepts = refl;
+      offset-off = refl;
+      count-off = refl;
+      cut-short = refl;
+      one-byte-more = refl;
+      twice = refl;
+      second-place = refl;
+      two-accepted = refl;
+      second-off = refl;
+      found = refl;
+      none-there = refl;
+      first-through = refl;
+      second-through = refl;
+      second-number = refl;
+      no-third = refl;
+      no-directory = refl;
+      not-to-the-end = refl;
+    }
 
 -- ## The code limit: at most 262,144, and on the open functions' code, summed
 

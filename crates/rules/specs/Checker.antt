@@ -1,8 +1,8 @@
--- The image checker, as a function of bytes: what it asks beside demand 3, its count of instructions; and the two lookups.
+-- The image checker, as a function of bytes: what it asks beside demand 3, its count of instructions; and the lookups.
 use mathlib.Core.Bool.{Bool, true, false, not, _&&_}
 use mathlib.Core.Option.{Option, none, some}
 use mathlib.Core.List.{List, [], _∷_}
-use Prim.Native.Nat.{ℕ, _+_, _-_}
+use Prim.Native.Nat.{ℕ, _+_, _-_, _*_}
 use lib.ListN.{length, getD, getElem?}
 use lib.Dec.{ltb, eqb}
 use Rattle.rules.specs.Base.{if_then_else_, all, all-below}
@@ -10,10 +10,11 @@ use Rattle.rules.specs.declared.Span.{Span}
 use Rattle.rules.specs.declared.Answer.{Answer}
 use Rattle.rules.specs.declared.Refusal.the-variants.{ImageRefused, NoSuchFunction, NoSuchByte}
 use Rattle.rules.specs.Answer.{refusal, accepted, at-span}
-use Rattle.rules.specs.Reader.{Read, got, bad, _>>_, many}
+use Rattle.rules.specs.Reader.{Read, got, bad, Reader, _>>=_, _>>_, here, need, u32, mark-is, many}
 use Rattle.rules.specs.Op.{Operands, Plain, Byte, Captured, Value, Text, Invoke, Ahead, Back, Closure}
 use Rattle.rules.specs.Chunk.{Constant, CN, CS, CF, same-constant, Run, same-span, ObjectFunction}
 use Rattle.rules.specs.Division.{Instruction, division, kind-at, is-function, fits}
+use Rattle.rules.specs.Image.{image-bytes}
 use Rattle.rules.specs.ImageFile.{read-function, read-image}
 
 -- ## What is asked beside demand 3
@@ -158,6 +159,55 @@ code-verdict k (some functions) = if ltb k (length functions) then accepted 0 el
 -- the lookup's number: 0, 40 or 41
 unfoldable pub code-answer : (image : List ℕ) → (k : ℕ) → Answer
 code-answer image k = code-verdict k (image-of image)
+
+-- what is told of the lookup: its number, and the place, the end and the length of the code
+unfoldable pub code-part : (image : List ℕ) → (k : ℕ) → Answer
+code-part image k =
+    record {
+      number = code-answer image k .number;
+      at = code-place image k;
+      end = code-place image k + length (code-of image k);
+      name = 0;
+      length = length (code-of image k);
+    }
+
+-- ## The same through the directory
+
+unfoldable pub directory-verdict : (size : ℕ) → Option (List ObjectFunction) → Answer
+directory-verdict size none = refusal ImageRefused
+directory-verdict size (some functions) =
+    if eqb (length (image-bytes functions)) size
+    then accepted 0
+    else record { number = 0; at = length (image-bytes functions); end = size; name = 0; length = length functions }
+
+-- where the directory of a checked image stands, its end, and of how many functions it tells; 0 and zeros where there is none; 40
+unfoldable pub directory-of : (image : List ℕ) → Answer
+directory-of image = directory-verdict (length image) (image-of image)
+
+module _ (image : List ℕ) where
+  -- what a directory has for function k: 40 where the bytes are no directory that ends where the image does, 41 where it has no such function
+  unfoldable pub directory-entry : (k : ℕ) → Reader ℕ
+  directory-entry k = do
+    mark-is image ImageRefused 0x4458
+    count ← u32 image ImageRefused
+    first ← here
+    need (eqb (first + 4 * count) (length image)) ImageRefused
+    need (ltb k count) NoSuchFunction
+    λ at. u32 image ImageRefused (at + 4 * k)
+
+  unfoldable pub record-part : Read ObjectFunction → Answer
+  record-part (bad r) = refusal r
+  record-part (got f next) =
+      record { number = 0; at = next - length (f .chunk .ops); end = next; name = 0; length = length (f .chunk .ops) }
+
+  unfoldable pub entry-part : Read ℕ → Answer
+  entry-part (bad r) = refusal r
+  entry-part (got offset _) = record-part (read-function image offset)
+
+  -- from function k's entry and record alone, whatever the bytes and the place: it is for an image that was checked, at the place that
+  -- `directory-of` gave
+  unfoldable pub code-through : (place k : ℕ) → Answer
+  code-through place k = entry-part (directory-entry k place)
 
 -- ## The span of one code byte, from a list of runs
 

@@ -1,8 +1,9 @@
 -- The whole: from a tree file's bytes and the sizes of what is lent to the answer and what every lent area then holds.
+use mathlib.Core.Bool.{Bool}
 use mathlib.Core.List.{List, _++_}
-use Prim.Native.Nat.{ℕ, _-_, _*_, _/_, min}
+use Prim.Native.Nat.{ℕ, _-_, _*_, _/_, _%_, min}
 use lib.ListN.{length, replicate}
-use lib.Dec.{leb}
+use lib.Dec.{leb, eqb}
 use Rattle.rules.specs.Base.{if_then_else_}
 use Rattle.rules.specs.Limits.{Limits, first-limits, max-tree, max-code}
 use Rattle.rules.specs.declared.Answer.{Answer}
@@ -14,10 +15,11 @@ use Rattle.rules.specs.Tree.{Stmts}
 use Rattle.rules.specs.Reader.{Read, got, bad}
 use Rattle.rules.specs.TreeFile.{read-tree}
 use Rattle.rules.specs.Compiler.{Outcome, ok, err, compile-functions}
-use Rattle.rules.specs.Image.{image-bytes}
+use Rattle.rules.specs.Image.{image-with}
 
--- how much the caller lends beside the tree
+-- what the caller says beside the tree: what is asked for, and how much is lent
 pub record Lent : Type 0 where
+  pub options : ℕ
   pub table-words : ℕ  -- of eight bytes
   pub code-bytes : ℕ
   pub span-words : ℕ  -- of four bytes
@@ -30,6 +32,10 @@ pub record Left : Type 0 where
   pub table : List ℕ
   pub code : List ℕ
   pub spans : List ℕ
+
+-- the bits of `options`, of which the others say nothing: 2, the image ends in a directory
+unfoldable pub asks-directory : (options : ℕ) → Bool
+asks-directory options = eqb (options / 2 % 2) 1
 
 -- the least of the code bytes, a third of the span words rounded down, and 262,144
 unfoldable pub code-limit : Lent → ℕ
@@ -69,7 +75,7 @@ write-image lent image =
 -- the image and then zeros, or after a refusal only zeros; 31 where all else is accepted
 unfoldable pub write-out : Lent → Compiled → Left
 write-out lent (refused r) = leaves lent (refusal r) (replicate (lent .output-bytes) 0)
-write-out lent (functions-are functions) = write-image lent (image-bytes functions)
+write-out lent (functions-are functions) = write-image lent (image-with (asks-directory (lent .options)) functions)
 
 module _ (limits : Limits) where
   -- 2, and what comes after it

@@ -1,8 +1,9 @@
--- The image file: from finished functions to bytes.
+-- The image file: from finished functions to bytes, with or without a directory behind them.
+use mathlib.Core.Bool.{Bool}
 use mathlib.Core.List.{List, [], _∷_, _++_}
-use Prim.Native.Nat.{ℕ}
+use Prim.Native.Nat.{ℕ, _+_}
 use lib.ListN.{length}
-use Rattle.rules.specs.Base.{le}
+use Rattle.rules.specs.Base.{if_then_else_, le}
 use Rattle.rules.specs.Chunk.{Chunk, Constant, CN, CS, CF, Run, ObjectFunction}
 
 -- ## Records
@@ -29,3 +30,17 @@ function-bytes f =
 
 unfoldable pub image-bytes : List ObjectFunction → List ℕ
 image-bytes functions = 0x49 ∷ 0x4D ∷ le 4 (length functions) ++ join function-bytes functions
+
+-- ## The directory
+
+-- where the functions' records stand, the first at `at`
+unfoldable pub places : (at : ℕ) → List ObjectFunction → List ℕ
+places at [] = []
+places at (f ∷ fs) = at ∷ places (at + length (function-bytes f)) fs
+
+-- the first record stands behind the image's mark and count
+unfoldable pub directory-bytes : List ObjectFunction → List ℕ
+directory-bytes functions = 0x44 ∷ 0x58 ∷ le 4 (length functions) ++ join (le 4) (places 6 functions)
+
+unfoldable pub image-with : (directory : Bool) → List ObjectFunction → List ℕ
+image-with directory functions = if directory then image-bytes functions ++ directory-bytes functions else image-bytes functions

@@ -1,12 +1,14 @@
--- The image file read back: from bytes to functions, or 40 where the bytes have another form.
+-- The image file read back, with a directory or without: from bytes to functions, or 40 where the bytes have another form.
 use mathlib.Core.List.{List, [], _∷_}
 use Prim.Native.Nat.{ℕ}
 use lib.ListN.{length}
 use lib.Dec.{ltb, leb, eqb}
+use Rattle.rules.specs.Base.{if_then_else_}
 use Rattle.rules.specs.Limits.{max-bits}
 use Rattle.rules.specs.declared.Refusal.the-variants.{ImageRefused}
 use Rattle.rules.specs.Reader.{Read, Reader, _>>=_, _>>_, return, here, need, one-of, u8, u16, u32, u64, mark, mark-is, span, many}
 use Rattle.rules.specs.Chunk.{Constant, CN, CS, CF, Run, ObjectFunction}
+use Rattle.rules.specs.Image.{places}
 
 pub data ConstantMark : Type 0 where
   number-mark string-mark function-mark : ConstantMark
@@ -61,6 +63,27 @@ module _ (image : List ℕ) where
           chunk = record { ops = ops; constants = constants; spans = spans };
         })
 
+  -- offsets are compared as numbers: no offset is that of a record from 4,294,967,296 on
+  unfoldable pub read-offsets : (offsets : List ℕ) → Reader Unit
+  read-offsets [] = return tt
+  read-offsets (place ∷ rest) = do
+    offset ← u32 image ImageRefused
+    need (eqb offset place) ImageRefused
+    read-offsets rest
+
+  unfoldable pub read-directory : List ObjectFunction → Reader Unit
+  read-directory functions = do
+    mark-is image ImageRefused 0x4458
+    count ← u32 image ImageRefused
+    need (eqb count (length functions)) ImageRefused
+    read-offsets (places 6 functions)
+
+  -- behind the functions: nothing, or their directory
+  unfoldable pub read-behind : List ObjectFunction → Reader Unit
+  read-behind functions = do
+    at ← here
+    if eqb at (length image) then return tt else read-directory functions
+
   -- to the last byte
   unfoldable pub read-functions : Reader (List ObjectFunction)
   read-functions = do
@@ -68,6 +91,7 @@ module _ (image : List ℕ) where
     count ← u32 image ImageRefused
     need (ltb 0 count) ImageRefused
     functions ← many count read-function
+    read-behind functions
     end ← here
     need (eqb end (length image)) ImageRefused
     return functions

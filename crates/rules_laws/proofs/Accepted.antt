@@ -1,16 +1,15 @@
--- What the compiler writes, the image checker accepts, as a law about bytes: for every tree file and all lent sizes, if the compiler accepts, the
--- checker answers 0 for the image's bytes, with the number of instructions in the division of all its code.
+-- What the compiler writes, the image checker accepts, as a law about bytes: for every tree file and all lent sizes, with a directory and without, if
+-- the compiler accepts, the checker answers 0 for the image's bytes, with the number of instructions in the division of all its code.
 use mathlib.Core.Path.{_≡_, refl, subst}
 use mathlib.Core.Bool.{Bool, true, false}
 use mathlib.Core.List.{List, [], _∷_, _++_}
-use Prim.Native.Nat.{ℕ, _+_, _-_, _≤_, _<_}
+use Prim.Native.Nat.{ℕ, _+_, _-_, _*_, _≤_, _<_}
 use native.Mathlib.Omega.{arith}
 use lib.ListN.{length, replicate}
 use lib.Dec.{T, leb, ltb→lt, leb→le}
 use Rattle.rules.specs.Base.{if_then_else_, all}
 use Rattle.rules.specs.Limits.{Limits, first-limits, max-tree, max-code}
 use Rattle.rules.specs.declared.Refusal.the-variants as refusal
-use Rattle.rules.specs.Answer as answer
 use Rattle.rules.specs.Answer.{accepted}
 use Rattle.rules.specs.Tree.{Stmts}
 use Rattle.rules.specs.Reader.{Read, got, bad}
@@ -18,20 +17,21 @@ use Rattle.rules.specs.TreeFile.{read-tree}
 use Rattle.rules.specs.Chunk.{Constant, CN, CS, CF, Run, total, ObjectFunction}
 use Rattle.rules.specs.Compiler as c
 use Rattle.rules.specs.Compiler.{Compiler, Outcome, ok, err}
-use Rattle.rules.specs.Image.{image-bytes}
+use Rattle.rules.specs.Image.{image-bytes, image-with}
 use Rattle.rules.specs.ImageFile.{read-image}
 use Rattle.rules.specs.Checker as checker
 use Rattle.rules.specs.Checker.{check, instruction-count, sound, names-earlier, all-earlier}
 use Rattle.rules.specs.Entry as entry
-use Rattle.rules.specs.Entry.{Lent, Left, code-limit, Compiled, functions-are, refused, compile-tree, compile-lent, compile-within, compile}
+use Rattle.rules.specs.Entry.{Lent, Left, asks-directory, code-limit, Compiled, functions-are, refused, compile-tree, compile-lent, compile-within, compile}
 use Rattle.rules_laws.proofs.Tests.{left, right, all-and}
 use Rattle.rules_laws.proofs.Facts.{All, all-map, Bytes}
 use Rattle.rules_laws.proofs.Runs.{Counts, Counted, counted}
 use Rattle.rules_laws.proofs.CodeBytes.{AllSound, Sound}
-use Rattle.rules_laws.proofs.Checks.{from-ok, from-lent, lent-checked, lent-sound, refusal-number}
-use Rattle.rules_laws.proofs.ReadBack.{Fits-run, Fits-constant, Fits-form, Fits-image, read-back, sound-accepted}
+use Rattle.rules_laws.proofs.Checks.{from-ok, from-lent, lent-checked, lent-sound, refusal-number, image-for, room}
+use Rattle.rules_laws.proofs.ReadBack.{Fits-run, Fits-constant, Fits-form, Fits-image, read-back-with, sound-accepted-with}
 use Rattle.rules_laws.proofs.Trees.{stmts-size}
 use Rattle.rules_laws.proofs.TreeBytes.{Fitting, tree-fits}
+use Rattle.rules_laws.proofs.ImageSizes.{image-in-all}
 use Rattle.rules_laws.proofs.Widths.{Small-constant, Small-run, Wide-function, Widths, widths}
 
 -- ## An accepted tree, taken apart
@@ -158,6 +158,12 @@ code-limit-most lent = omega arith
 
 module _ (limits : Limits) (tree : List ℕ) (bytes : Bytes tree) (lent : Lent) (fs : List ObjectFunction)
     (e : compile-lent limits tree lent ≡ functions-are fs) where
+  from : From limits tree (code-limit lent) fs
+  from = from-tree limits tree (code-limit lent) fs (from-lent limits tree lent fs e)
+
+  fits : Fitting tree (limits .funs) (from .stmts)
+  fits = tree-fits tree bytes (limits .depth) (limits .funs) (from .stmts) (from .next) (from .read)
+
   -- every number of the image is below what its field holds
   pub image-fits : Fits-image fs
   image-fits =
@@ -172,12 +178,6 @@ module _ (limits : Limits) (tree : List ℕ) (bytes : Bytes tree) (lent : Lent) 
             (functions-below 0 (length fs) fs (omega arith) (earlier fs (lent-checked limits tree lent fs e)));
       }
     where
-      from : From limits tree (code-limit lent) fs
-      from = from-tree limits tree (code-limit lent) fs (from-lent limits tree lent fs e)
-
-      fits : Fitting tree (limits .funs) (from .stmts)
-      fits = tree-fits tree bytes (limits .depth) (limits .funs) (from .stmts) (from .next) (from .read)
-
       w : Widths (stmts-size (from .stmts)) fs
       w =
           from-ok (Widths (stmts-size (from .stmts))) (c.compile-functions (code-limit lent) (from .stmts)) fs (from .state) (from .compiled)
@@ -186,42 +186,57 @@ module _ (limits : Limits) (tree : List ℕ) (bytes : Bytes tree) (lent : Lent) 
       few : length fs < 4_294_967_296
       few = omega (arith, w .count, fits .size, from .short)
 
+  -- and so is every offset, whatever the limits
+  pub image-short : (directory : Bool) → length (image-with directory fs) < 4_294_967_296
+  image-short directory =
+      omega (
+        arith,
+        from .short,
+        fits .size,
+        from-ok (λ fs. length (image-with directory fs) ≤ 221 * stmts-size (from .stmts) + 347) (c.compile-functions (code-limit lent) (from .stmts)) fs
+            (from .state) (from .compiled) (image-in-all (code-limit lent) (limits .funs) (from .stmts) directory (fits .parts)),
+      )
+
+  offsets-fit : length (image-bytes fs) ≤ 4_294_967_296
+  unfolding image-with
+  offsets-fit = omega (arith, image-short false)
+
   -- the encoder loses nothing of what the compiler gives
-  pub image-read-back : read-image (image-bytes fs) ≡ got fs (length (image-bytes fs))
-  image-read-back = read-back fs image-fits
+  pub image-read-back : (directory : Bool) → read-image (image-with directory fs) ≡ got fs (length (image-with directory fs))
+  image-read-back directory = read-back-with directory fs image-fits (λ _. offsets-fit)
 
   -- what the compiler writes, the checker accepts, and counts the instructions of the division
-  pub image-accepted : check (image-bytes fs) ≡ accepted (instruction-count fs fs)
-  image-accepted = sound-accepted fs image-fits (lent-checked limits tree lent fs e)
+  pub image-accepted : (directory : Bool) → check (image-with directory fs) ≡ accepted (instruction-count fs fs)
+  image-accepted directory = sound-accepted-with directory fs image-fits (λ _. offsets-fit) (lent-checked limits tree lent fs e)
 
 -- ## The same of what a call leaves
 
 -- the output holds an image, as long as the answer says, which the checker accepts, and then zeros
 pub record Good (lent : Lent) (r : Left) : Type 0 where
   pub functions : List ObjectFunction
-  pub says : r .answer ≡ accepted (length (image-bytes functions))
-  pub holds : r .output ≡ image-bytes functions ++ replicate (lent .output-bytes - length (image-bytes functions)) 0
-  pub checks : check (image-bytes functions) ≡ accepted (instruction-count functions functions)
+  pub says : r .answer ≡ accepted (length (image-for lent functions))
+  pub holds : r .output ≡ image-for lent functions ++ replicate (lent .output-bytes - length (image-for lent functions)) 0
+  pub checks : check (image-for lent functions) ≡ accepted (instruction-count functions functions)
 
 module _ (limits : Limits) (tree : List ℕ) (bytes : Bytes tree) (lent : Lent) where
   pub within-good : compile-within limits tree lent .answer .number ≡ 0 → Good lent (compile-within limits tree lent)
   unfolding compile-within entry.write-out entry.leaves entry.write-image
   within-good e = by-compiled (compile-lent limits tree lent) refl e
     where
-      room : List ℕ → Bool → Left
-      room image b =
-          if b
-          then entry.leaves lent (accepted (length image)) (image ++ replicate (lent .output-bytes - length image) 0)
-          else entry.leaves lent (answer.refusal (refusal.OutFull (length image))) (replicate (lent .output-bytes) 0)
-
       by-room : (fs : List ObjectFunction) → compile-lent limits tree lent ≡ functions-are fs → (b : Bool) →
-          room (image-bytes fs) b .answer .number ≡ 0 → Good lent (room (image-bytes fs) b)
-      by-room fs e₁ true e₂ = record { functions = fs; says = refl; holds = refl; checks = image-accepted limits tree bytes lent fs e₁ }
-      by-room fs e₁ false e₂ = absurd (omega (arith, refusal-number (refusal.OutFull (length (image-bytes fs)))))
+          room lent (image-for lent fs) b .answer .number ≡ 0 → Good lent (room lent (image-for lent fs) b)
+      by-room fs e₁ true e₂ =
+          record {
+            functions = fs;
+            says = refl;
+            holds = refl;
+            checks = image-accepted limits tree bytes lent fs e₁ (asks-directory (lent .options));
+          }
+      by-room fs e₁ false e₂ = absurd (omega (arith, refusal-number (refusal.OutFull (length (image-for lent fs)))))
 
       by-compiled : (x : Compiled) → compile-lent limits tree lent ≡ x → entry.write-out lent x .answer .number ≡ 0 →
           Good lent (entry.write-out lent x)
-      by-compiled (functions-are fs) e₁ e₂ = by-room fs e₁ (leb (length (image-bytes fs)) (lent .output-bytes)) e₂
+      by-compiled (functions-are fs) e₁ e₂ = by-room fs e₁ (leb (length (image-for lent fs)) (lent .output-bytes)) e₂
       by-compiled (refused r) e₁ e₂ = absurd (omega (arith, refusal-number r))
 
 -- for every tree file of bytes and all lent sizes

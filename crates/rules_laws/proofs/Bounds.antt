@@ -1,7 +1,8 @@
--- What a server can rely on, by the tree file's length `n`: an image is at most 17 n bytes, the open functions' code at no time more than n, and so
--- which rooms suffice.
+-- What a server can rely on, by the tree file's length `n`: an image is at most 17 n bytes, its directory counted, the open functions' code at no time
+-- more than n, and so which rooms suffice.
 use mathlib.Core.Path.{_≡_}
 use mathlib.Core.Logic.{_≢_}
+use mathlib.Core.Bool.{Bool}
 use mathlib.Core.List.{List}
 use Prim.Native.Nat.{ℕ, _+_, _*_, _≤_, min}
 use native.Mathlib.Omega.{arith}
@@ -9,8 +10,8 @@ use lib.ListN.{length}
 use Rattle.rules.specs.Limits.{Limits, first-limits, max-code}
 use Rattle.rules.specs.Chunk.{ObjectFunction}
 use Rattle.rules.specs.Compiler as c
-use Rattle.rules.specs.Image.{image-bytes}
-use Rattle.rules.specs.Entry.{Lent, code-limit, functions-are, compile-lent, compile-within, compile}
+use Rattle.rules.specs.Image.{image-with}
+use Rattle.rules.specs.Entry.{Lent, asks-directory, code-limit, functions-are, compile-lent, compile-within, compile}
 use Rattle.rules_laws.proofs.Facts.{Bytes}
 use Rattle.rules_laws.proofs.Checks.{from-ok, from-lent}
 use Rattle.rules_laws.proofs.Accepted.{From, from-tree, code-limit-most}
@@ -24,8 +25,9 @@ use Rattle.rules_laws.proofs.Exactly.{work-short-exactly, code-full-exa
 -- ## By the tree file's length
 
 module _ (limits : Limits) (nested : limits .funs ≤ 16) (tree : List ℕ) (bytes : Bytes tree) (lent : Lent) where
-  pub image-bound : (fs : List ObjectFunction) → compile-lent limits tree lent ≡ functions-are fs → length (image-bytes fs) ≤ 17 * length tree
-  image-bound fs e = omega (arith, image, fits .size)
+  pub image-bound : (directory : Bool) (fs : List ObjectFunction) → compile-lent limits tree lent ≡ functions-are fs →
+      length (image-with directory fs) ≤ 17 * length tree
+  image-bound directory fs e = omega (arith, image, fits .size)
     where
       from : From limits tree (code-limit lent) fs
       from = from-tree limits tree (code-limit lent) fs (from-lent limits tree lent fs e)
@@ -33,10 +35,10 @@ module _ (limits : Limits) (nested : limits .funs ≤ 16) (tree : List ℕ) (byt
       fits : Fitting tree (limits .funs) (from .stmts)
       fits = tree-fits tree bytes (limits .depth) (limits .funs) (from .stmts) (from .next) (from .read)
 
-      image : length (image-bytes fs) ≤ 17 * stmts-size (from .stmts) + 49
+      image : length (image-with directory fs) ≤ 17 * stmts-size (from .stmts) + 59
       image =
-          from-ok (λ fs. length (image-bytes fs) ≤ 17 * stmts-size (from .stmts) + 49) (c.compile-functions (code-limit lent) (from .stmts)) fs
-          (from .state) (from .compiled) (image-at-most (code-limit lent) (limits .funs) (from .stmts) nested (fits .parts))
+          from-ok (λ fs. length (image-with directory fs) ≤ 17 * stmts-size (from .stmts) + 59) (c.compile-functions (code-limit lent) (from .stmts)) fs
+          (from .state) (from .compiled) (image-at-most (code-limit lent) (limits .funs) (from .stmts) directory nested (fits .parts))
 
   -- a room in which no tree of this length is refused by 1, 30 or 31
   pub record Ample : Type 0 where
@@ -63,7 +65,7 @@ module _ (limits : Limits) (nested : limits .funs ≤ 16) (tree : List ℕ) (byt
   pub ample-31 : Ample → compile-within limits tree lent .answer .number ≢ 31
   ample-31 a e =
       let (fs, w, l) = out-full-only limits tree bytes lent e in
-      omega (arith, l, a .output-bytes, image-bound fs (compiled-functions limits tree lent fs w))
+      omega (arith, l, a .output-bytes, image-bound (asks-directory (lent .options)) fs (compiled-functions limits tree lent fs w))
 
 -- ## Rooms for the published limits
 
@@ -103,7 +105,7 @@ module _ (tree : List ℕ) (bytes : Bytes tree) (lent : Lent) (largest : Largest
         arith,
         l,
         largest .output-bytes,
-        image-bound first-limits (omega arith) tree bytes lent fs (compiled-functions first-limits tree lent fs w),
+        image-bound first-limits (omega arith) tree bytes lent (asks-directory (lent .options)) fs (compiled-functions first-limits tree lent fs w),
       )
 
   pub largest-30 : compile tree lent .answer .number ≡ 30 → (lent′ : Lent) → 17_412 ≤ lent′ .table-words → compile tree lent′ .answer .number ≡ 30
@@ -130,7 +132,7 @@ every-limit tree lent r = omega (arith, r .code-bytes, r .span-words)
 
 -- Whatever room a server lends first, the header's or another: an answer that is none of 1, 30 and 31 is the one that the room for every tree file
 -- gives, with the same image. The two rooms need not be comparable, so this is no case of `more-room`.
-module _ (tree : List ℕ) (bytes : Bytes tree) (lent lent′ : Lent) (every : For-every tree lent′) where
+module _ (tree : List ℕ) (bytes : Bytes tree) (lent lent′ : Lent) (options : lent .options ≡ lent′ .options) (every : For-every tree lent′) where
   every-30 : Enough (compile tree lent .answer) → compile tree lent′ .answer .number ≢ 30
   every-30 n e =
       let (stmts, w, l) = code-full-exactly first-limits tree bytes lent′ .0 e in
@@ -150,7 +152,7 @@ module _ (tree : List ℕ) (bytes : Bytes tree) (lent lent′ : Lent) (every : F
 
   pub as-in-the-room-for-every :
       Enough (compile tree lent .answer) → Alike lent lent′ (compile tree lent) (compile tree lent′)
-  as-in-the-room-for-every n = enough-in-both first-limits tree lent lent′ n (
+  as-in-the-room-for-every n = enough-in-both first-limits tree lent lent′ options n (
     λ e. omega (arith, every .table-words, work-short-exactly first-limits tree bytes lent′ .0 e),
     every-30 n,
     λ e. let (fs, w, l) = out-full-only first-limits tree bytes lent′ e in
@@ -158,6 +160,7 @@ module _ (tree : List ℕ) (bytes : Bytes tree) (lent lent′ : Lent) (every : F
           arith,
           l,
           every .output-bytes,
-          image-bound first-limits (omega arith) tree bytes lent′ fs (compiled-functions first-limits tree lent′ fs w),
+          image-bound first-limits (omega arith) tree bytes lent′ (asks-directory (lent′ .options)) fs
+              (compiled-functions first-limits tree lent′ fs w),
         ),
   )

@@ -23,10 +23,10 @@ use Rattle.rules.specs.Checker as checker
 use Rattle.rules.specs.Checker.{distinct, names, names-in-all, named-once, runs-apart, names-earlier, all-earlier, closures, closed-once}
 use Rattle.rules.specs.Compiler as c
 use Rattle.rules.specs.Compiler.{Compiler, Outcome, ok, err}
-use Rattle.rules.specs.Image.{image-bytes}
+use Rattle.rules.specs.Image.{image-with}
 use Rattle.rules.specs.Limits.{Limits, first-limits, max-tree}
 use Rattle.rules.specs.Entry as entry
-use Rattle.rules.specs.Entry.{Lent, Left, code-limit, Compiled, functions-are, refused, compile-tree, compile-lent, compile-within, compile}
+use Rattle.rules.specs.Entry.{Lent, Left, asks-directory, code-limit, Compiled, functions-are, refused, compile-tree, compile-lent, compile-within, compile}
 use Rattle.rules_laws.proofs.Tests.{both, left, right, all-cons, all-and, below-all}
 use Rattle.rules_laws.proofs.Keeps.{After}
 use Rattle.rules_laws.proofs.Layer as layer
@@ -319,38 +319,44 @@ refusal-number answer.ImageRefused = omega arith
 refusal-number answer.NoSuchFunction = omega arith
 refusal-number answer.NoSuchByte = omega arith
 
+-- the image of these functions, with a directory where the options ask for one
+abbrev pub image-for : Lent → List ObjectFunction → List ℕ
+image-for lent functions = image-with (asks-directory (lent .options)) functions
+
+-- what is left where an image fits the output, and where it does not
+abbrev pub room : Lent → (image : List ℕ) → (fits : Bool) → Left
+room lent image fits =
+    if fits
+    then entry.leaves lent (accepted (length image)) (image ++ replicate (lent .output-bytes - length image) 0)
+    else entry.leaves lent (refusal (answer.OutFull (length image))) (replicate (lent .output-bytes) 0)
+
 -- an output of bytes that holds the image of functions that the checker accepts and that are within the lent sizes, and then zeros
 pub record Holds (lent : Lent) (r : Left) : Type 0 where
   pub functions : List ObjectFunction
   pub are-checked : T (checker.sound functions)
   pub are-small : AllSound (code-limit lent) functions
   pub bytes : ByteList (r .output)
-  pub says : r .answer ≡ accepted (length (image-bytes functions))
-  pub holds : r .output ≡ image-bytes functions ++ replicate (lent .output-bytes - length (image-bytes functions)) 0
+  pub says : r .answer ≡ accepted (length (image-for lent functions))
+  pub holds : r .output ≡ image-for lent functions ++ replicate (lent .output-bytes - length (image-for lent functions)) 0
 
 module _ (lent : Lent) where
-  image-holds : (fs : List ObjectFunction) → T (checker.sound fs) → AllSound (code-limit lent) fs → entry.write-image lent (image-bytes fs) .answer .number ≡ 0 →
-      Holds lent (entry.write-image lent (image-bytes fs))
+  image-holds : (fs : List ObjectFunction) → T (checker.sound fs) → AllSound (code-limit lent) fs →
+      entry.write-image lent (image-for lent fs) .answer .number ≡ 0 → Holds lent (entry.write-image lent (image-for lent fs))
   unfolding entry.write-image entry.leaves
-  image-holds fs h k e = by-room (leb (length (image-bytes fs)) (lent .output-bytes)) e
+  image-holds fs h k e = by-room (leb (length (image-for lent fs)) (lent .output-bytes)) e
     where
-      room : Bool → Left
-      room b =
-          if b
-          then entry.leaves lent (accepted (length (image-bytes fs))) (image-bytes fs ++ replicate (lent .output-bytes - length (image-bytes fs)) 0)
-          else entry.leaves lent (refusal (answer.OutFull (length (image-bytes fs)))) (replicate (lent .output-bytes) 0)
-
-      by-room : (b : Bool) → room b .answer .number ≡ 0 → Holds lent (room b)
+      by-room : (b : Bool) → room lent (image-for lent fs) b .answer .number ≡ 0 → Holds lent (room lent (image-for lent fs) b)
       by-room true e =
           record {
             functions = fs;
             are-checked = h;
             are-small = k;
-            bytes = zeros-after (lent .output-bytes - length (image-bytes fs)) (small.image-bytes (code-limit lent) fs k);
+            bytes =
+                zeros-after (lent .output-bytes - length (image-for lent fs)) (small.image-with (asks-directory (lent .options)) (code-limit lent) fs k);
             says = refl;
             holds = refl;
           }
-      by-room false e = absurd (omega (arith, refusal-number (answer.OutFull (length (image-bytes fs)))))
+      by-room false e = absurd (omega (arith, refusal-number (answer.OutFull (length (image-for lent fs)))))
 
   -- for all limits, bytes and lent sizes: the answer 0 comes with such an output
   pub within-holds : (limits : Limits) (tree : List ℕ) → compile-within limits tree lent .answer .number ≡ 0 → Holds lent (compile-within limits tree lent)

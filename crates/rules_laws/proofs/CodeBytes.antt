@@ -1,5 +1,5 @@
 -- In every image that the compiler gives, each byte of code is below 256, and each function has at most 256 constants, at most 256 captured variables
--- and at most as many bytes of code as the limit says. So each byte of the image is below 256.
+-- and at most as many bytes of code as the limit says. So each byte of the image is below 256, and of its directory.
 use mathlib.Core.Path.{_≡_, refl}
 use mathlib.Core.Bool.{Bool, true, false}
 use mathlib.Core.Option.{some}
@@ -173,13 +173,24 @@ function-bytes f h =
     ⊕ joined image.run-bytes (f .chunk .spans) (every (λ (run : Run). ByteList (image.run-bytes run)) run-bytes (f .chunk .spans))
     ⊕ marked 0x43 0x44 (omega arith) (omega arith) (record { each = h })
 
-pub image-bytes : (limit : ℕ) (fs : List ObjectFunction) → AllSound limit fs → ByteList (image.image-bytes fs)
+image-bytes : (limit : ℕ) (fs : List ObjectFunction) → AllSound limit fs → ByteList (image.image-bytes fs)
 unfolding image.image-bytes
 image-bytes limit fs h =
     marked 0x49 0x4D (omega arith) (omega arith) (number 4 (length fs))
     ⊕ joined image.function-bytes fs
     (all-map (λ (f : ObjectFunction). List ObjectFunction × Sound limit (f .upvalue-count) (f .chunk)) (λ (f : ObjectFunction). ByteList (image.function-bytes f))
     (λ f x. function-bytes f (x .1 .bytes)) fs h)
+
+directory-bytes : (fs : List ObjectFunction) → ByteList (image.directory-bytes fs)
+unfolding image.directory-bytes
+directory-bytes fs =
+    marked 0x44 0x58 (omega arith) (omega arith) (number 4 (length fs))
+    ⊕ joined (le 4) (image.places 6 fs) (every (λ (place : ℕ). ByteList (le 4 place)) (number 4) (image.places 6 fs))
+
+pub image-with : (directory : Bool) (limit : ℕ) (fs : List ObjectFunction) → AllSound limit fs → ByteList (image.image-with directory fs)
+unfolding image.image-with
+image-with true limit fs h = image-bytes limit fs h ⊕ directory-bytes fs
+image-with false limit fs h = image-bytes limit fs h
 
 pub zeros-after : {bs : List ℕ} (n : ℕ) → ByteList bs → ByteList (bs ++ replicate n 0)
 zeros-after n h = h ⊕ record { each = zeros n }

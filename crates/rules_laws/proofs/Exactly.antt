@@ -3,10 +3,10 @@
 use mathlib.Core.Path.{_≡_, refl, ap, _∙_}
 use mathlib.Core.Logic.{_↔_, _≢_}
 use mathlib.Core.Bool.{Bool, true, false}
-use mathlib.Core.List.{List, _++_}
-use Prim.Native.Nat.{ℕ, _-_, _*_, _≤_, _<_}
+use mathlib.Core.List.{List}
+use Prim.Native.Nat.{ℕ, _*_, _≤_, _<_}
 use native.Mathlib.Omega.{arith}
-use lib.ListN.{length, replicate}
+use lib.ListN.{length}
 use lib.Dec.{T, leb, leb→le, le→leb, nleb→lt}
 use Rattle.rules.specs.Base.{if_then_else_}
 use Rattle.rules.specs.Limits.{Limits, max-tree}
@@ -20,10 +20,10 @@ use Rattle.rules.specs.TreeFile.{read-tree}
 use Rattle.rules.specs.Chunk.{ObjectFunction}
 use Rattle.rules.specs.Compiler as c
 use Rattle.rules.specs.Compiler.{Compiler, Outcome, ok, err}
-use Rattle.rules.specs.Image.{image-bytes}
 use Rattle.rules.specs.Entry as entry
-use Rattle.rules.specs.Entry.{Lent, Left, code-limit, Compiled, functions-are, refused, compile-tree, compile-lent, compile-within}
+use Rattle.rules.specs.Entry.{Lent, code-limit, Compiled, functions-are, refused, compile-tree, compile-lent, compile-within}
 use Rattle.rules_laws.proofs.Facts.{Bytes}
+use Rattle.rules_laws.proofs.Checks.{image-for, room}
 use Rattle.rules_laws.proofs.Refusals.{Readers, Rusts, Compiled-by, a-rule, the-limit, compiled-by, readers-number, rusts-number}
 use Rattle.rules_laws.proofs.TreeBytes.{Fitting, tree-fits, tree-refuses}
 use Rattle.rules_laws.proofs.Widths.{refuses}
@@ -60,26 +60,20 @@ module _ (limits : Limits) (tree : List ℕ) (lent : Lent) where
     not-read : (r : Refusal) → Readers r → Started → reading ≡ bad r → Way (refusal r)
     against-a-rule : (r : Refusal) → Rusts r → (stmts : Stmts) → Was-read stmts → compiling stmts ≡ err r → Way (refusal r)
     code-full : (stmts : Stmts) → Was-read stmts → compiling stmts ≡ err CodeFull → Way (refusal CodeFull)
-    out-full : (fs : List ObjectFunction) → Was-compiled fs → lent .output-bytes < length (image-bytes fs) →
-        Way (refusal (OutFull (length (image-bytes fs))))
-    all-fits : (fs : List ObjectFunction) → Was-compiled fs → length (image-bytes fs) ≤ lent .output-bytes →
-        Way (accepted (length (image-bytes fs)))
+    out-full : (fs : List ObjectFunction) → Was-compiled fs → lent .output-bytes < length (image-for lent fs) →
+        Way (refusal (OutFull (length (image-for lent fs))))
+    all-fits : (fs : List ObjectFunction) → Was-compiled fs → length (image-for lent fs) ≤ lent .output-bytes →
+        Way (accepted (length (image-for lent fs)))
 
   -- every answer comes about in one of these ways
   pub way : Bytes tree → Way (compile-within limits tree lent .answer)
   unfolding compile-within compile-lent compile-tree entry.write-out entry.write-image entry.leaves entry.from-read entry.from-outcome
   way bytes = by-table (leb (limits .table-bytes) (8 * lent .table-words)) refl
     where
-      image : List ObjectFunction → Bool → Left
-      image fs b =
-          if b
-          then entry.leaves lent (accepted (length (image-bytes fs))) (image-bytes fs ++ replicate (lent .output-bytes - length (image-bytes fs)) 0)
-          else entry.leaves lent (refusal (OutFull (length (image-bytes fs)))) (replicate (lent .output-bytes) 0)
-
-      by-output : (fs : List ObjectFunction) → Was-compiled fs → (b : Bool) → leb (length (image-bytes fs)) (lent .output-bytes) ≡ b →
-          Way (image fs b .answer)
-      by-output fs w true e = all-fits fs w (leb→le (length (image-bytes fs)) (lent .output-bytes) (rw e tt))
-      by-output fs w false e = out-full fs w (nleb→lt (length (image-bytes fs)) (lent .output-bytes) (rw e tt))
+      by-output : (fs : List ObjectFunction) → Was-compiled fs → (b : Bool) → leb (length (image-for lent fs)) (lent .output-bytes) ≡ b →
+          Way (room lent (image-for lent fs) b .answer)
+      by-output fs w true e = all-fits fs w (leb→le (length (image-for lent fs)) (lent .output-bytes) (rw e tt))
+      by-output fs w false e = out-full fs w (nleb→lt (length (image-for lent fs)) (lent .output-bytes) (rw e tt))
 
       by-refusal : (r : Refusal) → Compiled-by r → (stmts : Stmts) → Was-read stmts → compiling stmts ≡ err r → Way (refusal r)
       by-refusal r (a-rule h) stmts w e = against-a-rule r h stmts w e
@@ -91,7 +85,7 @@ module _ (limits : Limits) (tree : List ℕ) (lent : Lent) where
       by-outcome : (stmts : Stmts) → Was-read stmts → (o : Outcome (List ObjectFunction)) → compiling stmts ≡ o →
           Way (entry.write-out lent (entry.from-outcome o) .answer)
       by-outcome stmts w (ok fs s) e =
-          by-output fs (record { stmts = stmts; was-read = w; state = s; compiled = e }) (leb (length (image-bytes fs)) (lent .output-bytes)) refl
+          by-output fs (record { stmts = stmts; was-read = w; state = s; compiled = e }) (leb (length (image-for lent fs)) (lent .output-bytes)) refl
       by-outcome stmts w (err r) e =
           by-refusal r (compiled-by r (refuses (code-limit lent) (limits .funs) stmts (fits stmts w .parts) r e)) stmts w e
 
@@ -144,7 +138,7 @@ module _ (limits : Limits) (tree : List ℕ) (lent : Lent) where
   refused-so r e = ap (λ (x : Compiled). entry.write-out lent x .answer) e
 
   given-so : (fs : List ObjectFunction) → compile-lent limits tree lent ≡ functions-are fs →
-      compile-within limits tree lent .answer ≡ entry.write-image lent (image-bytes fs) .answer
+      compile-within limits tree lent .answer ≡ entry.write-image lent (image-for lent fs) .answer
   unfolding compile-within entry.write-out
   given-so fs e = ap (λ (x : Compiled). entry.write-out lent x .answer) e
 
@@ -156,8 +150,8 @@ module _ (limits : Limits) (tree : List ℕ) (lent : Lent) where
   leads (not-read r h st e) = refused-so r (started-compiles st ∙ ap (λ (r : Read Stmts). entry.from-read r (code-limit lent)) e)
   leads (against-a-rule r h stmts w e) = refused-so r (read-compiles stmts w ∙ ap entry.from-outcome e)
   leads (code-full stmts w e) = refused-so CodeFull (read-compiles stmts w ∙ ap entry.from-outcome e)
-  leads (out-full fs w l) = given-so fs (compiled-functions fs w) ∙ rw (leb-false (length (image-bytes fs)) (lent .output-bytes) l)
-  leads (all-fits fs w l) = given-so fs (compiled-functions fs w) ∙ rw (leb-true (length (image-bytes fs)) (lent .output-bytes) l)
+  leads (out-full fs w l) = given-so fs (compiled-functions fs w) ∙ rw (leb-false (length (image-for lent fs)) (lent .output-bytes) l)
+  leads (all-fits fs w l) = given-so fs (compiled-functions fs w) ∙ rw (leb-true (length (image-for lent fs)) (lent .output-bytes) l)
 
   -- ## No other way leads to a number
 
@@ -191,7 +185,7 @@ module _ (limits : Limits) (tree : List ℕ) (lent : Lent) where
   full-only-then (out-full fs w l) e = absurd (omega arith)
   full-only-then (all-fits fs w l) e = absurd (omega arith)
 
-  long-only : {a : Answer} → Way a → a .number ≡ 31 → (fs : List ObjectFunction) × Was-compiled fs × (lent .output-bytes < length (image-bytes fs))
+  long-only : {a : Answer} → Way a → a .number ≡ 31 → (fs : List ObjectFunction) × Was-compiled fs × (lent .output-bytes < length (image-for lent fs))
   unfolding refusal
   long-only (work-short l) e = absurd (omega arith)
   long-only (too-long t l) e = absurd (omega arith)
@@ -201,7 +195,7 @@ module _ (limits : Limits) (tree : List ℕ) (lent : Lent) where
   long-only (out-full fs w l) e = (fs, w, l)
   long-only (all-fits fs w l) e = absurd (omega arith)
 
-  fits-only : {a : Answer} → Way a → a .number ≡ 0 → (fs : List ObjectFunction) × Was-compiled fs × (length (image-bytes fs) ≤ lent .output-bytes)
+  fits-only : {a : Answer} → Way a → a .number ≡ 0 → (fs : List ObjectFunction) × Was-compiled fs × (length (image-for lent fs) ≤ lent .output-bytes)
   unfolding refusal
   fits-only (work-short l) e = absurd (omega arith)
   fits-only (too-long t l) e = absurd (omega arith)
@@ -283,28 +277,28 @@ module _ (limits : Limits) (tree : List ℕ) (bytes : Bytes tree) (lent : Lent) 
 
   -- 31 OutFull: all else accepted, image longer than the output; carries the length needed
   pub out-full-only : answered .number ≡ 31 →
-      (fs : List ObjectFunction) × Was-compiled limits tree lent fs × (lent .output-bytes < length (image-bytes fs))
+      (fs : List ObjectFunction) × Was-compiled limits tree lent fs × (lent .output-bytes < length (image-for lent fs))
   out-full-only e = long-only limits tree lent (way limits tree lent bytes) e
 
-  pub out-full-then : (fs : List ObjectFunction) → Was-compiled limits tree lent fs → lent .output-bytes < length (image-bytes fs) →
-      answered ≡ with-length 31 (length (image-bytes fs))
+  pub out-full-then : (fs : List ObjectFunction) → Was-compiled limits tree lent fs → lent .output-bytes < length (image-for lent fs) →
+      answered ≡ with-length 31 (length (image-for lent fs))
   unfolding refusal
   out-full-then fs w l = leads limits tree lent (out-full fs w l)
 
   -- 0: accepted; carries the length of the image
   pub accepted-only : answered .number ≡ 0 →
-      (fs : List ObjectFunction) × Was-compiled limits tree lent fs × (length (image-bytes fs) ≤ lent .output-bytes)
+      (fs : List ObjectFunction) × Was-compiled limits tree lent fs × (length (image-for lent fs) ≤ lent .output-bytes)
   accepted-only e = fits-only limits tree lent (way limits tree lent bytes) e
 
-  pub accepted-then : (fs : List ObjectFunction) → Was-compiled limits tree lent fs → length (image-bytes fs) ≤ lent .output-bytes →
-      answered ≡ accepted (length (image-bytes fs))
+  pub accepted-then : (fs : List ObjectFunction) → Was-compiled limits tree lent fs → length (image-for lent fs) ≤ lent .output-bytes →
+      answered ≡ accepted (length (image-for lent fs))
   accepted-then fs w l = leads limits tree lent (all-fits fs w l)
 
   -- the least rooms: the table's published need, the code limit that the tree needs, the image's length
   pub record Room-enough : Type 0 where
     pub table : limits .table-bytes ≤ 8 * lent .table-words
     pub code : (stmts : Stmts) → Was-read limits tree lent stmts → code-needed stmts ≤ code-limit lent
-    pub output : (fs : List ObjectFunction) → Was-compiled limits tree lent fs → length (image-bytes fs) ≤ lent .output-bytes
+    pub output : (fs : List ObjectFunction) → Was-compiled limits tree lent fs → length (image-for lent fs) ≤ lent .output-bytes
 
   -- "Room enough means none of 1, 30, 31"
   pub room-enough-exactly : ((answered .number ≢ 1) × (answered .number ≢ 30) × (answered .number ≢ 31)) ↔ Room-enough
@@ -313,7 +307,7 @@ module _ (limits : Limits) (tree : List ℕ) (bytes : Bytes tree) (lent : Lent) 
     λ n. record {
       table = at-least (limits .table-bytes) (8 * lent .table-words) (λ l. n .0 (work-short-exactly .1 l));
       code = λ stmts w. at-least (code-needed stmts) (code-limit lent) (λ l. n .1 (code-full-exactly .1 (stmts, w, l)));
-      output = λ fs w. at-least (length (image-bytes fs)) (lent .output-bytes) (λ l. n .2 (ap (λ (a : Answer). a .number) (out-full-then fs w l)));
+      output = λ fs w. at-least (length (image-for lent fs)) (lent .output-bytes) (λ l. n .2 (ap (λ (a : Answer). a .number) (out-full-then fs w l)));
     },
     λ e. (
       λ n. omega (arith, e .table, work-short-exactly .0 n),

@@ -5,10 +5,10 @@ use mathlib.Core.Path.{_≡_, refl, ap}
 use mathlib.Core.Bool.{Bool, true, false}
 use mathlib.Core.Option.{Option, none, some}
 use mathlib.Core.List.{List, [], _∷_, _++_}
-use Prim.Native.Nat.{ℕ, zero, suc, _+_, _-_, _≤_}
+use Prim.Native.Nat.{ℕ, zero, suc, _+_, _-_, _≤_, _<_}
 use native.Mathlib.Omega.{arith}
 use lib.ListN.{length}
-use lib.Dec.{ltb}
+use lib.Dec.{ltb, ltb→lt}
 use Rattle.rules.specs.Base.{if_then_else_}
 use Rattle.rules.specs.declared.Span.{Span}
 use Rattle.rules.specs.declared.Refusal.{Refusal}
@@ -61,9 +61,10 @@ times pair zero = 0
 times pair (suc n) = pair + times pair n
 
 module _ (held : CompilerCtx → ℕ) (pair : ℕ) where
-  -- a measure that a captured variable raises by `pair` and a local by `one`, and that nothing else raises but what is written
+  -- a measure that a captured variable, of which a function has at most 256, raises by `pair` and a local by `one`, and that nothing else raises but
+  -- what is written
   pub record Measure (one : ℕ) : Type 0 where
-    pub captures : (x : CompilerCtx) (u : Upvalue) → held (c.with-upvalues x (x .upvalues ++ (u ∷ []))) ≤ held x + pair
+    pub captures : (x : CompilerCtx) (u : Upvalue) → length (x .upvalues) < 256 → held (c.with-upvalues x (x .upvalues ++ (u ∷ []))) ≤ held x + pair
     pub marks : (x : CompilerCtx) (name : ℕ) → held (c.with-locals x (c.capture name (x .locals))) ≤ held x
     pub declares : (x : CompilerCtx) (local : Local) → held (c.with-locals x (local ∷ x .locals)) ≤ held x + one
     pub defines : (x : CompilerCtx) → held (c.with-locals x (c.initialize (x .locals))) ≤ held x
@@ -80,14 +81,14 @@ module _ (held : CompilerCtx → ℕ) (pair : ℕ) where
         Raised-if ctx (parent ∷ above) (c.added p u span ctx parents)
     unfolding c.added
     added (some place) u span ctx parent above parents e l = record { levels = e; holds = omega arith }
-    added none u span ctx parent above parents e l = by-room (ltb (length (ctx .upvalues)) 256)
+    added none u span ctx parent above parents e l = by-room (ltb (length (ctx .upvalues)) 256) refl
       where
-        by-room : (b : Bool) →
+        by-room : (b : Bool) → ltb (length (ctx .upvalues)) 256 ≡ b →
             Raised-if ctx (parent ∷ above)
             (if b then captured (length (ctx .upvalues)) (c.with-upvalues ctx (ctx .upvalues ++ (u ∷ []))) parents else failed
             (TooManyUpvalues span))
-        by-room true = record { levels = e; holds = omega (arith, measure .captures ctx u) }
-        by-room false = tt
+        by-room true t = record { levels = e; holds = omega (arith, measure .captures ctx u (ltb→lt (length (ctx .upvalues)) 256 (rw t tt))) }
+        by-room false t = tt
 
     through : (f : Found) (outer : Resolved) (name : ℕ) (span : Span) (ctx parent : CompilerCtx) (above : List CompilerCtx) →
         Raised-if parent above outer → Raised-if ctx (parent ∷ above) (c.through f outer name span ctx parent above)

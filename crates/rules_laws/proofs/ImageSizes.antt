@@ -1,11 +1,12 @@
--- How long an image can be: at most seventeen bytes for each byte of the tree file. A byte of code costs twelve bytes of image, its own and a run's
--- eleven, but the pairs of one closure share a span, so that they cost few runs.
+-- How long an image can be, its directory counted: at most seventeen bytes for each byte of the tree file. A byte of code costs twelve bytes of image,
+-- its own and a run's eleven, but the pairs of one closure share a span, so that they cost few runs.
 use mathlib.Core.Path.{_≡_, refl, ap, subst⁻¹}
 use mathlib.Core.Bool.{Bool, true, false, _&&_}
 use mathlib.Core.Option.{Option, none, some}
 use mathlib.Core.List.{List, [], _∷_, _++_}
-use Prim.Native.Nat.{ℕ, zero, suc, _+_, _-_, _*_, _/_, _≤_}
+use Prim.Native.Nat.{ℕ, zero, suc, _+_, _-_, _*_, _/_, _≤_, _<_}
 use native.Mathlib.Omega.{arith}
+use native.Mathlib.Nat.{add-mul, mul-le-mul-right}
 use lib.ListN.{length, length-append, length-set}
 use lib.Dec.{T, ltb, eqb, ltb→lt, nltb→le, eqb-refl}
 use Rattle.rules.proofs.Numbers.{le-length}
@@ -19,7 +20,7 @@ use Rattle.rules.specs.Chunk.{Chunk, Constant, CN, CS, CF, Run, push-span, same
 use Rattle.rules.specs.Compiler as c
 use Rattle.rules.specs.Compiler.{Compiler, CompilerCtx, Compile, Outcome, ok, err, go-on, Upvalue, Local}
 use Rattle.rules.specs.Image as image
-use Rattle.rules.specs.Image.{image-bytes}
+use Rattle.rules.specs.Image.{image-bytes, image-with}
 use Rattle.rules_laws.proofs.Tests.{both}
 use Rattle.rules_laws.proofs.Keeps as keeps
 use Rattle.rules_laws.proofs.Keeps.{After, Triple}
@@ -155,51 +156,80 @@ function-length : (f : ObjectFunction) → length (image.function-bytes f) ≡ 1
 unfolding image.function-bytes constants-length
 function-length f = simp (length-append, le-length) (omega (arith, runs-length (f .chunk .spans)))
 
+-- each with its entry in a directory
 abbrev weigh-all : List ObjectFunction → ℕ
 weigh-all [] = 0
-weigh-all (f ∷ fs) = 19 + weighs (f .chunk) + weigh-all fs
+weigh-all (f ∷ fs) = 23 + weighs (f .chunk) + weigh-all fs
 
-functions-length : (fs : List ObjectFunction) → length (image.join image.function-bytes fs) ≡ weigh-all fs
+functions-length : (fs : List ObjectFunction) → length (image.join image.function-bytes fs) + 4 * length fs ≡ weigh-all fs
 unfolding image.join
 functions-length [] = refl
 functions-length (f ∷ fs) =
     omega (arith, function-length f, functions-length fs, length-append (image.function-bytes f) (image.join image.function-bytes fs))
 
-image-length : (fs : List ObjectFunction) → length (image-bytes fs) ≡ 6 + weigh-all fs
+image-length : (fs : List ObjectFunction) → length (image-bytes fs) + 4 * length fs ≡ 6 + weigh-all fs
 unfolding image-bytes
 image-length fs = omega (arith, functions-length fs, length-append (le 4 (length fs)) (image.join image.function-bytes fs), le-length 4 (length fs))
 
-weigh-end : (fs : List ObjectFunction) (f : ObjectFunction) → weigh-all (fs ++ (f ∷ [])) ≡ weigh-all fs + 19 + weighs (f .chunk)
+entries-length : (at : ℕ) (fs : List ObjectFunction) → length (image.join (le 4) (image.places at fs)) ≡ 4 * length fs
+unfolding image.join image.places
+entries-length at [] = refl
+entries-length at (f ∷ fs) =
+    omega (
+      arith,
+      le-length 4 at,
+      entries-length (at + length (image.function-bytes f)) fs,
+      length-append (le 4 at) (image.join (le 4) (image.places (at + length (image.function-bytes f)) fs)),
+    )
+
+pub directory-length : (fs : List ObjectFunction) → length (image.directory-bytes fs) ≡ 6 + 4 * length fs
+unfolding image.directory-bytes
+directory-length fs =
+    omega (arith, entries-length 6 fs, length-append (le 4 (length fs)) (image.join (le 4) (image.places 6 fs)), le-length 4 (length fs))
+
+with-length : (directory : Bool) (fs : List ObjectFunction) → length (image-with directory fs) ≤ 12 + weigh-all fs
+unfolding image-with
+with-length true fs = omega (arith, image-length fs, directory-length fs, length-append (image-bytes fs) (image.directory-bytes fs))
+with-length false fs = omega (arith, image-length fs)
+
+weigh-end : (fs : List ObjectFunction) (f : ObjectFunction) → weigh-all (fs ++ (f ∷ [])) ≡ weigh-all fs + 23 + weighs (f .chunk)
 weigh-end [] f = omega arith
 weigh-end (g ∷ fs) f = omega (arith, weigh-end fs f)
 
 -- ## What has been spent: a local has paid for its pop, and a captured variable for its pair
 
-abbrev held : CompilerCtx → ℕ
-held x = weighs (x .chunk) + 3 * length (x .upvalues) + 12 * length (x .locals)
-
-measure : Measure held 3 12
-unfolding c.set-u16 constants-length image.join
-measure =
-    record {
-      captures = λ x u. omega (arith, length-append (x .upvalues) (u ∷ []));
-      marks = λ x name. omega (arith, capture-length name (x .locals));
-      declares = λ x local. omega arith;
-      defines = λ x. omega (arith, initialize-length (x .locals));
-      scopes = λ x depth. omega arith;
-      patches = λ x at n. simp length-set (omega arith);
-      fresh = λ name arity depth type. refl;
-    }
-
-thrice : (n : ℕ) → times 3 n ≡ 3 * n
-thrice zero = refl
-thrice (suc n) = omega (arith, thrice n)
+-- Who pays for the pairs, three bytes each: a variable where it is captured, in each function that it passes through, or a function's end, for as many
+-- as it can have. The first is cheap where few functions stand in one another, the second is the same however many do.
+record Pays (most : ℕ) : Type 0 where
+  at-end : ℕ  -- how many pairs a function's end pays for
+  pair : ℕ  -- what a captured variable pays in one function
+  rate : ℕ  -- how many times what `Steps` has for a step
+  captures : (n : ℕ) → n < 256 → 3 * (n + 1 - at-end) ≤ 3 * (n - at-end) + pair
+  few : (n : ℕ) → n ≤ most → times pair n ≤ 48
+  some : 1 ≤ rate
+  ends : 68 + 3 * at-end ≤ 68 * rate
 
 -- any refusal will do
 abbrev Any : Refusal → Type 0
 Any r = Unit {0}
 
-module _ (limit most top : ℕ) (nested : most ≤ 16) where
+module _ (limit most top : ℕ) (pays : Pays most) where
+  abbrev held : CompilerCtx → ℕ
+  held x = weighs (x .chunk) + 3 * (length (x .upvalues) - pays .at-end) + 12 * length (x .locals)
+
+  measure : Measure held (pays .pair) 12
+  unfolding c.set-u16 constants-length image.join
+  measure =
+      record {
+        captures = λ x u l. omega (arith, length-append (x .upvalues) (u ∷ []), pays .captures (length (x .upvalues)) l);
+        marks = λ x name. omega (arith, capture-length name (x .locals));
+        declares = λ x local. omega arith;
+        defines = λ x. omega (arith, initialize-length (x .locals));
+        scopes = λ x depth. omega arith;
+        patches = λ x at n. simp length-set (omega arith);
+        fresh = λ name arity depth type. omega arith;
+      }
+
   abbrev J : ℕ → ℕ → Compiler → Type 0
   J g k s = Spent (summed held) weigh-all most g k s
 
@@ -215,11 +245,8 @@ module _ (limit most top : ℕ) (nested : most ≤ 16) where
   _>>_ : {A B : Type 0} {g h i n n′ : ℕ} {m : Compile A} {p : Compile B} → Does g h n m → Does h i n′ p → Does g i (n + n′) (c._>>_ m p)
   hm >> hp = spends.follow J Any top (more (summed held) weigh-all most) hm hp
 
-  few : (n : ℕ) → n ≤ most → times 3 n ≤ 48
-  few n l = omega (arith, thrice n)
-
   holds : Holds (summed held) 48 12 most
-  holds = sum-holds held 3 12 measure most 48 few
+  holds = sum-holds held (pays .pair) 12 measure most 48 (pays .few)
 
   -- ## What writes
 
@@ -310,8 +337,8 @@ module _ (limit most top : ℕ) (nested : most ≤ 16) where
 
   -- all that the pairs leave alone
   abbrev other : Compiler → ℕ
-  other s = constants-length (s .ctx .chunk .constants) + 3 * length (s .ctx .upvalues) + 12 * length (s .ctx .locals) + sum-of held
-      (s .parents) + weigh-all (s .functions)
+  other s = constants-length (s .ctx .chunk .constants) + 3 * (length (s .ctx .upvalues) - pays .at-end) + 12 * length (s .ctx .locals)
+      + sum-of held (s .parents) + weigh-all (s .functions)
 
   -- `n` bytes of this span have been written since
   record Since (span : Span) (s : Compiler) (n : ℕ) (t : Compiler) : Type 0 where
@@ -439,11 +466,12 @@ module _ (limit most top : ℕ) (nested : most ≤ 16) where
       by-outcome (err r) h = tt
 
   back-to : {h : ℕ} (g : ℕ) (s : Compiler) (k : ℕ) (ps : List CompilerCtx) (span : Span) → s .parents ≡ ps → g ≡ suc h → g ≤ most → J h k s →
-      Ends J Any top g (k + 64) (go-on (c.back-to ps s) (λ (r : ℕ × List Upvalue). c.emit-closure limit (r .0) (r .1) span))
+      Ends J Any top g (k + (68 + 3 * pays .at-end)) (go-on (c.back-to ps s) (λ (r : ℕ × List Upvalue). c.emit-closure limit (r .0) (r .1) span))
   unfolding c.back-to c.finish go-on
-  back-to g s k [] span e up b i = closes k (k + 64) 0 [] span s (omega arith) (record { levels = omega (arith, ap length e); spent = i .spent })
+  back-to g s k [] span e up b i =
+      closes k (k + (68 + 3 * pays .at-end)) 0 [] span s (omega arith) (record { levels = omega (arith, ap length e); spent = i .spent })
   back-to g s k (p ∷ ps) span e up b i =
-      closes (spent (summed held) weigh-all t) (k + 64) (length (s .functions)) us span t
+      closes (spent (summed held) weigh-all t) (k + (68 + 3 * pays .at-end)) (length (s .functions)) us span t
       (omega (arith, i .spent, ap (sum-of held) e, weigh-end (s .functions) (c.finish (s .ctx))))
       (record { levels = omega (arith, i .levels, ap length e); spent = omega arith })
     where
@@ -453,59 +481,115 @@ module _ (limit most top : ℕ) (nested : most ≤ 16) where
       t : Compiler
       t = record { ctx = p; parents = ps; class-ctx = s .class-ctx; functions = s .functions ++ (c.finish (s .ctx) ∷ []) }
 
-  end-function : {g h : ℕ} (span : Span) → (g ≡ suc h) × (g ≤ most) → Does h g 64 (c.end-function limit span)
+  end-function : {g h : ℕ} (span : Span) → (g ≡ suc h) × (g ≤ most) → Does h g (68 + 3 * pays .at-end) (c.end-function limit span)
   unfolding c.end-function c.end-ctx c._>>=_ go-on c.the
   end-function {g} span up = record { run = λ s k l i. back-to g s k (s .parents) span refl (up .0) (up .1) i }
 
-  laws : Laws (fitting most) (λ A g h n w m. Does {A = A} g h w (m limit))
+  -- what a step costs here, against what `Steps` has for it
+  scaled : {A : Type 0} {g h n : ℕ} {m : Compile A} (w : ℕ) → n ≤ w * pays .rate → Does g h n m → Does g h (w * pays .rate) m
+  scaled w l hm = spends.enough J Any top (more (summed held) weigh-all most) hm l
+
+  laws : Laws (fitting most) (λ A g h n w m. Does {A = A} g h (w * pays .rate) (m limit))
   unfolding c.define-local c.begin-scope c.push-class-ctx c.pop-class-ctx
   laws =
       record {
         no-span = record { start = omega arith; end = omega arith };
         this-named = omega arith;
         super-named = omega arith;
-        _>>=_ = λ hm hf. hm >>= hf;
-        _>>_ = λ hm hp. hm >> hp;
-        enough = λ hm b b′. spends.enough J Any top (more (summed held) weigh-all most) hm b′;
+        _>>=_ = λ {w} {v} hm hf. rw (add-mul w v (pays .rate)) (hm >>= hf);
+        _>>_ = λ {w} {v} hm hp. rw (add-mul w v (pays .rate)) (hm >> hp);
+        enough = λ hm b b′. spends.enough J Any top (more (summed held) weigh-all most) hm (mul-le-mul-right (pays .rate) b′);
         needs = λ b r o f. spends.needs J Any top (more (summed held) weigh-all most) b r tt f;
-        return = λ a. spends.return J Any top (more (summed held) weigh-all most) a;
-        the = λ f. spends.the J Any top (more (summed held) weigh-all most) f;
-        need = λ b r o. spends.need J Any top (more (summed held) weigh-all most) b r tt;
-        refuse = λ r o. spends.refuse J Any top (more (summed held) weigh-all most) r tt;
-        resolve = λ name span. open-ones.resolve (summed held) weigh-all 48 12 most holds Any (λ r o. tt) top name span;
-        patch-jump = λ at span. open-ones.patch-jump (summed held) weigh-all 48 12 most holds Any (λ r o. tt) top at span;
-        declare-local = λ name span. open-ones.declare-local (summed held) weigh-all 48 12 most holds Any (λ r o. tt) top name span;
-        define-local = open-ones.define-local (summed held) weigh-all 48 12 most holds Any (λ r o. tt) top;
-        begin-scope = open-ones.begin-scope (summed held) weigh-all 48 12 most holds Any (λ r o. tt) top;
-        push-class-ctx = λ b. open-ones.push-class-ctx (summed held) weigh-all 48 12 most holds Any (λ r o. tt) top b;
-        pop-class-ctx = open-ones.pop-class-ctx (summed held) weigh-all 48 12 most holds Any (λ r o. tt) top;
-        begin-ctx = λ name arity depth type up n a. open-ones.begin-ctx (summed held) weigh-all 48 12 most holds Any
-            (λ r o. tt) top name arity depth type (up .0);
-        emit-u8 = λ b span n. emit-u8 b span;
-        emit-constant = λ v span o n. emit-constant v span;
-        end-scope = λ span n. end-scope span;
-        end-function = λ span up n. end-function span up;
+        return = λ a. scaled 0 (omega arith) (spends.return J Any top (more (summed held) weigh-all most) a);
+        the = λ f. scaled 0 (omega arith) (spends.the J Any top (more (summed held) weigh-all most) f);
+        need = λ b r o. scaled 0 (omega arith) (spends.need J Any top (more (summed held) weigh-all most) b r tt);
+        refuse = λ r o. scaled 0 (omega arith) (spends.refuse J Any top (more (summed held) weigh-all most) r tt);
+        resolve = λ name span. scaled 48 (omega (arith, pays .some))
+            (open-ones.resolve (summed held) weigh-all 48 12 most holds Any (λ r o. tt) top name span);
+        patch-jump = λ at span. scaled 0 (omega arith)
+            (open-ones.patch-jump (summed held) weigh-all 48 12 most holds Any (λ r o. tt) top at span);
+        declare-local = λ name span. scaled 12 (omega (arith, pays .some))
+            (open-ones.declare-local (summed held) weigh-all 48 12 most holds Any (λ r o. tt) top name span);
+        define-local = scaled 0 (omega arith) (open-ones.define-local (summed held) weigh-all 48 12 most holds Any (λ r o. tt) top);
+        begin-scope = scaled 0 (omega arith) (open-ones.begin-scope (summed held) weigh-all 48 12 most holds Any (λ r o. tt) top);
+        push-class-ctx = λ b. scaled 0 (omega arith) (open-ones.push-class-ctx (summed held) weigh-all 48 12 most holds Any (λ r o. tt) top b);
+        pop-class-ctx = scaled 0 (omega arith) (open-ones.pop-class-ctx (summed held) weigh-all 48 12 most holds Any (λ r o. tt) top);
+        begin-ctx = λ name arity depth type up n a. scaled 0 (omega arith)
+            (open-ones.begin-ctx (summed held) weigh-all 48 12 most holds Any (λ r o. tt) top name arity depth type (up .0));
+        emit-u8 = λ b span n. scaled 12 (omega (arith, pays .some)) (emit-u8 b span);
+        emit-constant = λ v span o n. scaled 22 (omega (arith, pays .some)) (emit-constant v span);
+        end-scope = λ span n. scaled 0 (omega arith) (end-scope span);
+        end-function = λ span up n. scaled 68 (pays .ends) (end-function span up);
       }
 
 -- ## Every image
 
-pub image-at-most : (limit most : ℕ) (stmts : Stmts) → most ≤ 16 → Of-stmts (fitting most) stmts most →
-    After (λ fs _. length (image-bytes fs) ≤ 17 * stmts-size stmts + 49) (c.compile-functions limit stmts)
+image-most : (limit most : ℕ) (pays : Pays most) (stmts : Stmts) (directory : Bool) (bound : ℕ) → Of-stmts (fitting most) stmts most →
+    (17 * stmts-size stmts + 24) * pays .rate + 35 ≤ bound →
+    After (λ fs _. length (image-with directory fs) ≤ bound) (c.compile-functions limit stmts)
 unfolding c.compile-functions c._>>_ c.the c.finish go-on constants-length image.join
-image-at-most limit most stmts nested o = by-outcome (c.compile-script limit stmts c.new) compiled
+image-most limit most pays stmts directory bound o l = by-outcome (c.compile-script limit stmts c.new) compiled
   where
     top : ℕ
-    top = 17 * stmts-size stmts + 24
+    top = (17 * stmts-size stmts + 24) * pays .rate
 
-    compiled : Ends (λ g k s. Spent (summed held) weigh-all most g k s) Any top most (0 + top) (c.compile-script limit stmts c.new)
+    compiled : Ends (J limit most top pays) Any top most (0 + top) (c.compile-script limit stmts c.new)
     compiled =
-        (steps.compile-script (fitting most) (λ A g h n w m. Does limit most top nested {A = A} g h w (m limit))
-        (laws limit most top nested) stmts most o) .run c.new 0 (omega arith)
+        (steps.compile-script (fitting most) (λ A g h n w m. Does limit most top pays {A = A} g h (w * pays .rate) (m limit))
+        (laws limit most top pays) stmts most o) .run c.new 0 (omega arith)
         (record { levels = omega arith; spent = omega arith })
 
-    by-outcome : (r : Outcome (Unit {0})) → Ends (λ g k s. Spent (summed held) weigh-all most g k s) Any top most (0 + top) r →
-        After (λ fs _. length (image-bytes fs) ≤ 17 * stmts-size stmts + 49)
-        (go-on r (λ _. c.the (λ (s : Compiler). s .functions ++ (c.finish (s .ctx) ∷ []))))
+    by-outcome : (r : Outcome (Unit {0})) → Ends (J limit most top pays) Any top most (0 + top) r →
+        After (λ fs _. length (image-with directory fs) ≤ bound) (go-on r (λ _. c.the (λ (s : Compiler). s .functions ++ (c.finish (s .ctx) ∷ []))))
     by-outcome (ok a s) i =
-        omega (arith, i .spent, weigh-end (s .functions) (c.finish (s .ctx)), image-length (s .functions ++ (c.finish (s .ctx) ∷ [])))
+        omega (
+          arith,
+          i .spent,
+          weigh-end (s .functions) (c.finish (s .ctx)),
+          with-length directory (s .functions ++ (c.finish (s .ctx) ∷ [])),
+        )
     by-outcome (err r) i = tt
+
+thrice : (n : ℕ) → times 3 n ≡ 3 * n
+thrice zero = refl
+thrice (suc n) = omega (arith, thrice n)
+
+-- where at most 16 functions stand in one another
+pub image-at-most : (limit most : ℕ) (stmts : Stmts) (directory : Bool) → most ≤ 16 → Of-stmts (fitting most) stmts most →
+    After (λ fs _. length (image-with directory fs) ≤ 17 * stmts-size stmts + 59) (c.compile-functions limit stmts)
+image-at-most limit most stmts directory nested o =
+    image-most limit most where-captured stmts directory (17 * stmts-size stmts + 59) o (omega arith)
+  where
+    where-captured : Pays most
+    where-captured =
+        record {
+          at-end = 0;
+          pair = 3;
+          rate = 1;
+          captures = λ n l. omega arith;
+          few = λ n l. omega (arith, thrice n);
+          some = omega arith;
+          ends = omega arith;
+        }
+
+nothing : (n : ℕ) → times 0 n ≡ 0
+nothing zero = refl
+nothing (suc n) = omega (arith, nothing n)
+
+-- however many do: enough for every offset of a directory to fit its field
+pub image-in-all : (limit most : ℕ) (stmts : Stmts) (directory : Bool) → Of-stmts (fitting most) stmts most →
+    After (λ fs _. length (image-with directory fs) ≤ 221 * stmts-size stmts + 347) (c.compile-functions limit stmts)
+image-in-all limit most stmts directory o =
+    image-most limit most where-ended stmts directory (221 * stmts-size stmts + 347) o (omega arith)
+  where
+    where-ended : Pays most
+    where-ended =
+        record {
+          at-end = 256;
+          pair = 0;
+          rate = 13;
+          captures = λ n l. omega arith;
+          few = λ n l. omega (arith, nothing n);
+          some = omega arith;
+          ends = omega arith;
+        }

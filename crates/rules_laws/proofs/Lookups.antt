@@ -224,8 +224,9 @@ module _ (image : List ℕ) where
       first _ (λ count j e₁.
       next _ (λ t′ k e₂.
       first _ (λ fs m e₃.
+      next _ (λ _ _ _.
       first _ (λ end _ _.
-      next _ (λ _ _ _. return fs (record { count = count; end = m; read = from-6 count fs m i j k t t′ e e₁ e₂ e₃ })))))))
+      next _ (λ _ _ _. return fs (record { count = count; end = m; read = from-6 count fs m i j k t t′ e e₁ e₂ e₃ }))))))))
     where
       from-6 : (count : ℕ) (fs : List ObjectFunction) (m i j k : ℕ) (t t′ : Unit {0}) → r.mark-is image ImageRefused 0x494D 0 ≡ got t i →
           r.u32 image ImageRefused i ≡ got count j → r.need (ltb 0 count) ImageRefused j ≡ got t′ k →

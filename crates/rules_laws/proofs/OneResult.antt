@@ -4,7 +4,7 @@ use mathlib.Core.List.{List}
 use Prim.Native.Nat.{ℕ}
 use Rattle.rules.specs.declared.Answer.{Answer}
 use Rattle.rules.specs.Chunk.{Run}
-use Rattle.rules.specs.Checker.{check, code-of, code-place, code-answer, span-of}
+use Rattle.rules.specs.Checker.{check, code-of, code-place, code-answer, directory-of, code-through, span-of}
 use Rattle.rules.specs.Entry.{Lent, Left, compile}
 
 pub one-result : {A : Type 0} {r r′ x : A} → r ≡ x → r′ ≡ x → r ≡ r′
@@ -27,6 +27,13 @@ one-start image k r r′ e e′ = one-result e e′
 
 pub one-code-answer : (image : List ℕ) (k : ℕ) (r r′ : Answer) → r ≡ code-answer image k → r′ ≡ code-answer image k → r ≡ r′
 one-code-answer image k r r′ e e′ = one-result e e′
+
+-- the directory's place, and the lookup through it
+pub one-directory : (image : List ℕ) (r r′ : Answer) → r ≡ directory-of image → r′ ≡ directory-of image → r ≡ r′
+one-directory image r r′ e e′ = one-result e e′
+
+pub one-through : (image : List ℕ) (place k : ℕ) (r r′ : Answer) → r ≡ code-through image place k → r′ ≡ code-through image place k → r ≡ r′
+one-through image place k r r′ e e′ = one-result e e′
 
 -- the lookup of a byte's span
 pub one-span : (runs : List Run) (offset : ℕ) (r r′ : Answer) → r ≡ span-of runs offset → r′ ≡ span-of runs offset → r ≡ r′

@@ -1,4 +1,5 @@
--- The encoder loses nothing: an image read back is the functions that it was written from, for all functions whose numbers fit their fields.
+-- The encoder loses nothing: an image read back is the functions that it was written from, for all functions whose numbers fit their fields, with a
+-- directory where every record stands below 4,294,967,296, and without one.
 -- `Reads` follows a reader over the bytes that are left, so that a record's law is the chain of its fields' laws, in the order they are written.
 use mathlib.Core.Path.{_≡_, refl, sym, ap, _∙_, subst, subst⁻¹}
 use mathlib.Core.Bool.{Bool, true, false}
@@ -10,6 +11,8 @@ use native.Mathlib.Nat.{mod-lt, mod-add-div, div-lt-iff-lt-mul, add-mul-div-left
 use lib.ListN.{length, getD, length-append}
 use lib.Seq.{getD-append-seam}
 use lib.Dec.{T, ltb, leb, eqb, le→leb, lt→ltb, eqb-refl}
+use borrow.Author.Tests.{eq-eqb, ne-eqb}
+use Rattle.rules.proofs.Numbers.{le-length}
 use Rattle.rules.specs.Base.{if_then_else_, le}
 use Rattle.rules.specs.Limits.{max-bits}
 use Rattle.rules.specs.declared.Span.{Span}
@@ -58,6 +61,44 @@ pub record Fits-image (fs : List ObjectFunction) : Type 0 where
   pub few : length fs < 4_294_967_296
   pub each : All Fits-form fs
 
+-- an offset is four bytes
+abbrev pub Offsets : List ℕ → Type 0
+Offsets ns = All (λ (n : ℕ). n < 4_294_967_296) ns
+
+-- every function's record stands where an offset can say
+abbrev pub Placed : List ObjectFunction → Type 0
+Placed fs = Offsets (image.places 6 fs)
+
+-- ## An image is its functions, and what stands behind them
+
+abbrev pub directory-if : (directory : Bool) → List ObjectFunction → List ℕ
+directory-if directory fs = if directory then image.directory-bytes fs else []
+
+pub image-parts : (directory : Bool) (fs : List ObjectFunction) → image.image-with directory fs ≡ image.image-bytes fs ++ directory-if directory fs
+unfolding image.image-with
+image-parts true fs = refl
+image-parts false fs = sym (append-nil (image.image-bytes fs))
+
+pub image-length : (fs : List ObjectFunction) → length (image.image-bytes fs) ≡ 6 + length (image.join image.function-bytes fs)
+unfolding image.image-bytes
+image-length fs = simp (length-append, le-length) (omega arith)
+
+some-bytes : (f : ObjectFunction) → 0 < length (image.function-bytes f)
+unfolding image.function-bytes
+some-bytes f = omega arith
+
+-- a record stands before its own bytes
+places-below : (at : ℕ) (fs : List ObjectFunction) → at + length (image.join image.function-bytes fs) ≤ 4_294_967_296 → Offsets (image.places at fs)
+unfolding image.places image.join
+places-below at [] l = tt
+places-below at (f ∷ fs) l =
+    let s = length-append (image.function-bytes f) (image.join image.function-bytes fs) in
+    (omega (arith, some-bytes f), places-below (at + length (image.function-bytes f)) fs (omega arith))
+
+-- as it is in an image of at most 4,294,967,296 bytes
+pub placed : (fs : List ObjectFunction) → length (image.image-bytes fs) ≤ 4_294_967_296 → Placed fs
+placed fs l = places-below 6 fs (omega (arith, image-length fs))
+
 -- ## Numbers as bytes, for all widths
 
 -- how many numbers `width` bytes can say
@@ -91,6 +132,22 @@ module _ (bytes : List ℕ) where
     pub passed : List ℕ
     pub all-of : bytes ≡ passed ++ left
     pub place : at ≡ length passed
+
+  pub left-length : (at : ℕ) (left : List ℕ) → Left at left → at + length left ≡ length bytes
+  left-length at left l = omega (arith, l .place, ap length (l .all-of), length-append (l .passed) left)
+
+  -- what is left says where
+  pub left-place : {left : List ℕ} (at at′ : ℕ) → Left at left → Left at′ left → at ≡ at′
+  left-place {left} at at′ l l′ = omega (arith, left-length at left l, left-length at′ left l′)
+
+  -- further on
+  pub past : (at : ℕ) (front left : List ℕ) → Left at (front ++ left) → Left (at + length front) left
+  past at front left l =
+      record {
+        passed = l .passed ++ front;
+        all-of = l .all-of ∙ sym (append-assoc (l .passed) front left);
+        place = omega (arith, l .place, length-append (l .passed) front);
+      }
 
   pub record Comes {A : Type 0} (o : Read A) (after : List ℕ) (a : A) : Type 0 where
     pub next : ℕ
@@ -133,7 +190,7 @@ module _ (bytes : List ℕ) where
   pub here : {A : Type 0} {f : ℕ → Reader A} {xs ys : List ℕ} {a : A} → ((at : ℕ) → at + length xs ≡ length bytes → Reads (f at) xs ys a) →
       Reads (r._>>=_ r.here f) xs ys a
   unfolding r._>>=_ r.go-on r.here
-  here {xs = xs} h = record { run = λ at l. (h at (omega (arith, l .place, ap length (l .all-of), length-append (l .passed) xs))) .run at l }
+  here h = record { run = λ at l. (h at (left-length at _ l)) .run at l }
 
   -- ## Fields
 
@@ -152,12 +209,7 @@ module _ (bytes : List ℕ) where
           record {
             next = at + 1;
             gives = ap (λ (v : ℕ). got v (at + 1)) (there at l);
-            leaves =
-                record {
-                  passed = l .passed ++ (b ∷ []);
-                  all-of = l .all-of ∙ sym (append-assoc (l .passed) (b ∷ []) xs);
-                  place = omega (arith, l .place, length-append (l .passed) (b ∷ []));
-                };
+            leaves = past at (b ∷ []) xs l;
           }
       by-test false at t l = absurd t
 
@@ -211,7 +263,7 @@ module _ (bytes : List ℕ) where
   unfolding r.u16
   u16 fault = wider (r.u8 bytes fault) 1 (u8 fault)
 
-  u32 : (fault : Refusal) → Field (r.u32 bytes fault) 4 4_294_967_296
+  pub u32 : (fault : Refusal) → Field (r.u32 bytes fault) 4 4_294_967_296
   unfolding r.u32
   u32 fault = wider (r.u16 bytes fault) 2 (u16 fault)
 
@@ -256,7 +308,7 @@ module _ (bytes : List ℕ) where
   code [] xs h = return []
   code (b ∷ ops) xs h = first _ (byte ImageRefused b (ops ++ xs)) (first _ (code ops xs (h .1)) (return (b ∷ ops)))
 
-  function : (f : ObjectFunction) → Fits-form f → (xs : List ℕ) → Reads (file.read-function bytes) (image.function-bytes f ++ xs) xs f
+  pub function : (f : ObjectFunction) → Fits-form f → (xs : List ℕ) → Reads (file.read-function bytes) (image.function-bytes f ++ xs) xs f
   unfolding file.read-function image.function-bytes
   function f h xs =
       simp append-assoc
@@ -273,33 +325,79 @@ module _ (bytes : List ℕ) where
       (mark-is ImageRefused 0x43 0x44 _ ⟫
       first _ (code (f .chunk .ops) xs (h .each-byte)) (return f))))))))))
 
-  functions : (fs : List ObjectFunction) → Fits-image fs → Reads (file.read-functions bytes) (image.image-bytes fs) [] fs
+  -- ## The directory, and the whole file
+
+  offsets : (ns xs : List ℕ) → Offsets ns → Reads (file.read-offsets bytes ns) (image.join (le 4) ns ++ xs) xs tt
+  unfolding file.read-offsets image.join
+  offsets [] xs h = return tt
+  offsets (n ∷ ns) xs h =
+      rw append-assoc (first _ (u32 ImageRefused n _ (h .0)) (need (eqb n n) ImageRefused (eqb-refl n) ⟫ offsets ns xs (h .1)))
+
+  directory : (fs : List ObjectFunction) → length fs < 4_294_967_296 → Placed fs →
+      Reads (file.read-directory bytes fs) (image.directory-bytes fs) [] tt
+  unfolding file.read-directory image.directory-bytes
+  directory fs few p =
+      rw (← append-nil (image.join (le 4) (image.places 6 fs)))
+      (mark-is ImageRefused 0x44 0x58 _ ⟫
+      first _ (u32 ImageRefused (length fs) _ few)
+      (need (eqb (length fs) (length fs)) ImageRefused (eqb-refl (length fs)) ⟫ offsets (image.places 6 fs) [] p))
+
+  read-behind : (with-directory : Bool) (fs : List ObjectFunction) → length fs < 4_294_967_296 → (with-directory ≡ true → Placed fs) →
+      Reads (file.read-behind bytes fs) (directory-if with-directory fs) [] tt
+  unfolding file.read-behind image.directory-bytes
+  read-behind true fs few p = here (λ at e. rw (ne-eqb at (length bytes) (λ z. omega arith)) (directory fs few (p refl)))
+  read-behind false fs few p = here (λ at e. rw (eq-eqb at (length bytes) (omega arith)) (return tt))
+
+  functions : (with-directory : Bool) (fs : List ObjectFunction) → Fits-image fs → (with-directory ≡ true → Placed fs) →
+      Reads (file.read-functions bytes) (image.image-bytes fs ++ directory-if with-directory fs) [] fs
   unfolding file.read-functions image.image-bytes
-  functions fs h =
-      rw (← append-nil (image.join image.function-bytes fs))
+  functions with-directory fs h p =
+      simp append-assoc
       (mark-is ImageRefused 0x49 0x4D _ ⟫
       first _ (u32 ImageRefused (length fs) _ (h .few))
       (need (ltb 0 (length fs)) ImageRefused (lt→ltb 0 (length fs) (h .some)) ⟫
-      first _ (many (file.read-function bytes) image.function-bytes fs [] (all-map Fits-form _ function fs (h .each)))
-      (here (λ at e. need (eqb at (length bytes)) ImageRefused (at-end at e) ⟫ return fs))))
+      first _ (many (file.read-function bytes) image.function-bytes fs (directory-if with-directory fs) (all-map Fits-form _ function fs (h .each)))
+      (read-behind with-directory fs (h .few) p ⟫ here (λ at e. need (eqb at (length bytes)) ImageRefused (at-end at e) ⟫ return fs))))
     where
       at-end : (at : ℕ) → at + 0 ≡ length bytes → T (eqb at (length bytes))
       at-end at e = let z : length bytes ≡ at = omega arith in rw z (eqb-refl at)
 
 -- the image file loses nothing
-pub read-back : (fs : List ObjectFunction) → Fits-image fs → file.read-image (image.image-bytes fs) ≡ got fs (length (image.image-bytes fs))
+pub read-placed : (directory : Bool) (fs : List ObjectFunction) → Fits-image fs → (directory ≡ true → Placed fs) →
+    file.read-image (image.image-with directory fs) ≡ got fs (length (image.image-with directory fs))
 unfolding file.read-image
-read-back fs h =
-    come .gives ∙ ap (got fs) (omega (arith, come .leaves .place, ap length (come .leaves .all-of), ap length (append-nil (come .leaves .passed))))
+read-placed directory fs h p = rw (image-parts directory fs)
+    (come .gives ∙ ap (got fs) (omega (arith, left-length whole (come .next) [] (come .leaves))))
   where
-    come : Comes (image.image-bytes fs) (file.read-functions (image.image-bytes fs) 0) [] fs
-    come = (functions (image.image-bytes fs) fs h) .run 0 (record { passed = []; all-of = refl; place = refl })
+    whole : List ℕ
+    whole = image.image-bytes fs ++ directory-if directory fs
+
+    come : Comes whole (file.read-functions whole 0) [] fs
+    come = (functions whole directory fs h p) .run 0 (record { passed = []; all-of = refl; place = refl })
+
+pub read-back-with : (directory : Bool) (fs : List ObjectFunction) → Fits-image fs → (directory ≡ true → length (image.image-bytes fs) ≤ 4_294_967_296) →
+    file.read-image (image.image-with directory fs) ≡ got fs (length (image.image-with directory fs))
+read-back-with directory fs h l = read-placed directory fs h (λ e. placed fs (l e))
+
+pub read-back : (fs : List ObjectFunction) → Fits-image fs → file.read-image (image.image-bytes fs) ≡ got fs (length (image.image-bytes fs))
+unfolding image.image-with
+read-back fs h = read-placed false fs h (λ e. let z : _≡_ {A = ℕ} 0 1 = cc in absurd (omega arith))
 
 -- so the checker accepts the image of sound functions, with the number of instructions in the division of all their code
-pub sound-accepted : (fs : List ObjectFunction) → Fits-image fs → T (sound fs) → check (image.image-bytes fs) ≡ accepted (instruction-count fs fs)
+pub placed-accepted : (directory : Bool) (fs : List ObjectFunction) → Fits-image fs → (directory ≡ true → Placed fs) → T (sound fs) →
+    check (image.image-with directory fs) ≡ accepted (instruction-count fs fs)
 unfolding check checker.image-of checker.checked checker.verdict
-sound-accepted fs h t = rw (read-back fs h) (by-test (sound fs) t)
+placed-accepted directory fs h p t = rw (read-placed directory fs h p) (by-test (sound fs) t)
   where
     by-test : (b : Bool) → T b → checker.verdict (if b then some fs else none) ≡ accepted (instruction-count fs fs)
     by-test true t = refl
     by-test false t = absurd t
+
+pub sound-accepted-with : (directory : Bool) (fs : List ObjectFunction) → Fits-image fs →
+    (directory ≡ true → length (image.image-bytes fs) ≤ 4_294_967_296) → T (sound fs) →
+    check (image.image-with directory fs) ≡ accepted (instruction-count fs fs)
+sound-accepted-with directory fs h l t = placed-accepted directory fs h (λ e. placed fs (l e)) t
+
+pub sound-accepted : (fs : List ObjectFunction) → Fits-image fs → T (sound fs) → check (image.image-bytes fs) ≡ accepted (instruction-count fs fs)
+unfolding image.image-with
+sound-accepted fs h t = placed-accepted false fs h (λ e. let z : _≡_ {A = ℕ} 0 1 = cc in absurd (omega arith)) t

@@ -1,7 +1,7 @@
 -- Memory: after a refusal the output has only zeros; if one room gives an answer other than 1, 30 and 31, every room at least as large in each size
 -- gives the same answer and the same image, and the output is longer only by zeros; and so do two rooms of which neither is the larger, if both give
--- such an answer. For all limits, trees and lent sizes.
-use mathlib.Core.Path.{_≡_, refl, sym, ap, subst, _∙_}
+-- such an answer. For all limits, trees, options and lent sizes; the same is asked for in both rooms.
+use mathlib.Core.Path.{_≡_, refl, sym, ap, subst, subst⁻¹, _∙_}
 use mathlib.Core.Logic.{_≢_}
 use mathlib.Core.Bool.{Bool, true, false}
 use mathlib.Core.List.{List, [], _++_, append-assoc}
@@ -12,22 +12,24 @@ use lib.Dec.{T, leb, leb→le, le→leb, nleb→lt}
 use Rattle.rules.specs.Base.{if_then_else_}
 use Rattle.rules.specs.Limits.{Limits, first-limits, max-tree}
 use Rattle.rules.specs.declared.Answer.{Answer}
-use Rattle.rules.specs.declared.Refusal.the-variants.{WorkShort, TreeTooLong, CodeFull, OutFull}
-use Rattle.rules.specs.Answer.{refusal, accepted}
+use Rattle.rules.specs.declared.Refusal.the-variants.{WorkShort, TreeTooLong, CodeFull}
+use Rattle.rules.specs.Answer.{refusal}
 use Rattle.rules.specs.Tree.{Stmts}
 use Rattle.rules.specs.Reader.{Read, got, bad}
 use Rattle.rules.specs.TreeFile.{read-tree}
 use Rattle.rules.specs.Chunk.{ObjectFunction}
 use Rattle.rules.specs.Compiler.{Outcome}
-use Rattle.rules.specs.Image.{image-bytes}
+use Rattle.rules.specs.Image.{image-with}
 use Rattle.rules.specs.Entry as entry
-use Rattle.rules.specs.Entry.{Lent, Left, code-limit, Compiled, functions-are, refused, compile-tree, compile-lent, compile-within, compile}
+use Rattle.rules.specs.Entry.{Lent, Left, asks-directory, code-limit, Compiled, functions-are, refused, compile-tree, compile-lent, compile-within, compile}
+use Rattle.rules_laws.proofs.Checks.{image-for, room}
 use Rattle.rules_laws.proofs.Refusals.{no-length}
 use Rattle.rules_laws.proofs.Agrees as agreeing
 use Rattle.rules_laws.proofs.Agrees.{Under, agrees}
 
--- at least as large in each size
+-- at least as large in each size, and the same is asked for
 pub record Larger (lent lent′ : Lent) : Type 0 where
+  pub options : lent .options ≡ lent′ .options
   pub table-words : lent .table-words ≤ lent′ .table-words
   pub code-bytes : lent .code-bytes ≤ lent′ .code-bytes
   pub span-words : lent .span-words ≤ lent′ .span-words
@@ -69,13 +71,6 @@ module _ (limits : Limits) (tree : List ℕ) where
 
 -- ## What is written
 
--- what is left where an image fits the output, and where it does not
-abbrev room : Lent → (image : List ℕ) → (fits : Bool) → Left
-room lent image fits =
-    if fits
-    then entry.leaves lent (accepted (length image)) (image ++ replicate (lent .output-bytes - length image) 0)
-    else entry.leaves lent (refusal (OutFull (length image))) (replicate (lent .output-bytes) 0)
-
 -- "after a refusal, only zeros"; that the work areas are all zero whatever the answer is Slips `work-areas-zero`
 pub refused-leaves-zeros : (limits : Limits) (tree : List ℕ) (lent : Lent) → compile-within limits tree lent .answer .number ≢ 0 →
     compile-within limits tree lent .output ≡ replicate (lent .output-bytes) 0
@@ -88,7 +83,7 @@ refused-leaves-zeros limits tree lent n = by-compiled (compile-lent limits tree 
 
     by-compiled : (x : Compiled) → entry.write-out lent x .answer .number ≢ 0 → entry.write-out lent x .output ≡ replicate (lent .output-bytes) 0
     by-compiled (refused r) n = refl
-    by-compiled (functions-are fs) n = by-room (image-bytes fs) (leb (length (image-bytes fs)) (lent .output-bytes)) n
+    by-compiled (functions-are fs) n = by-room (image-for lent fs) (leb (length (image-for lent fs)) (lent .output-bytes)) n
 
 -- neither 1, 30 nor 31
 abbrev pub Enough : Answer → Type 0
@@ -137,7 +132,9 @@ module _ (lent lent′ : Lent) (larger : Larger lent lent′) where
         output = zeros (lent′ .output-bytes) (lent .output-bytes) (lent′ .output-bytes - lent .output-bytes)
             (omega (arith, larger .output-bytes));
       }
-  out-same (functions-are fs) n = image-same (image-bytes fs) n
+  out-same (functions-are fs) n =
+      subst (λ (o : ℕ). Same lent lent′ (entry.write-image lent (image-for lent fs)) (entry.write-image lent′ (image-with (asks-directory o) fs)))
+      (larger .options) (image-same (image-for lent fs) n)
 
   out-agrees : (x x′ : Compiled) → Under-compiled x x′ → Enough (entry.write-out lent x .answer) →
       Same lent lent′ (entry.write-out lent x) (entry.write-out lent′ x′)
@@ -205,10 +202,10 @@ module _ (lent lent′ : Lent) where
       by-room false b′ e e′ n n′ = absurd (n refl)
       by-room true false e e′ n n′ = absurd (n′ refl)
 
-  out-alike : (x : Compiled) → entry.write-out lent x .answer .number ≢ 31 → entry.write-out lent′ x .answer .number ≢ 31 →
-      Alike lent lent′ (entry.write-out lent x) (entry.write-out lent′ x)
+  out-alike : lent .options ≡ lent′ .options → (x : Compiled) → entry.write-out lent x .answer .number ≢ 31 →
+      entry.write-out lent′ x .answer .number ≢ 31 → Alike lent lent′ (entry.write-out lent x) (entry.write-out lent′ x)
   unfolding entry.write-out entry.leaves
-  out-alike (refused r) n n′ =
+  out-alike o (refused r) n n′ =
       record {
         answer = refl;
         image = [];
@@ -218,7 +215,12 @@ module _ (lent lent′ : Lent) where
     where
       all-zeros : (n : ℕ) → replicate {A = ℕ} n 0 ≡ replicate (n - 0) 0
       all-zeros n = let e : n ≡ n - 0 = omega arith in ap (λ (n : ℕ). replicate {A = ℕ} n 0) e
-  out-alike (functions-are fs) n n′ = image-alike (image-bytes fs) n n′
+  out-alike o (functions-are fs) n n′ =
+      subst (λ (image : List ℕ). Alike lent lent′ (entry.write-image lent (image-for lent fs)) (entry.write-image lent′ image)) e
+      (image-alike (image-for lent fs) n (subst⁻¹ (λ (image : List ℕ). entry.write-image lent′ image .answer .number ≢ 31) e n′))
+    where
+      e : image-for lent fs ≡ image-for lent′ fs
+      e = ap (λ (options : ℕ). image-with (asks-directory options) fs) o
 
 module _ (limits : Limits) (tree : List ℕ) where
   -- past 1, what comes back is what the compiler comes to under the room's code limit
@@ -254,12 +256,13 @@ module _ (limits : Limits) (tree : List ℕ) where
       n₃₀ (ap (λ (r : Left). r .answer .number) (has-table lent n₁) ∙ ap (λ (x : Compiled). entry.write-out lent x .answer .number) e)
 
   -- if both rooms are enough, both give the same
-  pub enough-in-both : (lent lent′ : Lent) → Enough (compile-within limits tree lent .answer) → Enough (compile-within limits tree lent′ .answer) →
+  pub enough-in-both : (lent lent′ : Lent) → lent .options ≡ lent′ .options →
+      Enough (compile-within limits tree lent .answer) → Enough (compile-within limits tree lent′ .answer) →
       Alike lent lent′ (compile-within limits tree lent) (compile-within limits tree lent′)
-  enough-in-both lent lent′ n n′ =
+  enough-in-both lent lent′ o n n′ =
       subst (λ (r : Left). Alike lent lent′ r (compile-within limits tree lent′)) (sym e)
       (subst (λ (r′ : Left). Alike lent lent′ (entry.write-out lent x) r′) (sym e′)
-      (out-alike lent lent′ x (subst (λ (r : Left). r .answer .number ≢ 31) e (n .2)) (subst (λ (r : Left). r .answer .number ≢ 31) e′ (n′ .2))))
+      (out-alike lent lent′ o x (subst (λ (r : Left). r .answer .number ≢ 31) e (n .2)) (subst (λ (r : Left). r .answer .number ≢ 31) e′ (n′ .2))))
     where
       x : Compiled
       x = compile-tree limits tree (code-limit lent)

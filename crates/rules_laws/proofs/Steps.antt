@@ -1,7 +1,7 @@
 -- What each step of the compiler has, the compiler has: a fact `R from to code image m` of a step `m`, which is given for every code limit, where `from`
--- and `to` are levels of nested functions, and `code` and `image` count the bytes that the step may come to cost: of code, and of the image. From a law
--- for each small step, the law for every expression and statement whose leaves are as asked, at most 1 and 17 for each byte of its record. Which jumps
--- wait is not followed here: that is what `Keeps` does.
+-- and `to` are levels of nested functions, and `code` and `image` count the bytes that the step may come to cost: of code, and of the image with its
+-- directory. From a law for each small step, the law for every expression and statement whose leaves are as asked, at most 1 and 17 for each byte of
+-- its record. Which jumps wait is not followed here: that is what `Keeps` does.
 use mathlib.Core.Bool.{Bool, true, false}
 use mathlib.Core.Option.{Option, none, some}
 use mathlib.Core.List.{List, [], _∷_}
@@ -67,7 +67,7 @@ module _ (l : Leaf) (R : (A : Type 0) → (from to : l .level) → (code image :
         R _ g g 1 22 (λ limit. c.emit-constant limit v span)
     pub end-scope : {g : l .level} (span : Span) → l .span span → R _ g g 0 0 (λ limit. c.end-scope limit span)
     pub end-function : {g h : l .level} (span : Span) → l .opens g h → l .span span →
-        R _ h g 3 64 (λ limit. c.end-function limit span)
+        R _ h g 3 68 (λ limit. c.end-function limit span)
 
   module _ (laws : Laws) where
     infixl 10 _>>=_
@@ -500,7 +500,7 @@ module _ (l : Leaf) (R : (A : Type 0) → (from to : l .level) → (code image :
     compile-function-with : {g h : l .level} {n w : ℕ} (type : FunctionType) (name : ℕ) (params : List ℕ) {body : ℕ → Compile (Unit {0})}
         (span : Span) → l .opens g h → R _ h h n w body →
         l .name name → l .span span →
-        R _ g g (length params + n + 7) (12 * length params + w + 112) (λ limit. c.compile-function-with limit type name params (body limit) span)
+        R _ g g (length params + n + 7) (12 * length params + w + 116) (λ limit. c.compile-function-with limit type name params (body limit) span)
     unfolding c.compile-function-with
     compile-function-with type name params span up hb n s =
         needs (leb (length params) 255) _ tt
@@ -617,7 +617,7 @@ module _ (l : Leaf) (R : (A : Type 0) → (from to : l .level) → (code image :
           (omega arith) (omega arith)
 
       pub compile-function : (f : Fun) (h g : l .level) (type : FunctionType) (span : Span) → Of-fun l f h → l .opens g h → l .span span →
-          Has g g (fun-size f + 1) (17 * fun-size f + 10) (λ limit. c.compile-function limit f type span)
+          Has g g (fun-size f + 1) (17 * fun-size f + 14) (λ limit. c.compile-function limit f type span)
       compile-function (fun name params body) h g type span o up s =
           enough (compile-function-with type name params span up (compile-stmts body h (o .2)) (o .0) s) (omega arith) (omega arith)
 

@@ -1,5 +1,6 @@
--- The image's form, both ways: whatever bytes are read as functions are the very bytes that those functions are written as, and every number of them
--- fits its field. So the checker accepts exactly the images of sound functions, and no second spelling of one. `ReadBack` is the other direction.
+-- The image's form, both ways: whatever bytes are read as functions are the very bytes that those functions are written as, with their directory or
+-- without, and every number of them fits its field. So the checker accepts exactly the images of sound functions, and no other spelling of one.
+-- `ReadBack` is the other direction.
 -- `Spells` follows a reader: the bytes that it took are those that its value is written as.
 use mathlib.Core.Path.{_≡_, refl, sym, ap, _∙_}
 use mathlib.Core.Logic.{_↔_, _⊎_, inl, inr}
@@ -22,19 +23,22 @@ use Rattle.rules.specs.Reader as r
 use Rattle.rules.specs.Reader.{Read, Reader, got, bad}
 use Rattle.rules.specs.Chunk.{CN, CS, CF, ObjectFunction}
 use Rattle.rules.specs.Image as image
-use Rattle.rules.specs.Image.{image-bytes}
+use Rattle.rules.specs.Image.{image-bytes, image-with}
 use Rattle.rules.specs.ImageFile as file
 use Rattle.rules.specs.ImageFile.{read-image, ConstantMark, number-mark, string-mark, function-mark}
 use Rattle.rules.specs.Checker as checker
 use Rattle.rules.specs.Checker.{check, image-of, sound}
 use Rattle.rules_laws.proofs.Facts.{All, Bytes, getD-small}
-use Rattle.rules_laws.proofs.ReadBack.{Narrow, Fits-run, Fits-constant, Fits-form, Fits-image, base, le-parts, sound-accepted}
+use Rattle.rules_laws.proofs.ReadBack.{Narrow, Fits-run, Fits-constant, Fits-form, Fits-image, Offsets, Placed, base, le-parts}
+use Rattle.rules_laws.proofs.ReadBack.{directory-if, image-parts, placed-accepted}
 use Rattle.rules_laws.proofs.Lookups.{Makes, first, next, return, need-so, byte-at}
 
--- what reading an image gives: these functions, and the place behind the last one
+-- what reading an image gives: these functions, with a directory or without, and the place behind the last byte
 pub record Again (image : List ℕ) (functions : List ObjectFunction) (next : ℕ) : Type 0 where
+  pub directory : Bool
   pub fits : Fits-image functions
-  pub same : image-bytes functions ≡ image
+  pub placed : directory ≡ true → Placed functions
+  pub same : image-with directory functions ≡ image
   pub end : next ≡ length image
 
 module _ (bytes : List ℕ) (small : Bytes bytes) where
@@ -281,35 +285,96 @@ module _ (bytes : List ℕ) (small : Bytes bytes) where
             ) refl);
       }))))))))))))
 
+  -- ## The directory, and the whole file
+
+  offsets : (ns : List ℕ) → Spells (file.read-offsets bytes ns) (λ _. Offsets ns) (λ _. image.join (le 4) ns)
+  unfolding file.read-offsets image.join
+  offsets [] at = return tt (record { fits = tt; same = refl })
+  offsets (n ∷ ns) at =
+      first _ (λ m i e. next _ (λ t j e′. record {
+        run = λ u k e″. more m i t j u k ((u32 ImageRefused at) .run m i e) ((need-so _ ImageRefused i) .run t j e′) ((offsets ns j) .run u k e″);
+      }))
+    where
+      more : (m i : ℕ) (t : Unit {0}) (j : ℕ) (u : Unit {0}) (k : ℕ) → Spelt (λ (n : ℕ). n < 4_294_967_296) (le 4) at m i → T (eqb m n) × (j ≡ i) →
+          Spelt (λ _. Offsets ns) (λ _. image.join (le 4) ns) j u k → Spelt (λ _. Offsets (n ∷ ns)) (λ _. le 4 n ++ image.join (le 4) ns) at u k
+      more m i t j u k h w b =
+          let z : m ≡ n = eqb→eq m n (w .0) in
+          record {
+            fits = (omega (arith, h .fits), b .fits);
+            same = behind (le 4 n) (image.join (le 4) ns) at j k (rw (← z, w .1) (h .same)) (b .same);
+          }
+
+  read-directory : (fs : List ObjectFunction) → Spells (file.read-directory bytes fs) (λ _. Placed fs) (λ _. image.directory-bytes fs)
+  unfolding file.read-directory image.directory-bytes
+  read-directory fs at =
+      next _ (λ t₀ i₀ e₀. first _ (λ count i₁ e₁. next _ (λ t₁ i₂ e₂. record {
+        run =
+            λ t₂ i₃ e₃.
+            let s₀ = (mark-is ImageRefused 0x4458 at) .run t₀ i₀ e₀ in
+            let s₁ = (u32 ImageRefused i₀) .run count i₁ e₁ in
+            let s₂ = (need-so _ ImageRefused i₁) .run t₁ i₂ e₂ in
+            let s₃ = (offsets (image.places 6 fs) i₂) .run t₂ i₃ e₃ in
+            record { fits = s₃ .fits; same = whole count i₀ i₁ i₂ i₃ (s₀ .same) (s₁ .same) (eqb→eq count (length fs) (s₂ .0)) (s₂ .1) (s₃ .same) };
+      })))
+    where
+      whole : (count i₀ i₁ i₂ i₃ : ℕ) → drop at bytes ≡ 0x44 ∷ 0x58 ∷ drop i₀ bytes → drop i₀ bytes ≡ le 4 count ++ drop i₁ bytes →
+          count ≡ length fs → i₂ ≡ i₁ → drop i₂ bytes ≡ image.join (le 4) (image.places 6 fs) ++ drop i₃ bytes →
+          drop at bytes ≡ (0x44 ∷ 0x58 ∷ le 4 (length fs) ++ image.join (le 4) (image.places 6 fs)) ++ drop i₃ bytes
+      whole count i₀ i₁ i₂ i₃ e₀ e₁ n z e₃ = rw (e₀, e₁, n, ← z, e₃) (simp append-assoc)
+
+  -- what is read behind the functions is their directory, or nothing
+  record Behind (fs : List ObjectFunction) (at next : ℕ) : Type 0 where
+    directory : Bool
+    placed : directory ≡ true → Placed fs
+    same : drop at bytes ≡ directory-if directory fs ++ drop next bytes
+
+  read-behind : (fs : List ObjectFunction) (at : ℕ) → Makes (file.read-behind bytes fs) at (λ _ next. Behind fs at next)
+  unfolding file.read-behind
+  read-behind fs at = first _ (λ here i e. by-test here i ((here-so at) .run here i e) (eqb here (length bytes)))
+    where
+      by-test : (here i : ℕ) → (here ≡ at) × (i ≡ at) → (b : Bool) →
+          Makes (if b then r.return tt else file.read-directory bytes fs) i (λ _ next. Behind fs at next)
+      by-test here i h true =
+          return tt (record { directory = false; placed = λ e. let z : _≡_ {A = ℕ} 0 1 = cc in absurd (omega arith); same = rw (h .1) refl })
+      by-test here i h false = record {
+        run = λ t j e. let s = (read-directory fs i) .run t j e in record { directory = true; placed = λ _. s .fits; same = rw (← h .1) (s .same) };
+      }
+
   functions : Makes (file.read-functions bytes) 0 (Again bytes)
   unfolding file.read-functions image-bytes
   functions =
-      next _ (λ t i₀ e₀. first _ (λ count i₁ e₁. next _ (λ t₁ i₂ e₂. first _ (λ fs i₃ e₃. first _ (λ end i₄ e₄. next _ (λ t₂ i₅ e₅. return fs
+      next _ (λ t i₀ e₀. first _ (λ count i₁ e₁. next _ (λ t₁ i₂ e₂. first _ (λ fs i₃ e₃. next _ (λ t₂ i₄ e₄. first _ (λ end i₅ e₅.
+      next _ (λ t₃ i₆ e₆. return fs
       (let s₀ = (mark-is ImageRefused 0x494D 0) .run t i₀ e₀ in
       let s₁ = (u32 ImageRefused i₀) .run count i₁ e₁ in
       let s₂ = (need-so _ ImageRefused i₁) .run t₁ i₂ e₂ in
       let s₃ = (many (file.read-function bytes) Fits-form image.function-bytes function count i₂) .run fs i₃ e₃ in
-      let s₄ = (here-so i₃) .run end i₄ e₄ in
-      let s₅ = (need-so _ ImageRefused i₄) .run t₂ i₅ e₅ in
-      let z : i₃ ≡ length bytes = omega (arith, s₄ .0, eqb→eq end (length bytes) (s₅ .0)) in
+      let s₄ = (read-behind fs i₃) .run t₂ i₄ e₄ in
+      let s₅ = (here-so i₄) .run end i₅ e₅ in
+      let s₆ = (need-so _ ImageRefused i₅) .run t₃ i₆ e₆ in
+      let z : i₄ ≡ length bytes = omega (arith, s₅ .0, eqb→eq end (length bytes) (s₆ .0)) in
       record {
+        directory = s₄ .directory;
         fits =
             record {
               some = omega (arith, ltb→lt 0 count (s₂ .0), s₃ .fits .1);
               few = omega (arith, s₁ .fits, s₃ .fits .1);
               each = s₃ .fits .0;
             };
-        same = whole fs count i₀ i₁ i₂ i₃ (s₀ .same) (s₁ .same) (s₂ .1) (s₃ .same) z (s₃ .fits .1);
-        end = omega (arith, z, s₄ .1, s₅ .1);
-      })))))))
+        placed = s₄ .placed;
+        same = image-parts (s₄ .directory) fs
+            ∙ whole fs (directory-if (s₄ .directory) fs) count i₀ i₁ i₂ i₃ i₄ (s₀ .same) (s₁ .same) (s₂ .1) (s₃ .same) (s₄ .same) z (s₃ .fits .1);
+        end = omega (arith, z, s₅ .1, s₆ .1);
+      }))))))))
     where
-      whole : (fs : List ObjectFunction) (count i₀ i₁ i₂ i₃ : ℕ) → bytes ≡ 0x49 ∷ 0x4D ∷ drop i₀ bytes → drop i₀ bytes ≡ le 4 count ++ drop i₁ bytes →
-          i₂ ≡ i₁ → drop i₂ bytes ≡ image.join image.function-bytes fs ++ drop i₃ bytes → i₃ ≡ length bytes → length fs ≡ count →
-          image-bytes fs ≡ bytes
-      whole fs count i₀ i₁ i₂ i₃ e₀ e₁ e₂ e₃ z n =
-          let last : image.join image.function-bytes fs ≡ drop i₁ bytes = sym
-          (rw (← e₂) (e₃ ∙ rw (z, drop-length bytes) (append-nil (image.join image.function-bytes fs)))) in
-          rw (n, last) (sym (behind (0x49 ∷ 0x4D ∷ []) (le 4 count) 0 i₀ i₁ e₀ e₁))
+      whole : (fs : List ObjectFunction) (rest : List ℕ) (count i₀ i₁ i₂ i₃ i₄ : ℕ) → bytes ≡ 0x49 ∷ 0x4D ∷ drop i₀ bytes →
+          drop i₀ bytes ≡ le 4 count ++ drop i₁ bytes → i₂ ≡ i₁ → drop i₂ bytes ≡ image.join image.function-bytes fs ++ drop i₃ bytes →
+          drop i₃ bytes ≡ rest ++ drop i₄ bytes → i₄ ≡ length bytes → length fs ≡ count → image-bytes fs ++ rest ≡ bytes
+      whole fs rest count i₀ i₁ i₂ i₃ i₄ e₀ e₁ e₂ e₃ e₄ z n =
+          let head : List ℕ = 0x49 ∷ 0x4D ∷ le 4 count in
+          let records : List ℕ = image.join image.function-bytes fs in
+          let e = behind head records 0 i₁ i₃ (behind (0x49 ∷ 0x4D ∷ []) (le 4 count) 0 i₀ i₁ e₀ e₁) (rw (← e₂) e₃) in
+          rw n (sym (behind (head ++ records) rest 0 i₃ i₄ e e₄ ∙ rw (z, drop-length bytes) (append-nil ((head ++ records) ++ rest))))
 
 -- what is read and then written again is the same bytes, to the last one
 pub form-both-ways : (image : List ℕ) → Bytes image → (functions : List ObjectFunction) (next : ℕ) → read-image image ≡ got functions next →
@@ -319,16 +384,19 @@ form-both-ways image small fs next e = (functions image small) .run fs next e
 
 -- ## What the checker accepts
 
--- the bytes are the image of functions that the checker finds sound
+-- the bytes are the image of functions that the checker finds sound, with a directory or without
 pub record Sound-image (image : List ℕ) : Type 0 where
   pub functions : List ObjectFunction
+  pub directory : Bool
   pub fits : Fits-image functions
+  pub placed : directory ≡ true → Placed functions
   pub holds : sound functions ≡ true
-  pub written : image ≡ image-bytes functions
+  pub written : image ≡ image-with directory functions
 
 -- such bytes are accepted
 accepts : (image : List ℕ) → Sound-image image → check image .number ≡ 0
-accepts image h = rw (h .written) (ap (λ (a : Answer). a .number) (sound-accepted (h .functions) (h .fits) (rw (h .holds) tt)))
+accepts image h = rw (h .written)
+    (ap (λ (a : Answer). a .number) (placed-accepted (h .directory) (h .functions) (h .fits) (h .placed) (rw (h .holds) tt)))
 
 module _ (image : List ℕ) (small : Bytes image) where
   -- all others are refused
@@ -340,7 +408,8 @@ module _ (image : List ℕ) (small : Bytes image) where
           Sound-image image ⊎ (checker.verdict (if b then some fs else none) ≡ refusal ImageRefused)
       by-sound fs next e true h =
           let again = form-both-ways image small fs next e in
-          inl (record { functions = fs; fits = again .fits; holds = h; written = sym (again .same) })
+          inl
+          (record { functions = fs; directory = again .directory; fits = again .fits; placed = again .placed; holds = h; written = sym (again .same) })
       by-sound fs next e false h = inr refl
 
       by-read : (o : Read (List ObjectFunction)) → read-image image ≡ o →

@@ -139,8 +139,8 @@ module _ (class limit l : ℕ) (span : Span) (before : Mem) where
           up = up-to;
           under = under-all;
           put = λ functions h.
-              let k = f .put functions (record { bytes = h .bytes; long = first-words (image-at + 1) (omega arith) ∙ h .long }) in
-              record { bytes = k .bytes; long = beyond-all (image-at + 1) (omega arith) ∙ k .long };
+              let k = f .put functions (record { bytes = h .bytes; long = first-words (image-at + 1) (omega arith) ∙ h .long; counted = h .counted }) in
+              record { bytes = k .bytes; long = beyond-all (image-at + 1) (omega arith) ∙ k .long; counted = k .counted };
           count = beyond-all image-at (omega arith) ∙ f .count ∙ ap (λ (k : ℕ). k + 1) (first-words image-at (omega arith));
           bytes = omega (arith, beyond-all (image-at + 1) (omega arith), f .bytes, first-words (image-at + 1) (omega arith));
         }

@@ -204,7 +204,7 @@ module _ (tree : List ℕ) (l at left kind : ℕ) (span : Span) where
                 record {
                   put = λ functions z.
                       subst (λ (fs : List ObjectFunction). Holds (t-of now) out3 fs) (append-assoc functions (grew h .made) (d .function ∷ []))
-                      (d .put (functions ++ grew h .made) (a .put functions (record { bytes = z .bytes; long = q ∙ z .long })));
+                      (d .put (functions ++ grew h .made) (a .put functions (record { bytes = z .bytes; long = q ∙ z .long; counted = z .counted })));
                   few = let f = a .few in let c = d .count in omega arith;
                   little = let f = a .little in let c = d .bytes in omega arith;
                 }

@@ -41,7 +41,7 @@ added-none {at} {n} {t} {t′} out h k =
     let q = k (image-at + 1) (omega arith) in
     record {
       put = λ functions g.
-          subst (λ (fs : List ObjectFunction). Holds t′ out fs) (sym (append-nil functions)) (record { bytes = g .bytes; long = q ∙ g .long });
+          subst (λ (fs : List ObjectFunction). Holds t′ out fs) (sym (append-nil functions)) (record { bytes = g .bytes; long = q ∙ g .long; counted = g .counted });
       few = omega arith;
       little = omega arith;
     }

@@ -19,7 +19,7 @@ use Rattle.state.specs.Layout.{levels, deepest, image-at}
 use Rattle.steps.specs.View.{Mem, t-of, Rest, depth-at, Fit, Turn, Gave, Refused}
 use Rattle.steps.specs.declared.Step.{Step}
 use Rattle.steps.specs.declared.Step.the-variants.{Next, Stop}
-use Rattle.writer.specs.Put.{padded}
+use Rattle.writer.specs.Put.{padded, AllCounted}
 
 -- ## What is read: the file's second field is how many names it has
 
@@ -54,6 +54,7 @@ largest = 4_194_304
 pub record Holds (t out : List ℕ) (functions : List ObjectFunction) : Type 0 where
   pub bytes : out ≡ padded (length out) (replicate 6 0 ++ join function-bytes functions)
   pub long : getD t (image-at + 1) 0 ≡ length (join function-bytes functions)
+  pub counted : AllCounted functions
 
 -- These functions were put behind the others, while the tree was read from `at` to n: no more of them than bytes read, so that no count is too large
 pub record Added (at n : ℕ) (made : List ObjectFunction) (t out t′ out′ : List ℕ) : Type 0 where

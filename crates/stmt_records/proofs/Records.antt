@@ -13,7 +13,7 @@ use Rattle.rules.specs.Image.{join, constant-bytes, run-bytes, function-bytes}
 use Rattle.rules.specs.Compiler.{finish}
 use Rattle.state.specs.Layout.{levels, image-at, constantOf, runAt, codeFrom, runsFrom, codeEnd, runsEnd, chunkAt, ctxAt, constants-place, constant-count-place, level-words}
 use Rattle.state.proofs.Laws.{length-row, wf-plain}
-use Rattle.writer.specs.Put.{padded, Put, Closed}
+use Rattle.writer.specs.Put.{padded, Put, Closed, Counted, AllCounted}
 use Rattle.writer.proofs.Padding.{length-run, constant-short}
 use Rattle.stmt_output_laws.specs.Output.{largest, Holds}
 use Rattle.stmt_records.specs.Filed.{function-at, Filed}
@@ -52,13 +52,25 @@ record-short f c r b =
     two : (n : ℕ) → suc (suc n) ≡ 2 + n
     two n = omega arith
 
-pub function-short : (t code spans : List ℕ) (l : ℕ) → Closed t code spans l → length (function-bytes (function-at t code spans l)) ≤ largest
+-- what a level's function can have
+parts-most : (t code spans : List ℕ) (l : ℕ) → Closed t code spans l → (length (function-at t code spans l .chunk .constants) ≤ 256) ×
+    (length (function-at t code spans l .chunk .spans) ≤ max-code) × (length (function-at t code spans l .chunk .ops) ≤ max-code)
 unfolding function-at finish ctxAt chunkAt
-function-short t code spans l c =
-    record-short (function-at t code spans l)
-    (omega (arith, length-row (λ i. constantOf (getD t (l * level-words + constants-place + i) 0)) (getD t (l * level-words + constant-count-place) 0), c .wf .fewConstants l (c .low)))
-    (omega (arith, length-row (λ i. runAt spans (runsFrom t l + i)) (runsEnd t - runsFrom t l), c .runs-few, c .code-small))
-    (omega (arith, length-row (λ i. getD code (codeFrom t l + i) 0) (codeEnd t - codeFrom t l), c .code-small))
+parts-most t code spans l c = (
+  omega (arith, length-row (λ i. constantOf (getD t (l * level-words + constants-place + i) 0)) (getD t (l * level-words + constant-count-place) 0), c .wf .fewConstants l (c .low)),
+  omega (arith, length-row (λ i. runAt spans (runsFrom t l + i)) (runsEnd t - runsFrom t l), c .runs-few, c .code-small),
+  omega (arith, length-row (λ i. getD code (codeFrom t l + i) 0) (codeEnd t - codeFrom t l), c .code-small),
+)
+
+pub function-short : (t code spans : List ℕ) (l : ℕ) → Closed t code spans l → length (function-bytes (function-at t code spans l)) ≤ largest
+function-short t code spans l c = let p = parts-most t code spans l c in record-short (function-at t code spans l) (p .0) (p .1) (p .2)
+
+function-counted : (t code spans : List ℕ) (l : ℕ) → Closed t code spans l → Counted (function-at t code spans l)
+function-counted t code spans l c = let p = parts-most t code spans l c in record { constants = omega arith; runs = omega arith; code = omega arith }
+
+one-more : (fs : List ObjectFunction) {f : ObjectFunction} → AllCounted fs → Counted f → AllCounted (fs ++ (f ∷ []))
+one-more [] h c = (c, tt)
+one-more (g ∷ fs) h c = (h .0, one-more fs (h .1) c)
 
 -- ## It is put, and counted
 
@@ -99,6 +111,7 @@ module _ (l : ℕ) (t code spans out out′ : List ℕ) (r : ℕ) (c : Closed t 
         bytes = p .holds (replicate 6 0 ++ js) (six (getD t (image-at + 1) 0) (length js) (h .long)) (h .bytes)
             ∙ ap₂ padded (sym (p .size)) (append-assoc (replicate 6 0) js bytes ∙ ap (λ (x : List ℕ). replicate 6 0 ++ x) e);
         long = word-long ∙ ap (λ (k : ℕ). k + length bytes) (h .long) ∙ sym (length-append js bytes) ∙ ap length e;
+        counted = one-more functions (h .counted) (function-counted t code spans l c);
       }
 
   pub filed : Filed l t code spans out counted out′

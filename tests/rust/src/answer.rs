@@ -1,6 +1,7 @@
 //! The answer to a case, by the published compiler.
 
-use crate::files::{Answer, Case};
+use crate::directory;
+use crate::files::{Answer, Case, DIRECTORY};
 
 const MOST_CODE: u32 = 262_144;
 
@@ -17,7 +18,8 @@ pub fn answer(case: &Case) -> Answer {
         let plain = plain::run(&case.tree, 0);
         assert!(plain.image == counted.image, "the two builds differ on {:02X?}", case.tree);
     }
-    match counted.image {
+    let asked = |image: Vec<u8>| if case.options & DIRECTORY == 0 { image } else { directory::with(&image) };
+    match counted.image.map(asked) {
         Err(refusal) => refused(refusal),
         Ok(image) if image.len() as u64 > u64::from(case.output) => {
             Answer { number: 31, length: image.len() as u32, ..Answer::default() }

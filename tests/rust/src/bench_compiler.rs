@@ -12,6 +12,7 @@ extern "C" {
     fn puffbramble_compile(
         tree: *const u8,
         tree_len: usize,
+        options: u32,
         out: *mut u8,
         out_len: usize,
         table: *mut u64,
@@ -63,6 +64,7 @@ impl Areas {
             puffbramble_compile(
                 tree.as_ptr(),
                 tree.len(),
+                0,
                 out.as_mut_ptr(),
                 out.len(),
                 table.as_mut_ptr(),

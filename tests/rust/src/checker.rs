@@ -101,13 +101,44 @@ impl<'a> Bytes<'a> {
     }
 }
 
-/// The functions of bytes that have the image form to the last byte.
-pub fn read(image: &[u8]) -> Option<Vec<Function>> {
+/// What stands where in an image: its functions with the place of each one's mark, and the directory's place where there
+/// is one.
+pub struct Layout {
+    pub functions: Vec<Function>,
+    pub places: Vec<usize>,
+    pub directory: Option<usize>,
+}
+
+/// The parts of bytes that have the image form to the last byte.
+pub fn layout(image: &[u8]) -> Option<Layout> {
     let mut bytes = Bytes(image);
     bytes.mark(b"IM")?;
     let count = bytes.u32()?;
-    let functions = (0..count).map(|_| function(&mut bytes)).collect::<Option<Vec<_>>>()?;
-    (count > 0 && bytes.0.is_empty()).then_some(functions)
+    let (mut functions, mut places) = (vec![], vec![]);
+    for _ in 0..count {
+        places.push(image.len() - bytes.0.len());
+        functions.push(function(&mut bytes)?);
+    }
+    let behind = image.len() - bytes.0.len();
+    let directory = (behind < image.len()).then_some(behind);
+    if directory.is_some() {
+        offsets(&mut bytes, &places)?;
+    }
+    (count > 0 && bytes.0.is_empty()).then_some(Layout { functions, places, directory })
+}
+
+/// The directory: how many functions there are, and where the mark of each one stands.
+fn offsets(bytes: &mut Bytes, places: &[usize]) -> Option<()> {
+    bytes.mark(b"DX")?;
+    if u64::from(bytes.u32()?) != places.len() as u64 {
+        return None;
+    }
+    places.iter().try_for_each(|&place| (u64::from(bytes.u32()?) == place as u64).then_some(()))
+}
+
+/// The functions of bytes that have the image form to the last byte.
+pub fn read(image: &[u8]) -> Option<Vec<Function>> {
+    layout(image).map(|layout| layout.functions)
 }
 
 fn function(bytes: &mut Bytes) -> Option<Function> {

@@ -8,7 +8,8 @@ use std::process::Command;
 
 use crate::answer::{answer, read};
 use crate::check;
-use crate::files::{self, Answer, Case};
+use crate::directory;
+use crate::files::{self, Answer, Case, Lookup};
 use crate::print_counts;
 use crate::smaller;
 
@@ -16,6 +17,7 @@ use crate::smaller;
 struct Kind<T> {
     flag: Option<&'static str>,
     write: fn(&str, &[T]) -> io::Result<()>,
+    read: fn(&str) -> io::Result<Vec<Answer>>,
     rust: fn(&T) -> Answer,
     smaller: fn(&T) -> Vec<T>,
     show: fn(&T) -> String,
@@ -25,11 +27,33 @@ pub fn images(path: &str, batch: &str) -> io::Result<()> {
     let kind = Kind {
         flag: Some("--images"),
         write: files::write_images,
+        read: files::read_answers,
         rust: |image: &Vec<u8>| check(image),
         smaller: |image| smaller::images(image),
         show: |image| hex(image),
     };
     compare(&kind, &files::read_images(path)?, batch)
+}
+
+/// One function of each image, through its directory where it has one.
+pub fn lookups(path: &str, batch: &str) -> io::Result<()> {
+    let kind = Kind {
+        flag: Some("--lookup"),
+        write: files::write_lookups,
+        read: files::read_answers,
+        rust: directory::lookup,
+        smaller: |asked: &Lookup| {
+            smaller::images(&asked.image).into_iter().map(|image| Lookup { image, ..asked.clone() }).collect()
+        },
+        show: |asked| format!("function {}, image {}", asked.k, hex(&asked.image)),
+    };
+    compare(&kind, &files::read_lookups(path)?, batch)
+}
+
+/// Cases with all that can be asked for and lent, and answers with all their fields.
+pub fn full(path: &str, batch: &str) -> io::Result<()> {
+    let kind = Kind { write: files::write_full, read: files::read_full_answers, ..cases_kind(Some("--full"), answer) };
+    compare(&kind, &files::read_full(path)?, batch)
 }
 
 pub fn trees(path: &str, batch: &str) -> io::Result<()> {
@@ -44,10 +68,15 @@ fn cases_kind(flag: Option<&'static str>, rust: fn(&Case) -> Answer) -> Kind<Cas
     Kind {
         flag,
         write: files::write_cases,
+        read: files::read_answers,
         rust,
         smaller: |case| smaller::trees(&case.tree).into_iter().map(|tree| Case { tree, ..case.clone() }).collect(),
         show: |case| {
-            format!("code {}, spans {}, output {}, tree {}", case.code, case.spans, case.output, hex(&case.tree))
+            let Case { options, code, spans, output, counts, tree } = case;
+            format!(
+                "options {options}, code {code}, spans {spans}, output {output}, counts {counts}, tree {}",
+                hex(tree)
+            )
         },
     }
 }
@@ -92,7 +121,7 @@ fn ours<T>(kind: &Kind<T>, items: &[T], batch: &str) -> io::Result<Vec<Answer>> 
     if !status.success() {
         return Err(io::Error::other(format!("{batch} ended with {status}; its input is {}", input.display())));
     }
-    let answers = files::read_answers(&output.to_string_lossy())?;
+    let answers = (kind.read)(&output.to_string_lossy())?;
     fs::remove_dir_all(&folder)?;
     if answers.len() != items.len() {
         return Err(io::Error::other("as many answers as items are needed"));
@@ -103,8 +132,9 @@ fn ours<T>(kind: &Kind<T>, items: &[T], batch: &str) -> io::Result<Vec<Answer>> 
 fn shown<T>(kind: &Kind<T>, item: &T, ours: &Answer) {
     println!("{}", (kind.show)(item));
     for (side, answer) in [("Rust", &(kind.rust)(item)), ("ours", ours)] {
-        let Answer { number, at, end, name, length, image } = answer;
-        println!("{side}: number {number}, at {at}, end {end}, name {name}, length {length}, image {}", hex(image));
+        let Answer { number, at, end, name, length, function, around, image, counts } = answer;
+        println!("{side}: number {number}, at {at}, end {end}, name {name}, length {length}, function {function}, around {around}");
+        println!("  image {}, counts {counts:?}", hex(image));
     }
 }
 

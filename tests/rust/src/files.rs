@@ -6,19 +6,28 @@ use std::io;
 /// A number that says that there is room enough.
 pub const PLENTY: u32 = u32::MAX;
 
-/// What is lent (code bytes, span words, output bytes), and a tree file.
+/// The bit of `options` that asks for a directory.
+pub const DIRECTORY: u32 = 2;
+
+/// What is asked for, what is lent (code bytes, span words, output bytes, count words), and a tree file.
 #[derive(Clone, Debug, Eq, PartialEq)]
 pub struct Case {
+    pub options: u32,
     pub code: u32,
     pub spans: u32,
     pub output: u32,
+    pub counts: u32,
     pub tree: Vec<u8>,
 }
 
 impl Case {
-    /// A case with plenty of everything.
+    /// A case with plenty of everything, and nothing asked for beside the image.
     pub fn plenty(tree: Vec<u8>) -> Self {
-        Self { code: PLENTY, spans: PLENTY, output: PLENTY, tree }
+        Self::lent(PLENTY, PLENTY, PLENTY, tree)
+    }
+
+    pub fn lent(code: u32, spans: u32, output: u32, tree: Vec<u8>) -> Self {
+        Self { options: 0, code, spans, output, counts: PLENTY, tree }
     }
 }
 
@@ -29,6 +38,16 @@ pub struct Answer {
     pub end: u32,
     pub name: u32,
     pub length: u32,
+    pub function: u32,
+    pub around: u32,
+    pub image: Vec<u8>,
+    pub counts: Vec<u32>,
+}
+
+/// One function of an image that is looked up.
+#[derive(Clone, Debug, Eq, PartialEq)]
+pub struct Lookup {
+    pub k: u32,
     pub image: Vec<u8>,
 }
 
@@ -82,8 +101,50 @@ pub fn put_counted(out: &mut Vec<u8>, bytes: &[u8]) {
 }
 
 pub fn read_cases(path: &str) -> io::Result<Vec<Case>> {
+    Source(&fs::read(path)?)
+        .all(|source| Ok(Case::lent(source.u32()?, source.u32()?, source.u32()?, source.counted()?)))
+}
+
+/// Cases with all that can be asked for and lent.
+pub fn read_full(path: &str) -> io::Result<Vec<Case>> {
     Source(&fs::read(path)?).all(|source| {
-        Ok(Case { code: source.u32()?, spans: source.u32()?, output: source.u32()?, tree: source.counted()? })
+        Ok(Case {
+            options: source.u32()?,
+            code: source.u32()?,
+            spans: source.u32()?,
+            output: source.u32()?,
+            counts: source.u32()?,
+            tree: source.counted()?,
+        })
+    })
+}
+
+pub fn write_full(path: &str, cases: &[Case]) -> io::Result<()> {
+    let mut out = vec![];
+    for case in cases {
+        put(&mut out, &[case.options, case.code, case.spans, case.output, case.counts]);
+        put_counted(&mut out, &case.tree);
+    }
+    fs::write(path, out)
+}
+
+/// Answers with all their fields.
+pub fn read_full_answers(path: &str) -> io::Result<Vec<Answer>> {
+    Source(&fs::read(path)?).all(|source| {
+        Ok(Answer {
+            number: source.u32()?,
+            at: source.u32()?,
+            end: source.u32()?,
+            name: source.u32()?,
+            length: source.u32()?,
+            function: source.u32()?,
+            around: source.u32()?,
+            image: source.counted()?,
+            counts: {
+                let count = source.u32()?;
+                (0..count).map(|_| source.u32()).collect::<io::Result<_>>()?
+            },
+        })
     })
 }
 
@@ -105,6 +166,7 @@ pub fn read_answers(path: &str) -> io::Result<Vec<Answer>> {
             name: source.u32()?,
             length: source.u32()?,
             image: source.counted()?,
+            ..Answer::default()
         })
     })
 }
@@ -126,6 +188,19 @@ pub fn write_images(path: &str, images: &[Vec<u8>]) -> io::Result<()> {
     let mut out = vec![];
     for image in images {
         put_counted(&mut out, image);
+    }
+    fs::write(path, out)
+}
+
+pub fn read_lookups(path: &str) -> io::Result<Vec<Lookup>> {
+    Source(&fs::read(path)?).all(|source| Ok(Lookup { k: source.u32()?, image: source.counted()? }))
+}
+
+pub fn write_lookups(path: &str, lookups: &[Lookup]) -> io::Result<()> {
+    let mut out = vec![];
+    for lookup in lookups {
+        put(&mut out, &[lookup.k]);
+        put_counted(&mut out, &lookup.image);
     }
     fs::write(path, out)
 }

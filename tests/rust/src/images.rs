@@ -1,6 +1,7 @@
 //! Images for the checker: sound ones, and ones damaged as bytes or as functions.
 
 use crate::checker::{read, Constant, Function, Run};
+use crate::directory;
 use crate::random::Rng;
 
 const MOST_BITS: u64 = 0x7FF0_0000_0000_0000;
@@ -11,13 +12,19 @@ const COUNTS: [usize; 4] = [5, 7, 9, 13];
 pub fn images(seed: u64, count: usize, most: usize, accepted: &[Vec<u8>]) -> Vec<Vec<u8>> {
     let mut rng = Rng::new(seed);
     let accepted: Vec<&Vec<u8>> = accepted.iter().filter(|image| image.len() <= most).collect();
-    let mut images: Vec<Vec<u8>> = by_hand().into_iter().filter(|image| image.len() <= most).collect();
+    let by_hand = by_hand().into_iter().chain(directory::like_one());
+    let mut images: Vec<Vec<u8>> = by_hand.filter(|image| image.len() <= most).collect();
     while images.len() < count && !accepted.is_empty() {
         let image = rng.pick(&accepted);
-        let made = match rng.below(10) {
+        let made = match rng.below(16) {
             0..=2 => image.clone(),
             3..=5 => damaged_bytes(&mut rng, image),
-            _ => damaged_functions(&mut rng, image),
+            6..=9 => damaged_functions(&mut rng, image),
+            10 => damaged_bytes(&mut rng, &directory::with(image)),
+            _ => {
+                let other = rng.pick(&accepted);
+                directory::varied(&mut rng, image, other)
+            }
         };
         if made.len() <= most {
             images.push(made);
@@ -375,6 +382,17 @@ fn script(code: &[u8]) -> Function {
 
 fn with_constants(code: &[u8], constants: Vec<Constant>) -> Function {
     Function { constants, ..script(code) }
+}
+
+/// A sound image of so many functions, whose code ends in `DX` and what is given behind it: instructions that take any
+/// byte, or one of the constants 0 to 80.
+pub fn ending_in(count: u8, end: &[u8]) -> Vec<u8> {
+    let named = u32::from(count) - 1;
+    let mut functions: Vec<Function> = (0..named).map(|_| script(&[1, 36])).collect();
+    let texts = (0..=80).map(Constant::Text);
+    let code: Vec<u8> = (81..80 + count).flat_map(|place| [34, place]).chain([32]).chain(end.iter().copied()).collect();
+    functions.push(with_constants(&code, texts.chain((0..named).map(Constant::Function)).collect()));
+    written(&functions)
 }
 
 /// A small image with each kind of constant and of operand, pairs of both kinds, and runs of one span.

@@ -2,7 +2,7 @@
 
 use crate::answer::{answer, peak};
 use crate::examples;
-use crate::files::{Case, PLENTY};
+use crate::files::{Case, DIRECTORY, PLENTY};
 use crate::limits;
 use crate::random::{nested, random_tree, Rng};
 use crate::small::Small;
@@ -112,6 +112,19 @@ fn damage(rng: &mut Rng, tree: &mut Vec<u8>, starts: &[usize]) {
     }
 }
 
+/// A case with a directory asked for, alone and among bits that say nothing, with bits that do not ask for it, and with an
+/// output just below, at and above what the image then needs.
+pub fn full(case: &Case) -> Vec<Case> {
+    let asked = |options| Case { options, ..case.clone() };
+    let mut cases: Vec<Case> = [0, 2, 0xFFFF_FFF8, 0xFFFF_FFFA].map(asked).to_vec();
+    let plenty = answer(&Case { output: PLENTY, ..asked(DIRECTORY) });
+    if plenty.number == 0 {
+        let room = |output| Case { output, ..asked(DIRECTORY) };
+        cases.extend([plenty.length - 1, plenty.length, plenty.length + 1].map(room));
+    }
+    cases
+}
+
 /// Every truncation of the small trees.
 fn truncated() -> impl Iterator<Item = Case> {
     examples::small_set().into_iter().flat_map(|tree| {
@@ -150,7 +163,7 @@ fn edges(rng: &mut Rng) -> Vec<Case> {
 pub fn budgets(rng: &mut Rng, tree: Vec<u8>) -> Vec<Case> {
     let code = peak(&tree) as u32;
     let output = answer(&Case::plenty(tree.clone())).image.len() as u32;
-    let lent = |code, spans, output| Case { code, spans, output, tree: tree.clone() };
+    let lent = |code, spans, output| Case::lent(code, spans, output, tree.clone());
     let mut cases = vec![lent(code, 3 * code, output)];
     if code > 0 {
         cases.push(lent(code - 1, PLENTY, PLENTY));

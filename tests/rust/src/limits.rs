@@ -124,7 +124,7 @@ fn table(list: &mut List) {
         list.bytes(example.label, expected, example.tree.bytes());
     }
     let p2 = || examples()[1].tree.bytes();
-    let lent = |code, spans, output| Case { code, spans, output, tree: p2() };
+    let lent = |code, spans, output| Case::lent(code, spans, output, p2());
     list.case("P2, output 73", 0, lent(PLENTY, PLENTY, 73));
     list.case("P2, output 72", 31, lent(PLENTY, PLENTY, 72));
     list.case("P2, output 0", 31, lent(PLENTY, PLENTY, 0));

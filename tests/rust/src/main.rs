@@ -7,6 +7,7 @@ mod bench;
 mod bench_compiler;
 mod checker;
 mod compare;
+mod directory;
 mod examples;
 mod fan;
 mod files;
@@ -29,7 +30,7 @@ use std::fs;
 use std::io;
 use std::process::ExitCode;
 
-use files::{Answer, Case};
+use files::{Answer, Case, Lookup};
 
 const USAGE: &str = "\
 beside answer CASES ANSWERS           the compiler's answers
@@ -40,7 +41,9 @@ beside generate KIND SEED COUNT CASES [MOST]
 beside images SEED COUNT CASES ANSWERS IMAGES [MOST]
                                       images for the checker, from the accepted ones
 beside large IMAGES                   a few large images
-beside compare [--images | --read] FILE BATCH
+beside full CASES FULL                the cases with every option, and at the edges of what the output then needs
+beside lookups IMAGES LOOKUPS         the functions of each image that are looked up
+beside compare [--full | --images | --lookup | --read] FILE BATCH
                                       the port's answers, by a program like tools/batch, beside these; the first
                                       difference in full, and made small
 beside pack CASES ANSWERS OUT, beside unpack IN CASES ANSWERS
@@ -82,6 +85,18 @@ fn run(args: &[&str]) -> io::Result<bool> {
             files::write_images(images, &made)?;
         }
         ["large", images] => files::write_images(images, &images::large())?,
+        ["full", cases, full] => {
+            let made: Vec<Case> = files::read_cases(cases)?.iter().flat_map(kinds::full).collect();
+            files::write_full(full, &made)?;
+        }
+        ["lookups", images, lookups] => {
+            let numbered = |image: Vec<u8>| {
+                let numbers = directory::numbers(&image);
+                numbers.into_iter().map(move |k| Lookup { k, image: image.clone() })
+            };
+            let made: Vec<Lookup> = files::read_images(images)?.into_iter().flat_map(numbered).collect();
+            files::write_lookups(lookups, &made)?;
+        }
         ["pack", cases, answers, out] => {
             let both = read_both(cases, answers)?;
             fs::write(out, pack::pack_cases(&both))?;
@@ -95,6 +110,8 @@ fn run(args: &[&str]) -> io::Result<bool> {
         ["compare", cases, batch] => compare::cases(cases, batch)?,
         ["compare", "--read", cases, batch] => compare::trees(cases, batch)?,
         ["compare", "--images", images, batch] => compare::images(images, batch)?,
+        ["compare", "--lookup", lookups, batch] => compare::lookups(lookups, batch)?,
+        ["compare", "--full", full, batch] => compare::full(full, batch)?,
         ["vectors", folder] => vectors::write(folder)?,
         ["example", folder] => example(folder)?,
         ["selftest"] => selftest::run(),

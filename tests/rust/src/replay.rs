@@ -7,10 +7,11 @@ use std::path::Path;
 use crate::answer::{answer, read};
 use crate::check;
 use crate::checker;
+use crate::directory;
 use crate::examples::{every_kind, examples};
-use crate::files::{put, put_counted, Answer, Case};
+use crate::files::{put, put_counted, Answer, Case, Lookup};
 use crate::images;
-use crate::pack::{pack_cases, pack_images, Checked};
+use crate::pack::{pack_cases, pack_full, pack_images, Checked};
 
 /// What a program is run on: small files to vary, each with its length before it, then 0, then the packed vectors.
 /// What is expected of it: for each file a digest of the answers to every truncation and every change of one byte, and
@@ -39,7 +40,7 @@ pub fn tree_replay(folder: &Path, cases: &[(Case, Answer)]) -> io::Result<()> {
 
 /// Vectors for the whole compiler, nothing varied.
 pub fn compile_replay(folder: &Path, cases: &[(Case, Answer)]) -> io::Result<()> {
-    write(folder, "compile_replay", (pack_cases(cases), format!("{} vectors agree\n", cases.len())))
+    write(folder, "compile_replay", (pack_full(cases), format!("{} vectors agree\n", cases.len())))
 }
 
 /// What the program must write: an image, or a refusal's number and a line end.
@@ -86,11 +87,13 @@ fn one_name(size: usize) -> Vec<u8> {
     tree
 }
 
-/// The images of P2, P10 (a loop), P11 (jumps ahead) and P12 (captured variables), and one by hand with the rest.
+/// The images of P2, P10 (a loop), P11 (jumps ahead) and P12 (captured variables), one by hand with the rest, and P12's with
+/// a directory.
 pub fn image_replay(folder: &Path, images: &[Checked]) -> io::Result<()> {
     let examples = examples();
     let compiled = |place: usize| answer(&Case::plenty(examples[place].tree.bytes())).image;
-    let files: Vec<Vec<u8>> = [1, 9, 10, 11].into_iter().map(compiled).chain([images::varied()]).collect();
+    let mut files: Vec<Vec<u8>> = [1, 9, 10, 11].into_iter().map(compiled).chain([images::varied()]).collect();
+    files.push(directory::with(&files[3]));
     assert!(files.iter().all(|image| check(image).number == 0 && image.len() <= 1_024));
     let both = replay(&files, &pack_images(images), images.len(), |image| check(&image));
     write(folder, "image_replay", both)
@@ -116,6 +119,21 @@ pub fn span_replay(folder: &Path, images: &[Checked]) -> io::Result<()> {
         output += &format!("{} words, {} offsets, digest {}\n", words.len(), answers.len(), span_digest(&answers));
     }
     write(folder, "span_replay", (input, output))
+}
+
+/// Images, sound or not, with a directory or without: the functions' codes from 0 to two past the last, through the
+/// directory where there is one.
+pub fn lookup_replay(folder: &Path, images: &[Checked]) -> io::Result<()> {
+    let sample = images.iter().map(|(image, ..)| image.clone()).filter(|image| image.len() <= 500).step_by(9);
+    let (mut input, mut output) = (vec![], String::new());
+    for image in directory::like_one().into_iter().chain(sample).filter(|image| image.len() <= 1_024) {
+        let count = checker::read(&image).map_or(1, |functions| functions.len()) as u32 + 2;
+        let answers: Vec<Answer> = (0..count).map(|k| directory::lookup(&Lookup { k, image: image.clone() })).collect();
+        put(&mut input, &[count]);
+        put_counted(&mut input, &image);
+        output += &format!("{} bytes, {count} lookups, digest {}\n", image.len(), span_digest(&answers));
+    }
+    write(folder, "lookup_replay", (input, output))
 }
 
 /// A run as the answers to each of its bytes.

@@ -3,8 +3,9 @@
 use crate::answer::{answer, code_limit, peak};
 use crate::checker;
 use crate::compare;
+use crate::directory;
 use crate::examples::{examples, Told, P2_IMAGE};
-use crate::files::{Answer, Case};
+use crate::files::{Answer, Case, Lookup};
 use crate::images;
 use crate::kinds::{damaged, generate};
 use crate::limits::limits;
@@ -34,6 +35,7 @@ pub fn run() {
     peaks_hold(&all);
     images_hold(&all);
     packing_holds(&all);
+    directories_hold(&all);
     compare::selftest();
     scripts_hold();
 }
@@ -119,4 +121,25 @@ fn scripts_hold() {
         }
     }
     println!("scripts: all are accepted");
+}
+
+/// An image with a directory is accepted with the same count, and gives the same codes; one whose code only ends like a directory has none.
+fn directories_hold(all: &[(Case, Answer)]) {
+    let images = all.iter().filter(|(_, answer)| answer.number == 0).map(|(_, answer)| &answer.image);
+    let mut looked_up = 0;
+    for image in images.clone().step_by(7) {
+        let with = directory::with(image);
+        assert_eq!(checked(with.clone()).2, checked(image.clone()).2);
+        assert_eq!(checker::layout(&with).expect("an image").directory, Some(image.len()));
+        for k in directory::numbers(image) {
+            let both = [image, &with].map(|image| directory::lookup(&Lookup { k, image: image.clone() }));
+            assert_eq!(both[0], both[1]);
+            looked_up += 1;
+        }
+    }
+    let like = directory::like_one();
+    let have: Vec<bool> =
+        like.iter().map(|image| checker::layout(image).expect("an image").directory.is_some()).collect();
+    assert!(like.iter().all(|image| checked(image.clone()).1 == 0) && have.chunks(2).all(|pair| pair == [true, false]));
+    println!("directories: {looked_up} lookups agree, {} images end like one", like.len() / 2);
 }

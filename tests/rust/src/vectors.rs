@@ -7,11 +7,12 @@ use std::path::Path;
 
 use crate::answer::answer;
 use crate::checker;
+use crate::directory;
 use crate::files::{Answer, Case};
 use crate::images;
-use crate::kinds::generate;
+use crate::kinds::{full, generate};
 use crate::limits::{limits, Limit};
-use crate::pack::{pack_cases, pack_images, Checked};
+use crate::pack::{pack_cases, pack_full, pack_images, Checked};
 use crate::replay;
 
 const SEED: u64 = 20_301;
@@ -66,6 +67,16 @@ fn compile_cases(limits: &[(Limit, Answer)]) -> Vec<Answered> {
     cases
 }
 
+/// The compiler with every option: small and random trees, and one with many functions.
+fn full_cases() -> Vec<Answered> {
+    let mut cases = made("small", 4_001, 30, usize::MAX);
+    cases.extend(first_of_each(made("random", SEED + 7, 6_000, 500), |number| if number == 0 { 24 } else { 1 }));
+    let functions = |image: &[u8]| checker::read(image).map_or(0, |functions| functions.len());
+    let large = made("random", SEED + 8, 2_000, 4_000);
+    cases.extend(large.into_iter().max_by_key(|(_, answer)| functions(&answer.image)));
+    answered(cases.iter().flat_map(|(case, _)| full(case)).collect())
+}
+
 /// The first few limit cases of each answer number.
 fn of_limits(limits: &[(Limit, Answer)], wanted: impl Fn(u32) -> bool, count: usize) -> Vec<Answered> {
     let cases = limits.iter().map(|(limit, answer)| (limit.case.clone(), answer.clone())).collect();
@@ -79,8 +90,8 @@ fn image_cases(limits: &[(Limit, Answer)]) -> Vec<Checked> {
         .filter(|(_, answer)| answer.number == 0)
         .map(|(_, answer)| answer.image)
         .collect();
-    let mut images = images::images(SEED + 6, 750, 420, &accepted);
-    images.extend(images::by_hand().into_iter().filter(|image| image.len() > 420));
+    let mut images = images::images(SEED + 6, 930, 420, &accepted);
+    images.extend(images::by_hand().into_iter().chain(directory::like_one()).filter(|image| image.len() > 420));
     for (limit, answer) in limits.iter().filter(|(_, answer)| answer.number == 0) {
         if limit.label.ends_with("65535") {
             images.extend(images::with_moved_jumps(&answer.image));
@@ -98,7 +109,7 @@ pub fn checked(image: Vec<u8>) -> Checked {
     }
 }
 
-/// Writes the four files and prints what they cover; an error where something is not covered.
+/// Writes the five files and prints what they cover; an error where something is not covered.
 pub fn write(folder: &str) -> io::Result<()> {
     let limits: Vec<(Limit, Answer)> = limits()
         .into_iter()
@@ -111,6 +122,7 @@ pub fn write(folder: &str) -> io::Result<()> {
     let compile = compile_cases(&limits);
     let limit = limits.iter().map(|(limit, answer)| (limit.case.clone(), answer.clone())).collect::<Vec<_>>();
     let images = image_cases(&limits);
+    let full = full_cases();
 
     fs::create_dir_all(folder)?;
     let files = [
@@ -118,6 +130,7 @@ pub fn write(folder: &str) -> io::Result<()> {
         ("compile", pack_cases(&compile)),
         ("limits", pack_cases(&limit)),
         ("images", pack_images(&images)),
+        ("full", pack_full(&full)),
     ];
     for (name, bytes) in &files {
         fs::write(Path::new(folder).join(format!("{name}.pack")), bytes)?;
@@ -125,16 +138,19 @@ pub fn write(folder: &str) -> io::Result<()> {
     let for_reader: Vec<Answered> = tree.iter().chain(&limit).cloned().collect();
     replay::tree_replay(Path::new(folder), &for_reader)?;
     let for_compiler: Vec<Answered> = compile.iter().chain(&limit).cloned().collect();
-    replay::compile_replay(Path::new(folder), &for_compiler)?;
+    let with_options: Vec<Answered> = for_compiler.iter().chain(&full).cloned().collect();
+    replay::compile_replay(Path::new(folder), &with_options)?;
     replay::program(Path::new(folder), &for_compiler)?;
     replay::image_replay(Path::new(folder), &images)?;
     replay::span_replay(Path::new(folder), &images)?;
+    replay::lookup_replay(Path::new(folder), &images)?;
     let sizes: Vec<String> = files.iter().map(|(name, bytes)| format!("{name}.pack {}", bytes.len())).collect();
     println!("bytes: {}", sizes.join(", "));
     print_numbers("tree.pack", tree.iter().map(|(_, answer)| answer.number));
     print_numbers("compile.pack", compile.iter().map(|(_, answer)| answer.number));
     print_numbers("limits.pack", limit.iter().map(|(_, answer)| answer.number));
     print_numbers("images.pack", images.iter().map(|(_, number, _)| *number));
+    print_numbers("full.pack", full.iter().map(|(_, answer)| answer.number));
     let all: Vec<&Answered> = tree.iter().chain(&compile).chain(&limit).collect();
     let complete = [covers_numbers(&all), covers_opcodes(&all), covers_marks(&all), covers_limits(&limits)];
     if complete.contains(&false) {

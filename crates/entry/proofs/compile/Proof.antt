@@ -75,9 +75,9 @@ returns : tie.Need-returns
 returns c =
     let a = start-of-slice-known12 c .args in
     let z = compile-lent-of-slice-known12 c .compile-lent .last in
-    let k = compile-lent-of-slice-known12 c .compile-lent .kept in answered (a .tree .now) (a .table .now) (a .code .now) (a .spans .now) (a .out .now)
-    (z .1 .1 .0) (z .1 .1 .1 .0) (z .1 .1 .1 .1 .0) (z .1 .0)
-    (compile-lent-of-slice-known12 c .compile-lent .ensures) (k .1 .1 .0) (k .1 .1 .1 .0) (k .1 .1 .1 .1 .0) (k .1 .0) (end-call-of-slice-known12 c .end-call .ensures)
+    let k = compile-lent-of-slice-known12 c .compile-lent .kept in answered (a .tree .now) (a .options) (a .table .now) (a .code .now) (a .spans .now) (a .out .now)
+    (z .1 .1 .1 .0) (z .1 .1 .1 .1 .0) (z .1 .1 .1 .1 .1 .0) (z .1 .1 .0)
+    (compile-lent-of-slice-known12 c .compile-lent .ensures) (k .1 .1 .1 .0) (k .1 .1 .1 .1 .0) (k .1 .1 .1 .1 .1 .0) (k .1 .1 .0) (end-call-of-slice-known12 c .end-call .ensures)
 
 pub compile-spec : {M : Type 1} → statement M
 compile-spec =

@@ -88,7 +88,7 @@ else1-of-slice-known8 c = else1-of-compile-sound (compile-sound-of-slice-known8 
 -- ## Needs
 
 returns : tie.Need-returns
-returns c = let a = start-of-then1 c .args in written-refused _ refl (table-short (a .tree .now) (a .table .now) (a .code .now) (a .spans .now) (a .out .now) (c .if1 .taken))
+returns c = let a = start-of-then1 c .args in written-refused _ refl (table-short (a .tree .now) (a .options) (a .table .now) (a .code .now) (a .spans .now) (a .out .now) (c .if1 .taken))
 
 read-requires : tie.Need-read-requires
 read-requires c κs = search needs
@@ -114,7 +114,7 @@ compile-sound-requires c κs = (
 
 returns-2 : tie.Need-returns-2
 returns-2 c =
-    let a = start-of-known-told c .args in written-as (table-enough (a .tree .now) (a .table .now) (a .code .now) (a .spans .now) (a .out .now)
+    let a = start-of-known-told c .args in written-as (table-enough (a .tree .now) (a .options) (a .table .now) (a .code .now) (a .spans .now) (a .out .now)
     (else1-of-known-told c .if1 .left)) (written-refused _ refl (refused-file _ _ (sym (c .before .before .before .read .ensures) ∙ c .before .x .given .1)))
 
 same-length : tie.Need-same-length
@@ -131,7 +131,7 @@ same-length-4 c = search needs
 
 returns-3 : tie.Need-returns-3
 returns-3 c =
-    let a = start-of-slice-known8 c .args in written-as (table-enough (a .tree .now) (a .table .now) (a .code .now) (a .spans .now) (a .out .now)
+    let a = start-of-slice-known8 c .args in written-as (table-enough (a .tree .now) (a .options) (a .table .now) (a .code .now) (a .spans .now) (a .out .now)
     (else1-of-slice-known8 c .if1 .left)) (compile-sound-of-slice-known8 c .compile-sound .ensures)
 
 pub compile-lent-spec : {M : Type 1} → statement M

@@ -1,11 +1,9 @@
 -- `compile_sound` meets its contract.
 use native.Mathlib.Omega.{arith}
-use mathlib.Core.Path.{sym, ap, _∙_}
-use Prim.Native.Nat.{ℕ}
 use lib.ListN.{length}
 use Rattle.entry.proofs.Rows.{rows-of, sound-refused, sound-recorded}
 use Rattle.entry.proofs.Script.{clean}
-use Rattle.entry.proofs.Answers.{written-limit, written-refused, written-finished, refused-as}
+use Rattle.entry.proofs.Answers.{written-limit, written-finished, refused-as}
 use borrow.Author.Needs.{needs}
 use Rattle.entry.proofs.compile_sound.Statement.{statement}
 use Rattle.entry.proofs.compile_sound.Tie as tie
@@ -152,7 +150,8 @@ slice-read-finish-image c = search needs
 
 finish-image-requires : tie.Need-finish-image-requires
 finish-image-requires c κs =
-    omega (arith, sound-recorded _ (start-of-slice-known11 c .pre .0) (compile-script-of-slice-known11 c .compile-script .ensures) (c .before .before .before .r .given .1) .long)
+    let w = sound-recorded _ (start-of-slice-known11 c .pre .0) (compile-script-of-slice-known11 c .compile-script .ensures) (c .before .before .before .r .given .1) in
+    (omega (arith, w .long), w .small)
 
 enum-known-r-2 : tie.Need-enum-known-r-2
 enum-known-r-2 c = search needs

@@ -120,7 +120,7 @@ clear32-of-refused c = clear32-of-made2 (made2-of-refused c)
 
 returns : tie.Need-returns
 returns c =
-    let a = start-of-accepted c .args in left (lent-of (a .table .now) (a .code .now) (a .spans .now) (a .out .now))
+    let a = start-of-accepted c .args in left (lent-of 0 (a .table .now) (a .code .now) (a .spans .now) (a .out .now))
     (c .accepted .ensures ∙ ap answer-of (sym (c .before .before .made .given .1))) (ap (output-of _) (sym (c .before .before .made .given .1)))
     (clear64-of-accepted c .clear64 .ensures) (clear8-of-accepted c .clear8 .ensures) (clear32-of-accepted c .clear32 .ensures)
 
@@ -138,7 +138,7 @@ same-length-7 c = search needs
 
 returns-2 : tie.Need-returns-2
 returns-2 c =
-    let a = start-of-refused c .args in left (lent-of (a .table .now) (a .code .now) (a .spans .now) (a .out .now))
+    let a = start-of-refused c .args in left (lent-of 0 (a .table .now) (a .code .now) (a .spans .now) (a .out .now))
     (c .refused .ensures ∙ ap answer-of (sym (made2-of-refused c .made2 .given .1)))
     (c .before .before .before .clear82 .ensures ∙ ap (output-of _) (sym (made2-of-refused c .made2 .given .1)))
     (clear64-of-refused c .clear64 .ensures) (clear8-of-refused c .clear8 .ensures) (clear32-of-refused c .clear32 .ensures)

@@ -30,7 +30,7 @@ returns-2 : tie.Need-returns-2
 returns-2 c =
     let yes = c .before .before in
     let counted = yes .before .before in
-    c .accepted .ensures ∙ check-yes (counted .before .before .args .image .now) _ (sym (yes .n .given .1) ∙ counted .count-of .ensures)
+    c .accepted .ensures ∙ check-yes (counted .before .before .args .image .now) _ _ (sym (yes .n .given .1) ∙ counted .count-of .ensures)
 
 pub check-spec : {M : Type 1} → statement M
 check-spec =

@@ -2,7 +2,7 @@
 use mathlib.Core.Path.{_≡_, ap, _∙_}
 use Rattle.rules.specs.declared.Answer.{Answer}
 use Rattle.rules.specs.Answer.{at-offset}
-use Rattle.image.specs.Counted.{code-part}
+use Rattle.rules.specs.Checker.{code-part}
 use Rattle.image.proofs.Lookup.{only-number}
 use borrow.Author.Needs.{needs}
 use Rattle.image.proofs.code_answer.Statement.{statement}

@@ -4,7 +4,7 @@ use native.Mathlib.Omega.{arith}
 use mathlib.Core.Path.{_≡_, refl, sym, _∙_, ap}
 use lib.ListN.{length}
 use Rattle.rules.specs.declared.Answer.{Answer}
-use Rattle.image.specs.Counted.{code-part}
+use Rattle.rules.specs.Checker.{code-part}
 use Rattle.image.proofs.Lookup.{place-of, end-of, ends-within, part-is}
 use borrow.Author.Needs.{needs}
 use Rattle.image.proofs.code_of.Statement.{statement}

@@ -1,275 +1,115 @@
 -- `count_of` meets its contract. Assumes nothing.
-use Prim.Native.Nat.{ℕ, _+_, _-_, _*_, _<_, _≤_}
+use Prim.Native.Nat.{ℕ, _<_, _≤_}
 use native.Mathlib.Omega.{arith}
-use mathlib.Core.Path.{_≡_, refl, sym, _∙_, ap}
-use mathlib.Core.Bool.{true, false}
+use mathlib.Core.Path.{_≡_, sym, _∙_}
+use mathlib.Core.List.{List, []}
 use lib.ListN.{length, getD}
-use borrow.Author.Tests.{not-true, not-false, leb-true, leb-false}
-use Rattle.image.proofs.Whole.{no-room, no-mark, no-functions, answered-no, all-read, answered-unnamed, answered-yes}
 use borrow.Author.Needs.{needs}
+use borrow.Author.Tests.{not-true, not-false, leb-true, leb-false}
+use Rattle.rules.specs.Reader.{many}
+use Rattle.rules.specs.ImageFile.{read-function}
+use Rattle.fields.specs.Words.{word32, letters}
+use Rattle.image_functions.specs.declared.Done.the-variants.{Is}
+use Rattle.image_functions.specs.Judged.{functions-done}
+use Rattle.image.proofs.Whole.{no-room, no-mark, no-functions, answered-wrong, ends-at, answered-behind, all-read, answered-unnamed, answered-yes}
 use Rattle.image.proofs.count_of.Statement.{statement}
 use Rattle.image.proofs.count_of.Tie as tie
-
-has-requires : tie.Need-has-requires
-has-requires c κs = search needs
-
-returns : tie.Need-returns
-returns c =
-    no-room (c .before .before .before .args .image .now) (leb-false 6 (length (c .before .before .before .args .image .now))
-    (sym (c .before .has .ensures) ∙ not-true (c .before .has .result) (c .if1 .taken)))
-
-mark-at-requires : tie.Need-mark-at-requires
-mark-at-requires c κs = let h = (leb-true 6 (length (c .before .before .before .args .image .now)) (sym (c .before .has .ensures) ∙ not-false (c .before .has .result) (c .if1 .left))) in omega arith
 
 -- ## Places
 
 abbrev start-of-else1 : tie.Else1 → tie.Start
 start-of-else1 c = c .before .before .before
 
-abbrev start-of-mark-at : tie.After-mark-at → tie.Start
-start-of-mark-at c = start-of-else1 (c .before)
-
-abbrev start-of-then2 : tie.Then2 → tie.Start
-start-of-then2 c = start-of-mark-at (c .before)
-
-abbrev start-of-else2 : tie.Else2 → tie.Start
-start-of-else2 c = start-of-mark-at (c .before)
-
-abbrev start-of-u32-at : tie.After-u32-at → tie.Start
-start-of-u32-at c = start-of-else2 (c .before)
-
-abbrev start-of-wide32 : tie.After-wide32 → tie.Start
-start-of-wide32 c = start-of-u32-at (c .before)
-
-abbrev start-of-then3 : tie.Then3 → tie.Start
-start-of-then3 c = start-of-wide32 (c .before)
-
-abbrev has-of-else2 : tie.Else2 → tie.After-has
-has-of-else2 c = c .before .before .before
-
-abbrev has-of-u32-at : tie.After-u32-at → tie.After-has
-has-of-u32-at c = has-of-else2 (c .before)
-
-abbrev has-of-wide32 : tie.After-wide32 → tie.After-has
-has-of-wide32 c = has-of-u32-at (c .before)
-
-abbrev has-of-then3 : tie.Then3 → tie.After-has
-has-of-then3 c = has-of-wide32 (c .before)
-
-abbrev else1-of-u32-at : tie.After-u32-at → tie.Else1
-else1-of-u32-at c = c .before .before .before
-
-abbrev else1-of-wide32 : tie.After-wide32 → tie.Else1
-else1-of-wide32 c = else1-of-u32-at (c .before)
-
-abbrev else1-of-then3 : tie.Then3 → tie.Else1
-else1-of-then3 c = else1-of-wide32 (c .before)
-
-abbrev mark-at-of-wide32 : tie.After-wide32 → tie.After-mark-at
-mark-at-of-wide32 c = c .before .before .before
-
-abbrev mark-at-of-then3 : tie.Then3 → tie.After-mark-at
-mark-at-of-then3 c = mark-at-of-wide32 (c .before)
-
-abbrev start-of-else3 : tie.Else3 → tie.Start
-start-of-else3 c = start-of-wide32 (c .before)
-
-abbrev has-of-else3 : tie.Else3 → tie.After-has
-has-of-else3 c = has-of-wide32 (c .before)
-
-abbrev else1-of-else3 : tie.Else3 → tie.Else1
-else1-of-else3 c = else1-of-wide32 (c .before)
-
-abbrev start-of-judge : tie.After-judge → tie.Start
-start-of-judge c = start-of-else3 (c .before)
-
-abbrev start-of-enum-told : tie.After-enum-told → tie.Start
-start-of-enum-told c = start-of-judge (c .before .before)
-
-abbrev has-of-judge : tie.After-judge → tie.After-has
-has-of-judge c = has-of-else3 (c .before)
-
-abbrev has-of-enum-told : tie.After-enum-told → tie.After-has
-has-of-enum-told c = has-of-judge (c .before .before)
-
-abbrev else1-of-judge : tie.After-judge → tie.Else1
-else1-of-judge c = else1-of-else3 (c .before)
-
-abbrev else1-of-enum-told : tie.After-enum-told → tie.Else1
-else1-of-enum-told c = else1-of-judge (c .before .before)
-
-abbrev mark-at-of-else3 : tie.Else3 → tie.After-mark-at
-mark-at-of-else3 c = mark-at-of-wide32 (c .before)
-
-abbrev mark-at-of-judge : tie.After-judge → tie.After-mark-at
-mark-at-of-judge c = mark-at-of-else3 (c .before)
-
-abbrev mark-at-of-enum-told : tie.After-enum-told → tie.After-mark-at
-mark-at-of-enum-told c = mark-at-of-judge (c .before .before)
+abbrev else1-of-else2 : tie.Else2 → tie.Else1
+else1-of-else2 c = c .before .before
 
 abbrev else2-of-else3 : tie.Else3 → tie.Else2
 else2-of-else3 c = c .before .before .before
 
-abbrev else2-of-judge : tie.After-judge → tie.Else2
-else2-of-judge c = else2-of-else3 (c .before)
-
-abbrev else2-of-enum-told : tie.After-enum-told → tie.Else2
-else2-of-enum-told c = else2-of-judge (c .before .before)
-
-abbrev wide32-of-judge : tie.After-judge → tie.After-wide32
-wide32-of-judge c = c .before .before
-
-abbrev wide32-of-enum-told : tie.After-enum-told → tie.After-wide32
-wide32-of-enum-told c = wide32-of-judge (c .before .before)
-
-abbrev u32-at-of-judge : tie.After-judge → tie.After-u32-at
-u32-at-of-judge c = c .before .before .before
-
-abbrev u32-at-of-enum-told : tie.After-enum-told → tie.After-u32-at
-u32-at-of-enum-told c = u32-at-of-judge (c .before .before)
-
-abbrev shared-slice-known-of-mark-at : tie.After-mark-at → tie.After-shared-slice-known
-shared-slice-known-of-mark-at c = c .before .before .before
-
-abbrev shared-slice-known-of-else2 : tie.Else2 → tie.After-shared-slice-known
-shared-slice-known-of-else2 c = shared-slice-known-of-mark-at (c .before)
-
-abbrev shared-slice-known-of-u32-at : tie.After-u32-at → tie.After-shared-slice-known
-shared-slice-known-of-u32-at c = shared-slice-known-of-else2 (c .before)
-
-abbrev shared-slice-known-of-wide32 : tie.After-wide32 → tie.After-shared-slice-known
-shared-slice-known-of-wide32 c = shared-slice-known-of-u32-at (c .before)
-
-abbrev shared-slice-known-of-else3 : tie.Else3 → tie.After-shared-slice-known
-shared-slice-known-of-else3 c = shared-slice-known-of-wide32 (c .before)
-
-abbrev shared-slice-known-of-judge : tie.After-judge → tie.After-shared-slice-known
-shared-slice-known-of-judge c = shared-slice-known-of-else3 (c .before)
-
-abbrev shared-slice-known-of-enum-told : tie.After-enum-told → tie.After-shared-slice-known
-shared-slice-known-of-enum-told c = shared-slice-known-of-judge (c .before .before)
-
-abbrev else3-of-judge : tie.After-judge → tie.Else3
-else3-of-judge c = c .before
-
-abbrev else3-of-known-told : tie.After-known-told → tie.Else3
-else3-of-known-told c = else3-of-judge (c .before .before .before)
-
-abbrev start-of-known-told : tie.After-known-told → tie.Start
-start-of-known-told c = start-of-judge (c .before .before .before)
-
-abbrev has-of-known-told : tie.After-known-told → tie.After-has
-has-of-known-told c = has-of-judge (c .before .before .before)
-
-abbrev else1-of-known-told : tie.After-known-told → tie.Else1
-else1-of-known-told c = else1-of-judge (c .before .before .before)
-
-abbrev mark-at-of-known-told : tie.After-known-told → tie.After-mark-at
-mark-at-of-known-told c = mark-at-of-judge (c .before .before .before)
-
-abbrev else2-of-known-told : tie.After-known-told → tie.Else2
-else2-of-known-told c = else2-of-judge (c .before .before .before)
-
-abbrev wide32-of-known-told : tie.After-known-told → tie.After-wide32
-wide32-of-known-told c = wide32-of-judge (c .before .before .before)
-
-abbrev u32-at-of-known-told : tie.After-known-told → tie.After-u32-at
-u32-at-of-known-told c = u32-at-of-judge (c .before .before .before)
-
-abbrev shared-slice-known-of-known-told : tie.After-known-told → tie.After-shared-slice-known
-shared-slice-known-of-known-told c = shared-slice-known-of-judge (c .before .before .before)
-
 abbrev judge-of-n : tie.After-n → tie.After-judge
 judge-of-n c = c .before .before
 
-abbrev judge-of-then4 : tie.Then4 → tie.After-judge
-judge-of-then4 c = judge-of-n (c .before .before .before)
+abbrev n-of-behind : tie.After-behind → tie.After-n
+n-of-behind c = c .before .before
 
-abbrev start-of-then4 : tie.Then4 → tie.Start
-start-of-then4 c = start-of-judge (judge-of-then4 c)
+-- the mark and the count are there
+room : (c : tie.Else1) → 6 ≤ length (start-of-else1 c .args .image .now)
+room c = leb-true _ _ (sym (c .before .has .ensures) ∙ not-false (c .before .has .result) (c .if1 .left))
 
-abbrev has-of-then4 : tie.Then4 → tie.After-has
-has-of-then4 c = has-of-judge (judge-of-then4 c)
+-- what is known once they are read
+module _ (c : tie.Else3) where
+  abbrev start : tie.Start
+  start = start-of-else1 (else1-of-else2 (else2-of-else3 c))
 
-abbrev else1-of-then4 : tie.Then4 → tie.Else1
-else1-of-then4 c = else1-of-judge (judge-of-then4 c)
+  abbrev image : List ℕ
+  image = start .args .image .now
 
-abbrev mark-at-of-then4 : tie.Then4 → tie.After-mark-at
-mark-at-of-then4 c = mark-at-of-judge (judge-of-then4 c)
+  abbrev count : ℕ
+  count = c .before .wide32 .result
 
-abbrev else2-of-then4 : tie.Then4 → tie.Else2
-else2-of-then4 c = else2-of-judge (judge-of-then4 c)
+  fits : 6 ≤ length image
+  fits = room (else1-of-else2 (else2-of-else3 c))
 
-abbrev wide32-of-then4 : tie.Then4 → tie.After-wide32
-wide32-of-then4 c = judge-of-then4 c .before .before
+  marked : letters image 0 ≡ 0x494D
+  marked = sym (else2-of-else3 c .before .mark-at .ensures) ∙ else2-of-else3 c .if2 .left
 
-abbrev u32-at-of-then4 : tie.Then4 → tie.After-u32-at
-u32-at-of-then4 c = judge-of-then4 c .before .before .before
+  counted : count ≡ word32 image 2
+  counted = c .before .wide32 .ensures .0 ∙ c .before .before .u32-at .ensures
 
-abbrev else3-of-then4 : tie.Then4 → tie.Else3
-else3-of-then4 c = judge-of-then4 c .before
+  some : 0 < count
+  some = omega (arith, c .if3 .left)
 
-abbrev shared-slice-known-of-then4 : tie.Then4 → tie.After-shared-slice-known
-shared-slice-known-of-then4 c = shared-slice-known-of-judge (judge-of-then4 c)
+  bytes : (i : ℕ) → getD image i 0 < 256
+  bytes i = omega (arith, else1-of-else2 (else2-of-else3 c) .before .before .shared-slice-known .given i)
 
-abbrev judge-of-else4 : tie.Else4 → tie.After-judge
-judge-of-else4 c = judge-of-n (c .before .before .before)
+-- and once the functions are judged
+module _ (c : tie.After-n) where
+  abbrev header : tie.Else3
+  header = judge-of-n c .before
 
-abbrev start-of-else4 : tie.Else4 → tie.Start
-start-of-else4 c = start-of-judge (judge-of-else4 c)
+  abbrev number : ℕ
+  number = c .n .given .0 .0
 
-abbrev has-of-else4 : tie.Else4 → tie.After-has
-has-of-else4 c = has-of-judge (judge-of-else4 c)
+  abbrev end : ℕ
+  end = c .n .given .0 .1 .0
 
-abbrev else1-of-else4 : tie.Else4 → tie.Else1
-else1-of-else4 c = else1-of-judge (judge-of-else4 c)
-
-abbrev mark-at-of-else4 : tie.Else4 → tie.After-mark-at
-mark-at-of-else4 c = mark-at-of-judge (judge-of-else4 c)
-
-abbrev else2-of-else4 : tie.Else4 → tie.Else2
-else2-of-else4 c = else2-of-judge (judge-of-else4 c)
-
-abbrev wide32-of-else4 : tie.Else4 → tie.After-wide32
-wide32-of-else4 c = judge-of-else4 c .before .before
-
-abbrev u32-at-of-else4 : tie.Else4 → tie.After-u32-at
-u32-at-of-else4 c = judge-of-else4 c .before .before .before
-
-abbrev else3-of-else4 : tie.Else4 → tie.Else3
-else3-of-else4 c = judge-of-else4 c .before
-
-abbrev shared-slice-known-of-else4 : tie.Else4 → tie.After-shared-slice-known
-shared-slice-known-of-else4 c = shared-slice-known-of-judge (judge-of-else4 c)
+  judged : Is number end ≡ functions-done 0 [] (many (count header) (read-function (image header)) 6)
+  judged = sym (c .n .given .1) ∙ judge-of-n c .judge .ensures
 
 -- ## Needs
 
+has-requires : tie.Need-has-requires
+has-requires c κs = search needs
+
+returns : tie.Need-returns
+returns c =
+    let asked = c .before in
+    no-room (asked .before .before .args .image .now) (leb-false _ _ (sym (asked .has .ensures) ∙ not-true (asked .has .result) (c .if1 .taken)))
+
+mark-at-requires : tie.Need-mark-at-requires
+mark-at-requires c κs = omega (arith, room c)
+
 returns-2 : tie.Need-returns-2
 returns-2 c =
-    no-mark (start-of-then2 c .args .image .now) (leb-true 6 (length (start-of-then2 c .args .image .now))
-    (sym (c .before .before .before .has .ensures) ∙ not-false (c .before .before .before .has .result) (c .before .before .if1 .left))) (λ q. c .if2 .taken (c .before .mark-at .ensures ∙ q))
+    let opens = c .before in
+    no-mark (start-of-else1 (opens .before) .args .image .now) (room (opens .before)) (λ q. c .if2 .taken (opens .mark-at .ensures ∙ q))
 
 u32-at-requires : tie.Need-u32-at-requires
-u32-at-requires c κs =
-    let h = (leb-true 6 (length (start-of-else2 c .args .image .now))
-    (sym (c .before .before .before .has .ensures) ∙ not-false (c .before .before .before .has .result) (c .before .before .if1 .left))) in omega arith
+u32-at-requires c κs = omega (arith, room (else1-of-else2 c))
 
 wide32-requires : tie.Need-wide32-requires
 wide32-requires c κs = search needs
 
 returns-3 : tie.Need-returns-3
 returns-3 c =
-    no-functions (start-of-then3 c .args .image .now) (leb-true 6 (length (start-of-then3 c .args .image .now))
-    (sym (has-of-then3 c .has .ensures) ∙ not-false (has-of-then3 c .has .result) (else1-of-then3 c .if1 .left)))
-    (sym (mark-at-of-then3 c .mark-at .ensures) ∙ c .before .before .before .if2 .left) (c .before .wide32 .result)
-    (c .before .wide32 .ensures .0 ∙ c .before .before .u32-at .ensures) (c .if3 .taken)
+    let wide = c .before in
+    let word = wide .before in
+    let same = word .before in
+    no-functions (start-of-else1 (else1-of-else2 same) .args .image .now) (room (else1-of-else2 same))
+    (sym (same .before .mark-at .ensures) ∙ same .if2 .left) (wide .wide32 .result) (wide .wide32 .ensures .0 ∙ word .u32-at .ensures) (c .if3 .taken)
 
 judge-requires : tie.Need-judge-requires
-judge-requires c κs = (
-  c .before .wide32 .ensures .1,
-  leb-true 6 (length (start-of-else3 c .args .image .now))
-      (sym (has-of-else3 c .has .ensures) ∙ not-false (has-of-else3 c .has .result) (else1-of-else3 c .if1 .left)),
-)
+judge-requires c κs = (c .before .wide32 .ensures .1, fits c)
 
 enum-known-n : tie.Need-enum-known-n
 enum-known-n c = search needs
@@ -279,41 +119,49 @@ enum-told c = search needs
 
 returns-4 : tie.Need-returns-4
 returns-4 c =
-    answered-no (start-of-enum-told c .args .image .now) (leb-true 6 (length (start-of-enum-told c .args .image .now))
-    (sym (has-of-enum-told c .has .ensures) ∙ not-false (has-of-enum-told c .has .result) (else1-of-enum-told c .if1 .left)))
-    (sym (mark-at-of-enum-told c .mark-at .ensures) ∙ else2-of-enum-told c .if2 .left) (wide32-of-enum-told c .wide32 .result)
-    (wide32-of-enum-told c .wide32 .ensures .0 ∙ u32-at-of-enum-told c .u32-at .ensures) (omega (arith, c .before .before .before .if3 .left))
-    (λ i. omega (arith, shared-slice-known-of-enum-told c .shared-slice-known .given i)) (sym (c .enum-told .given .1) ∙ c .before .before .judge .ensures)
+    let told = c .before .before in
+    let h = told .before in
+    answered-wrong (image h) (fits h) (marked h) (count h) (counted h) (some h) (bytes h) (sym (c .enum-told .given .1) ∙ told .judge .ensures)
 
-all-named-once-requires : tie.Need-all-named-once-requires
-all-named-once-requires c κs = (
-  (omega (arith, else3-of-known-told c .if3 .left)),
-  all-read (start-of-known-told c .args .image .now)
-      (leb-true 6 (length (start-of-known-told c .args .image .now))
-      (sym (has-of-known-told c .has .ensures) ∙ not-false (has-of-known-told c .has .result) (else1-of-known-told c .if1 .left)))
-      (sym (mark-at-of-known-told c .mark-at .ensures) ∙ else2-of-known-told c .if2 .left) (wide32-of-known-told c .wide32 .result)
-      (wide32-of-known-told c .wide32 .ensures .0 ∙ u32-at-of-known-told c .u32-at .ensures) (omega (arith, else3-of-known-told c .if3 .left))
-      (λ i. omega (arith, shared-slice-known-of-known-told c .shared-slice-known .given i)) (c .before .n .given .0 .0)
-      (sym (c .before .n .given .1) ∙ c .before .before .before .judge .ensures),
-)
+behind-requires : tie.Need-behind-requires
+behind-requires c κs =
+    let n = c .before in
+    let h = header n in
+    ends-at (image h) (fits h) (marked h) (count h) (counted h) (some h) (bytes h) (number n) (end n) (judged n)
 
 returns-5 : tie.Need-returns-5
 returns-5 c =
-    answered-yes (start-of-then4 c .args .image .now) (leb-true 6 (length (start-of-then4 c .args .image .now))
-    (sym (has-of-then4 c .has .ensures) ∙ not-false (has-of-then4 c .has .result) (else1-of-then4 c .if1 .left)))
-    (sym (mark-at-of-then4 c .mark-at .ensures) ∙ else2-of-then4 c .if2 .left) (wide32-of-then4 c .wide32 .result)
-    (wide32-of-then4 c .wide32 .ensures .0 ∙ u32-at-of-then4 c .u32-at .ensures) (omega (arith, else3-of-then4 c .if3 .left))
-    (λ i. omega (arith, shared-slice-known-of-then4 c .shared-slice-known .given i)) (c .before .before .before .n .given .0 .0)
-    (sym (c .before .before .before .n .given .1) ∙ judge-of-then4 c .judge .ensures) (sym (c .if4 .taken) ∙ c .before .all-named-once .ensures)
+    let asked = c .before in
+    let n = n-of-behind asked in
+    let h = header n in
+    answered-behind (image h) (fits h) (marked h) (count h) (counted h) (some h) (bytes h) (number n) (end n) (judged n)
+    (sym (not-true (asked .behind .result) (c .if4 .taken)) ∙ asked .behind .ensures)
+
+all-named-once-requires : tie.Need-all-named-once-requires
+all-named-once-requires c κs =
+    let n = n-of-behind (c .before) in
+    let h = header n in
+    (some h, all-read (image h) (fits h) (marked h) (count h) (counted h) (some h) (bytes h) (number n) (end n) (judged n))
 
 returns-6 : tie.Need-returns-6
 returns-6 c =
-    answered-unnamed (start-of-else4 c .args .image .now) (leb-true 6 (length (start-of-else4 c .args .image .now))
-    (sym (has-of-else4 c .has .ensures) ∙ not-false (has-of-else4 c .has .result) (else1-of-else4 c .if1 .left)))
-    (sym (mark-at-of-else4 c .mark-at .ensures) ∙ else2-of-else4 c .if2 .left) (wide32-of-else4 c .wide32 .result)
-    (wide32-of-else4 c .wide32 .ensures .0 ∙ u32-at-of-else4 c .u32-at .ensures) (omega (arith, else3-of-else4 c .if3 .left))
-    (λ i. omega (arith, shared-slice-known-of-else4 c .shared-slice-known .given i)) (c .before .before .before .n .given .0 .0)
-    (sym (c .before .before .before .n .given .1) ∙ judge-of-else4 c .judge .ensures) (sym (c .if4 .left) ∙ c .before .all-named-once .ensures)
+    let named = c .before in
+    let right = named .before in
+    let asked = right .before in
+    let n = n-of-behind asked in
+    let h = header n in
+    answered-yes (image h) (fits h) (marked h) (count h) (counted h) (some h) (bytes h) (number n) (end n) (judged n)
+    (sym (not-false (asked .behind .result) (right .if4 .left)) ∙ asked .behind .ensures) (sym (c .if5 .taken) ∙ named .all-named-once .ensures)
+
+returns-7 : tie.Need-returns-7
+returns-7 c =
+    let named = c .before in
+    let right = named .before in
+    let asked = right .before in
+    let n = n-of-behind asked in
+    let h = header n in
+    answered-unnamed (image h) (fits h) (marked h) (count h) (counted h) (some h) (bytes h) (number n) (end n) (judged n)
+    (sym (not-false (asked .behind .result) (right .if4 .left)) ∙ asked .behind .ensures) (sym (c .if5 .left) ∙ named .all-named-once .ensures)
 
 pub count-of-spec : {M : Type 1} → statement M
 count-of-spec =
@@ -330,6 +178,8 @@ count-of-spec =
     enum-known-n
     enum-told
     returns-4
-    all-named-once-requires
+    behind-requires
     returns-5
-    returns-6)
+    all-named-once-requires
+    returns-6
+    returns-7)

@@ -6,7 +6,7 @@ use mathlib.Core.Bool.{true, false}
 use lib.ListN.{length, getD}
 use borrow.Author.Needs.{needs}
 use borrow.Author.Tests.{not-true, not-false}
-use Rattle.image_functions.proofs.All.{Going, going-begin, going-stop, next-is, going-on, going-done, going-past}
+use Rattle.image_functions.proofs.All.{Going, going-begin, going-stop, next-is, going-on, going-done}
 use Rattle.image_functions.proofs.judge_all.Statement.{statement}
 use Rattle.image_functions.proofs.judge_all.Tie as tie
 
@@ -111,11 +111,8 @@ in-loop-of-n c = in-loop-of-function (function-of-n c)
 abbrev in-loop-of-slice-known6 : tie.After-slice-known6 Inv-loop μ-loop → tie.In-loop Inv-loop μ-loop
 in-loop-of-slice-known6 c = in-loop-of-n (n-of-slice-known6 c)
 
-abbrev start-of-then1 : tie.Then1 Inv-loop μ-loop → tie.Start Inv-loop μ-loop
-start-of-then1 c = start-of-at-loop (c .before .before)
-
-abbrev start-of-else1 : tie.Else1 Inv-loop μ-loop → tie.Start Inv-loop μ-loop
-start-of-else1 c = start-of-at-loop (c .before .before)
+abbrev start-of-after-loop : tie.After-loop Inv-loop μ-loop → tie.Start Inv-loop μ-loop
+start-of-after-loop c = start-of-at-loop (c .before)
 
 -- ## Needs
 
@@ -196,36 +193,20 @@ loop-again c =
     (function-of-slice-known6 c .function .kept .1 .1 .1 .1 .1 .1 .0 ∙ at-loop-of-slice-known6 c .loop .inv .ring-size)
 
 same-length-4 : tie.Need-same-length-4 Inv-loop μ-loop
-same-length-4 c = c .before .before .loop .inv .counts-size
+same-length-4 c = c .before .loop .inv .counts-size
 
 same-length-5 : tie.Need-same-length-5 Inv-loop μ-loop
-same-length-5 c = c .before .before .loop .inv .stamps-size
+same-length-5 c = c .before .loop .inv .stamps-size
 
 same-length-6 : tie.Need-same-length-6 Inv-loop μ-loop
-same-length-6 c = c .before .before .loop .inv .ring-size
+same-length-6 c = c .before .loop .inv .ring-size
 
 returns-2 : tie.Need-returns-2 Inv-loop μ-loop
 returns-2 c =
-    going-done (start-of-then1 c .args .s .now) (start-of-then1 c .args .count) (length (start-of-then1 c .args .counts .now))
-    (length (start-of-then1 c .args .stamps .now)) (length (start-of-then1 c .args .ring .now)) (c .before .before .loop .counts)
-    (c .before .before .loop .words) (c .before .before .loop .stamps) (c .before .before .loop .ring) (c .before .before .loop .at)
-    (c .before .before .loop .k) (c .before .before .loop .total) (c .before .before .loop .inv) (c .before .loop-test .left) (c .if1 .taken)
-
-same-length-7 : tie.Need-same-length-7 Inv-loop μ-loop
-same-length-7 c = c .before .before .loop .inv .counts-size
-
-same-length-8 : tie.Need-same-length-8 Inv-loop μ-loop
-same-length-8 c = c .before .before .loop .inv .stamps-size
-
-same-length-9 : tie.Need-same-length-9 Inv-loop μ-loop
-same-length-9 c = c .before .before .loop .inv .ring-size
-
-returns-3 : tie.Need-returns-3 Inv-loop μ-loop
-returns-3 c =
-    going-past (start-of-else1 c .args .s .now) (start-of-else1 c .args .count) (length (start-of-else1 c .args .counts .now))
-    (length (start-of-else1 c .args .stamps .now)) (length (start-of-else1 c .args .ring .now)) (c .before .before .loop .counts)
-    (c .before .before .loop .words) (c .before .before .loop .stamps) (c .before .before .loop .ring) (c .before .before .loop .at)
-    (c .before .before .loop .k) (c .before .before .loop .total) (c .before .before .loop .inv) (c .before .loop-test .left) (c .if1 .left)
+    going-done (start-of-after-loop c .args .s .now) (start-of-after-loop c .args .count) (length (start-of-after-loop c .args .counts .now))
+    (length (start-of-after-loop c .args .stamps .now)) (length (start-of-after-loop c .args .ring .now)) (c .before .loop .counts)
+    (c .before .loop .words) (c .before .loop .stamps) (c .before .loop .ring) (c .before .loop .at)
+    (c .before .loop .k) (c .before .loop .total) (c .before .loop .inv) (c .loop-test .left)
 
 pub judge-all-spec : {M : Type 1} → statement M
 judge-all-spec =
@@ -249,8 +230,4 @@ judge-all-spec =
     same-length-4
     same-length-5
     same-length-6
-    returns-2
-    same-length-7
-    same-length-8
-    same-length-9
-    returns-3)
+    returns-2)

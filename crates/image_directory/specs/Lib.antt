@@ -1,0 +1,2 @@
+-- What stands behind the functions of an image.
+pub mod Behind
