@@ -31,8 +31,9 @@ extern "C" {
  *           directory's
  *   end     10 to 23, and 0 from puffbramble_span_of: the span's end; 0 from puffbramble_code_of, puffbramble_code_through and
  *           puffbramble_directory_of: the place behind the code, or the directory
- *   name    10, 11, 12: the number of the name
- *   length  0 from the compiler: the length of the image; 31: the length that is needed; 0 from puffbramble_check: the number of instructions;
+ *   name    10, 11, 12: the number of the name; 0 from puffbramble_touch: the number of the function
+ *   length  0 from the compiler: the length of the image; 31: the length that is needed; 0 from puffbramble_check: the number of instructions,
+ *           from puffbramble_touch: of those that were read;
  *           0 from puffbramble_code_of and puffbramble_code_through: the length of the code; 0 from puffbramble_directory_of: how many
  *           functions it tells of
  */
@@ -161,6 +162,16 @@ pb_answer puffbramble_directory_of(const uint8_t *image, size_t image_len);
  * the image, 40 where no directory stands there that ends where the image does or its entry leads to no function's record, or 41 where it has no
  * entry k: nothing is read outside the image, and nothing is trusted. */
 pb_answer puffbramble_code_through(const uint8_t *image, size_t image_len, size_t place, size_t k);
+
+/* The first place where an image names a global: a GET_GLOBAL, SET_GLOBAL or DEFINE_GLOBAL of that name.
+ *
+ *   image, image_len   the image, in bytes; with a directory or without
+ *   name               the number of the name in the tree file's table
+ *
+ * Answers 40 where the bytes are no image; else 0. Where the global is named, the first place in image order is told: the offset of the instruction in its
+ * function's code in `at`, the offset behind it in `end`, which is never 0 then, the function's number in `name`, and in `length` how many instructions were
+ * read, up to and including this one. Where it is not named, at, end and name are 0 and `length` is the number of all instructions. */
+pb_answer puffbramble_touch(const uint8_t *image, size_t image_len, uint16_t name);
 
 /* The span of one code byte.
  *

@@ -76,6 +76,16 @@ static void look_up_all(source *in, FILE *out) {
     }
 }
 
+/* The first place of each image that names a global. */
+static void touch_all(source *in, FILE *out) {
+    while (in->at < in->length) {
+        uint32_t name = take_u32(in);
+        size_t length = take_u32(in);
+        if (name > 0xFFFF) die("a name number has two bytes");
+        put_answer(out, puffbramble_touch(take(in, length), length, (uint16_t)name), NULL, 0);
+    }
+}
+
 /* The reader on each case, whatever it lends. */
 static void read_all(source *in, FILE *out) {
     while (in->at < in->length) {
@@ -146,7 +156,8 @@ int main(int argc, char **argv) {
     else if (argc == 4 && strcmp(argv[1], "--read") == 0) all = read_all;
     else if (argc == 4 && strcmp(argv[1], "--full") == 0) all = compile_full;
     else if (argc == 4 && strcmp(argv[1], "--lookup") == 0) all = look_up_all;
-    else if (argc != 3) die("usage: batch [--full | --images | --lookup | --read] INPUT ANSWERS");
+    else if (argc == 4 && strcmp(argv[1], "--touch") == 0) all = touch_all;
+    else if (argc != 3) die("usage: batch [--full | --images | --lookup | --read | --touch] INPUT ANSWERS");
     bytes file = read_file(argv[argc - 2]);
     source in = {file.bytes, file.length, 0};
     FILE *out = fopen(argv[argc - 1], "wb");

@@ -141,6 +141,34 @@ static int print_span(const uint8_t *image, size_t length, const char *k, const 
     return 0;
 }
 
+/* The number of a name of a sound tree file, or of none: 65,536. */
+static uint32_t name_number(bytes tree, const char *text) {
+    static const char *const FIXED[4] = {"this", "super", "init", "<script>"};
+    for (uint32_t k = 0; k < 4; k++)
+        if (strcmp(FIXED[k], text) == 0) return k;
+    const uint8_t *at = tree.bytes + 6;
+    for (uint32_t k = 0; k < number(tree.bytes + 2, 2); k++, at += 4 + number(at + 2, 2))
+        if (number(at + 2, 2) == strlen(text) && memcmp(at + 4, text, strlen(text)) == 0) return k + 4;
+    return 65536;
+}
+
+/* Whether the rule touches a global, as a planner asks of an image. */
+static int print_touch(bytes tree, const uint8_t *image, size_t length, const char *text) {
+    uint32_t name = name_number(tree, text);
+    if (name > 65535) {
+        printf("touches   no: the tree has no name '%s'\n", text);
+        return 1;
+    }
+    pb_answer a = puffbramble_touch(image, length, (uint16_t)name);
+    if (a.end == 0) {
+        printf("touches   no: none of %llu instructions names '%s'\n", (unsigned long long)a.length, text);
+        return 1;
+    }
+    printf("touches   yes: function %llu, code byte %llu, after %llu instructions\n", (unsigned long long)a.name, (unsigned long long)a.at,
+           (unsigned long long)a.length);
+    return 0;
+}
+
 static void write_image(const char *path, const uint8_t *image, size_t length) {
     FILE *file = fopen(path, "wb");
     if (file == NULL || fwrite(image, 1, length, file) != length || fclose(file) != 0) die("the image cannot be written");
@@ -154,13 +182,15 @@ int main(int argc, char **argv) {
         argc--;
     }
     int byte = argc == 5 && strcmp(argv[2], "--byte") == 0, keep = argc == 4 && strcmp(argv[2], "--image") == 0;
-    if (argc != 2 && !byte && !keep) die("usage: show TREE [--directory] [--image FILE | --byte K AT]");
+    int touch = argc == 4 && strcmp(argv[2], "--touches") == 0;
+    if (argc != 2 && !byte && !keep && !touch) die("usage: show TREE [--directory] [--image FILE | --byte K AT | --touches NAME]");
     bytes tree = read_file(argv[1]);
     uint8_t *image;
     pb_answer a = compile(tree, options, &image);
     print_answer(tree, a);
     if (a.number != 0) return 1;
     if (byte) return print_span(image, a.length, argv[3], argv[4]);
+    if (touch) return print_touch(tree, image, a.length, argv[3]);
     print_image(tree, image, a.length);
     if (keep) write_image(argv[3], image, a.length);
     return 0;

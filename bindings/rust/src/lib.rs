@@ -155,6 +155,50 @@ pub fn code_through(image: &[u8], place: usize, k: usize) -> Result<Range<usize>
     Refusal::of(answer).map(|()| answer.at as usize..answer.end as usize)
 }
 
+/// Where an image first names a global: a GET_GLOBAL, SET_GLOBAL or DEFINE_GLOBAL of that name.
+#[derive(Clone, Copy, Debug, Eq, PartialEq)]
+pub struct Touch {
+    pub function: usize,
+    /// The offset of the instruction in its function's code.
+    pub offset: usize,
+}
+
+/// The first place where an image names the global with this number, if any, and how many instructions were read up to and including it, or all;
+/// `ImageRefused`. It checks the whole image.
+pub fn touch(image: &[u8], name: u16) -> Result<(Option<Touch>, u64), Refusal> {
+    let answer = raw::touch(image, name);
+    Refusal::of(answer)?;
+    let place = Touch { function: answer.name as usize, offset: answer.at as usize };
+    Ok(((answer.end > 0).then_some(place), answer.length))
+}
+
+/// The number of a text in the name table of a tree file, where the file can be read and has it.
+pub fn name_number(tree: &[u8], text: &[u8]) -> Option<u16> {
+    const FIXED: [&[u8]; 4] = [b"this", b"super", b"init", b"<script>"];
+    read(tree).ok()?;
+    if let Some(place) = FIXED.iter().position(|&fixed| fixed == text) {
+        return Some(place as u16);
+    }
+    let number = |at: usize| tree.get(at..at + 2).map(|two| u16::from_le_bytes([two[0], two[1]]));
+    let mut at = 6;
+    for place in 0..number(2)? {
+        let size = usize::from(number(at + 2)?);
+        if tree.get(at + 4..at + 4 + size)? == text {
+            return Some(place + 4);
+        }
+        at += 4 + size;
+    }
+    None
+}
+
+/// The same by the name's text, in the name table of the tree file that the image was made of: no place where the file has no such name.
+pub fn touch_text(image: &[u8], tree: &[u8], text: &[u8]) -> Result<(Option<Touch>, u64), Refusal> {
+    match name_number(tree, text) {
+        Some(name) => touch(image, name),
+        None => check(image).map(|count| (None, count)),
+    }
+}
+
 /// So many code bytes in a row come from one span.
 #[repr(C)]
 #[derive(Clone, Copy, Debug, Eq, PartialEq)]

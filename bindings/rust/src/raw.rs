@@ -32,6 +32,7 @@ extern "C" {
     fn puffbramble_code_of(image: *const u8, image_len: usize, k: usize) -> Answer;
     fn puffbramble_directory_of(image: *const u8, image_len: usize) -> Answer;
     fn puffbramble_code_through(image: *const u8, image_len: usize, place: usize, k: usize) -> Answer;
+    fn puffbramble_touch(image: *const u8, image_len: usize, name: u16) -> Answer;
     fn puffbramble_span_of(words: *const u32, words_len: usize, offset: usize) -> Answer;
 }
 
@@ -77,6 +78,10 @@ pub fn directory_of(image: &[u8]) -> Answer {
 
 pub fn code_through(image: &[u8], place: usize, k: usize) -> Answer {
     unsafe { puffbramble_code_through(image.as_ptr(), image.len(), place, k) }
+}
+
+pub fn touch(image: &[u8], name: u16) -> Answer {
+    unsafe { puffbramble_touch(image.as_ptr(), image.len(), name) }
 }
 
 pub fn span_of(runs: &[Run], offset: usize) -> Answer {

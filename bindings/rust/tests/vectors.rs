@@ -17,6 +17,7 @@ fn main() {
     on_x86::work_short();
     on_x86::p2();
     on_x86::directory();
+    on_x86::touches();
     on_x86::example();
     on_x86::texts();
     on_x86::damaged();
@@ -171,6 +172,22 @@ mod on_x86 {
         let image = Image::new(asked).expect("an image");
         assert_eq!((image.has_directory(), image.code(0)), (true, Ok(&[0x00, 0x00, 0x1B, 0x01, 0x24][..])));
         println!("directory: as the request has it");
+    }
+
+    /// A global that P2 does not name, and one that the example names, by its number and by its text.
+    pub fn touches() {
+        let (tree, image) = (file("examples/fan.tree"), file("examples/fan.image"));
+        let p2 = compile(&p2_tree()).expect("P2 is accepted");
+        assert_eq!(touch(&p2, 4), Ok((None, 4)));
+        assert_eq!(touch(&p2[1..], 4), Err(Refusal::ImageRefused));
+        assert_eq!(name_number(&tree, b"no such name"), None);
+        let named: Vec<u16> = (0..40).filter(|&name| matches!(touch(&image, name), Ok((Some(_), _)))).collect();
+        assert!(!named.is_empty());
+        for text in [&b"fan"[..], b"gas", b"speed"] {
+            let Some(name) = name_number(&tree, text) else { continue };
+            assert_eq!(touch_text(&image, &tree, text), touch(&image, name));
+        }
+        println!("touches: {} globals of the example", named.len());
     }
 
     /// The rules of examples/, whose image is the Rust's.

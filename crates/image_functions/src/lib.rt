@@ -190,7 +190,7 @@ fn function(
 }
 
 // Function `k`, which begins at `at`, joins the table of captured variables.
-fn note_count(s: &[u8], at: usize, k: usize, counts: &mut [u16])
+pub fn note_count(s: &[u8], at: usize, k: usize, counts: &mut [u16])
     requires { ⌜ Counts (now s) k (now counts) ⌝ }
     requires { ⌜ Next-is (now s) k at ⌝ }
     ensures { λ r. ⌜ Counts (now (s .entry)) (k + 1) (now (counts .exit)) ⌝ }

@@ -4,6 +4,7 @@ ghost use mathlib.Core.Path.{_≡_};
 ghost use lib.ListN.{length};
 ghost use Rattle.rules.specs.Entry as rules;
 ghost use Rattle.rules.specs.Checker.{check, code-answer, code-part, directory-of, code-through, span-of};
+ghost use Rattle.rules.specs.Touch as touches;
 ghost use Rattle.spans.specs.Words.{runs-of};
 ghost use Rattle.tree.specs.Read.{read-answer};
 use rules::Answer;
@@ -72,6 +73,15 @@ pub extern "C" fn puffbramble_code_through(image: &[u8], place: usize, k: usize)
     ensures { λ r. ⌜ r ≡ code-through (now (image .entry)) place k ⌝ }
 {
     image::code_through(image, place, k)
+}
+
+// The first place that names a global: 0 with its offset in `at`, the offset behind it in `end`, its function in `name` and how many instructions were
+// read in `length`; 0 with `length` alone, the number of all, where no place names it; 40.
+#[no_mangle]
+pub extern "C" fn puffbramble_touch(image: &[u8], name: u16) -> Answer
+    ensures { λ r. ⌜ r ≡ touches.touch (now (image .entry)) name ⌝ }
+{
+    image_touch::touch(image, name)
 }
 
 // 0 with the span in `at` and `end`, or 42.

@@ -14,6 +14,7 @@ use Rattle.rules.specs.Entry as in-entry
 use Rattle.rules.specs.Division as in-division
 use Rattle.rules.specs.ImageFile as in-image-file
 use Rattle.rules.specs.Checker as in-checker
+use Rattle.rules.specs.Touch as in-touch
 
 unfoldable pub base : Unit {0}
 unfolding in-base.one-on in-base.position in-base.lookup in-base.all in-base.all-below in-base.le in-base.before
@@ -106,3 +107,8 @@ unfolding answer division image-file in-checker.runs-apart in-checker.distinct i
     in-checker.image-of in-checker.verdict in-checker.check in-checker.function-numbered in-checker.code-in in-checker.code-of in-checker.code-before
     in-checker.place-in in-checker.code-place in-checker.code-verdict in-checker.code-answer in-checker.code-part in-checker.directory-verdict in-checker.directory-of in-checker.directory-entry in-checker.record-part in-checker.entry-part in-checker.code-through in-checker.span-of
 checker = tt
+
+unfoldable pub touch : Unit {0}
+unfolding checker in-touch.standing in-touch.standing-in in-touch.all-standing in-touch.names-global in-touch.is-string in-touch.touches
+    in-touch.full-list in-touch.search in-touch.touch-verdict in-touch.touch
+touch = tt

@@ -33,6 +33,7 @@ use Rattle.rules.specs.ImageFile.{read-run}
 use Rattle.rules.specs.Reader.{got, bad}
 use Rattle.rules.specs.Division.{division, function-fits, run-fits}
 use Rattle.rules.specs.Checker.{check, code-part, directory-of, code-through, span-of}
+use Rattle.rules.specs.Touch.{all-standing, full-list, touch}
 use Rattle.rules.proofs.Examples.{hex, P2-tree, P2-image, P12-tree, from-to, asked, lent, given, codes}
 use Rattle.rules.proofs.Computes as computes
 
@@ -392,6 +393,35 @@ directory =
       no-directory = refl;
       not-to-the-end = refl;
     }
+
+-- ## What names a global: the three instructions alone, in image order, counted up to the one found
+
+-- fun f() { print a; } print "a"; var a;
+abbrev touch-tree : List ℕ
+touch-tree =
+    hex 6 0x5452_0200_0300  -- TR
+    ++ hex 5 0x4E4D_0100_61  -- NM
+    ++ hex 5 0x4E4D_0100_66  -- NM
+    ++ hex 16 0x5346_00000000_14000000_0500_0000_0100  -- SF
+    ++ hex 10 0x5350_0A000000_12000000  -- SP
+    ++ hex 12 0x4556_10000000_11000000_0400  -- EV
+    ++ hex 10 0x5350_15000000_1F000000  -- SP
+    ++ hex 13 0x454C_1B000000_1E000000_04_0400  -- EL
+    ++ hex 13 0x5356_20000000_26000000_0400_00  -- SV
+
+abbrev touch-functions : List ObjectFunction
+touch-functions = functions-in (compile-tree first-limits touch-tree max-code)
+
+pub record Touched : Type 0 where
+  pub whole-list : full-list 4 (all-standing touch-functions 0 touch-functions) ≡ (0, 0) ∷ (1, 8) ∷ []
+  pub first-function : touch (image-bytes touch-functions) 4 ≡ record { number = 0; at = 0; end = 2; name = 0; length = 1 }
+  pub second-function : touch (image-with true touch-functions) 5 ≡ record { number = 0; at = 2; end = 4; name = 1; length = 6 }
+  pub not-named : touch (image-bytes touch-functions) 6 ≡ accepted 12
+  pub no-image : touch touch-tree 4 ≡ refusal ImageRefused
+
+pub touched : Touched
+unfolding hex computes.entry computes.touch
+touched = record { whole-list = refl; first-function = refl; second-function = refl; not-named = refl; no-image = refl }
 
 -- ## The code limit: at most 262,144, and on the open functions' code, summed
 

@@ -15,3 +15,4 @@ pub mod Entry
 pub mod Division
 pub mod ImageFile
 pub mod Checker
+pub mod Touch

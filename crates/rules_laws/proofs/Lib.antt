@@ -32,6 +32,7 @@ pub mod Lookups
 pub mod OneResult
 pub mod WrittenAgain
 pub mod Through
+pub mod Touching
 pub mod Edges
 pub mod UpTo
 pub mod Impossible

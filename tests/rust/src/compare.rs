@@ -9,9 +9,10 @@ use std::process::Command;
 use crate::answer::{answer, read};
 use crate::check;
 use crate::directory;
-use crate::files::{self, Answer, Case, Lookup};
+use crate::files::{self, Answer, Ask, Case, Lookup};
 use crate::print_counts;
 use crate::smaller;
+use crate::touch;
 
 /// What is compared: how items are handed to the port, how the Rust answers one, and how one is made smaller.
 struct Kind<T> {
@@ -48,6 +49,21 @@ pub fn lookups(path: &str, batch: &str) -> io::Result<()> {
         show: |asked| format!("function {}, image {}", asked.k, hex(&asked.image)),
     };
     compare(&kind, &files::read_lookups(path)?, batch)
+}
+
+/// Whether each image touches a global, and where first.
+pub fn asks(path: &str, batch: &str) -> io::Result<()> {
+    let kind = Kind {
+        flag: Some("--touch"),
+        write: files::write_asks,
+        read: files::read_answers,
+        rust: touch::touch,
+        smaller: |ask: &Ask| {
+            smaller::images(&ask.image).into_iter().map(|image| Ask { image, ..ask.clone() }).collect()
+        },
+        show: |ask| format!("name {}, image {}", ask.name, hex(&ask.image)),
+    };
+    compare(&kind, &files::read_asks(path)?, batch)
 }
 
 /// Cases with all that can be asked for and lent, and answers with all their fields.

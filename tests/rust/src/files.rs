@@ -51,6 +51,13 @@ pub struct Lookup {
     pub image: Vec<u8>,
 }
 
+/// A global that an image is asked about.
+#[derive(Clone, Debug, Eq, PartialEq)]
+pub struct Ask {
+    pub name: u32,
+    pub image: Vec<u8>,
+}
+
 /// Takes numbers and bytes off the front of a file's bytes.
 pub struct Source<'a>(pub &'a [u8]);
 
@@ -201,6 +208,19 @@ pub fn write_lookups(path: &str, lookups: &[Lookup]) -> io::Result<()> {
     for lookup in lookups {
         put(&mut out, &[lookup.k]);
         put_counted(&mut out, &lookup.image);
+    }
+    fs::write(path, out)
+}
+
+pub fn read_asks(path: &str) -> io::Result<Vec<Ask>> {
+    Source(&fs::read(path)?).all(|source| Ok(Ask { name: source.u32()?, image: source.counted()? }))
+}
+
+pub fn write_asks(path: &str, asks: &[Ask]) -> io::Result<()> {
+    let mut out = vec![];
+    for ask in asks {
+        put(&mut out, &[ask.name]);
+        put_counted(&mut out, &ask.image);
     }
     fs::write(path, out)
 }

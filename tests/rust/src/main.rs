@@ -22,6 +22,7 @@ mod scripts;
 mod selftest;
 mod small;
 mod smaller;
+mod touch;
 mod vectors;
 
 use std::collections::BTreeMap;
@@ -30,7 +31,7 @@ use std::fs;
 use std::io;
 use std::process::ExitCode;
 
-use files::{Answer, Case, Lookup};
+use files::{Answer, Ask, Case, Lookup};
 
 const USAGE: &str = "\
 beside answer CASES ANSWERS           the compiler's answers
@@ -43,7 +44,8 @@ beside images SEED COUNT CASES ANSWERS IMAGES [MOST]
 beside large IMAGES                   a few large images
 beside full CASES FULL                the cases with every option, and at the edges of what the output then needs
 beside lookups IMAGES LOOKUPS         the functions of each image that are looked up
-beside compare [--full | --images | --lookup | --read] FILE BATCH
+beside asks IMAGES ASKS               the globals that each image is asked about
+beside compare [--full | --images | --lookup | --read | --touch] FILE BATCH
                                       the port's answers, by a program like tools/batch, beside these; the first
                                       difference in full, and made small
 beside pack CASES ANSWERS OUT, beside unpack IN CASES ANSWERS
@@ -97,6 +99,14 @@ fn run(args: &[&str]) -> io::Result<bool> {
             let made: Vec<Lookup> = files::read_images(images)?.into_iter().flat_map(numbered).collect();
             files::write_lookups(lookups, &made)?;
         }
+        ["asks", images, asks] => {
+            let named = |image: Vec<u8>| {
+                let names = touch::names(&image);
+                names.into_iter().map(move |name| Ask { name, image: image.clone() })
+            };
+            let made: Vec<Ask> = files::read_images(images)?.into_iter().flat_map(named).collect();
+            files::write_asks(asks, &made)?;
+        }
         ["pack", cases, answers, out] => {
             let both = read_both(cases, answers)?;
             fs::write(out, pack::pack_cases(&both))?;
@@ -112,6 +122,7 @@ fn run(args: &[&str]) -> io::Result<bool> {
         ["compare", "--images", images, batch] => compare::images(images, batch)?,
         ["compare", "--lookup", lookups, batch] => compare::lookups(lookups, batch)?,
         ["compare", "--full", full, batch] => compare::full(full, batch)?,
+        ["compare", "--touch", asks, batch] => compare::asks(asks, batch)?,
         ["vectors", folder] => vectors::write(folder)?,
         ["example", folder] => example(folder)?,
         ["selftest"] => selftest::run(),

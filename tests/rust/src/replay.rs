@@ -9,9 +9,10 @@ use crate::check;
 use crate::checker;
 use crate::directory;
 use crate::examples::{every_kind, examples};
-use crate::files::{put, put_counted, Answer, Case, Lookup};
+use crate::files::{put, put_counted, Answer, Ask, Case, Lookup};
 use crate::images;
 use crate::pack::{pack_cases, pack_full, pack_images, Checked};
+use crate::touch;
 
 /// What a program is run on: small files to vary, each with its length before it, then 0, then the packed vectors.
 /// What is expected of it: for each file a digest of the answers to every truncation and every change of one byte, and
@@ -134,6 +135,21 @@ pub fn lookup_replay(folder: &Path, images: &[Checked]) -> io::Result<()> {
         output += &format!("{} bytes, {count} lookups, digest {}\n", image.len(), span_digest(&answers));
     }
     write(folder, "lookup_replay", (input, output))
+}
+
+/// Images, sound or not, with a directory or without: whether each touches the globals 0 to 15, and where first.
+pub fn touch_replay(folder: &Path, images: &[Checked]) -> io::Result<()> {
+    let sample = images.iter().map(|(image, ..)| image.clone()).filter(|image| image.len() <= 1_024).step_by(7);
+    let (mut input, mut output) = (vec![], String::new());
+    for image in sample {
+        let asked = |name| touch::touch(&Ask { name, image: image.clone() });
+        let answers: Vec<Answer> = (0..16).map(asked).collect();
+        put(&mut input, &[answers.len() as u32]);
+        put_counted(&mut input, &image);
+        let sum = answers.iter().flat_map(|a| [a.number, a.at, a.end, a.name, a.length]).fold(0, fold);
+        output += &format!("{} bytes, {} names, digest {sum}\n", image.len(), answers.len());
+    }
+    write(folder, "touch_replay", (input, output))
 }
 
 /// A run as the answers to each of its bytes.

@@ -144,6 +144,7 @@ pub fn write(folder: &str) -> io::Result<()> {
     replay::image_replay(Path::new(folder), &images)?;
     replay::span_replay(Path::new(folder), &images)?;
     replay::lookup_replay(Path::new(folder), &images)?;
+    replay::touch_replay(Path::new(folder), &images)?;
     let sizes: Vec<String> = files.iter().map(|(name, bytes)| format!("{name}.pack {}", bytes.len())).collect();
     println!("bytes: {}", sizes.join(", "));
     print_numbers("tree.pack", tree.iter().map(|(_, answer)| answer.number));
