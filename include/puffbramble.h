@@ -11,7 +11,7 @@
  * puffbramble_directory_of take up to 1.2 MB, whatever the image (1,044 KB was seen): their tables are local.
  * Every function may be called from several threads at once.
  *
- * From Rust, declare the same in an `extern "C"` block: pb_answer is a `#[repr(C)] struct` of five u64, size_t is usize.
+ * From Rust, declare the same in an `extern "C"` block: pb_answer is a `#[repr(C)] struct` of seven u64, size_t is usize.
  */
 #ifndef PUFFBRAMBLE_H
 #define PUFFBRAMBLE_H
@@ -23,19 +23,23 @@
 extern "C" {
 #endif
 
-/* An answer: 40 bytes, aligned to 8, returned by value. A field that a number does not name is 0.
+/* An answer: 56 bytes, aligned to 8, returned by value. It had 40 before `function` and `around` were added behind the others: a program that was
+ * compiled with that struct must be compiled anew before it is linked with this archive. A field that a number does not name is 0.
  *
- *   number  what the answer is: 0 accepted, else a refusal (01's table; docs/PROMISES.md says when each is given)
- *   at      3, 4, 5: the place in the tree file, in bytes; 10 to 23, and 0 from puffbramble_span_of: the span's start; 0 from
- *           puffbramble_code_of and puffbramble_code_through: the code's place in the image; 0 from puffbramble_directory_of: the
- *           directory's
- *   end     10 to 23, and 0 from puffbramble_span_of: the span's end; 0 from puffbramble_code_of, puffbramble_code_through and
- *           puffbramble_directory_of: the place behind the code, or the directory
- *   name    10, 11, 12: the number of the name; 0 from puffbramble_touch: the number of the function
- *   length  0 from the compiler: the length of the image; 31: the length that is needed; 0 from puffbramble_check: the number of instructions,
- *           from puffbramble_touch: of those that were read;
- *           0 from puffbramble_code_of and puffbramble_code_through: the length of the code; 0 from puffbramble_directory_of: how many
- *           functions it tells of
+ *   number    what the answer is: 0 accepted, else a refusal (01's table; docs/PROMISES.md says when each is given)
+ *   at        3, 4, 5: the place in the tree file, in bytes; 10 to 23, and 0 from puffbramble_span_of: the span's start; 0 from
+ *             puffbramble_code_of and puffbramble_code_through: the code's place in the image; 0 from puffbramble_directory_of: the
+ *             directory's
+ *   end       10 to 23, and 0 from puffbramble_span_of: the span's end; 0 from puffbramble_code_of, puffbramble_code_through and
+ *             puffbramble_directory_of: the place behind the code, or the directory
+ *   name      10, 11, 12: the number of the name; 0 from puffbramble_touch: the number of the function
+ *   length    0 from the compiler: the length of the image; 31: the length that is needed; 0 from puffbramble_check: the number of instructions,
+ *             from puffbramble_touch: of those that were read;
+ *             0 from puffbramble_code_of and puffbramble_code_through: the length of the code; 0 from puffbramble_directory_of: how many
+ *             functions it tells of
+ *   function  10 to 30: the number of the name of the innermost function that was open; the script's is 3. A function is open from its parameters on
+ *             to the end of its code: 17, too many parameters, is in the one around it, and so is what its closure and its own name are refused with
+ *   around    10 to 30: how many functions were open around that one: 0 exactly in the script, at most 16
  */
 typedef struct {
     uint64_t number;
@@ -43,9 +47,12 @@ typedef struct {
     uint64_t end;
     uint64_t name;
     uint64_t length;
+    uint64_t function;
+    uint64_t around;
 } pb_answer;
 
-/* The numbers of answers. docs/FORMATS.md says when each is given; those of 10 to 23 are what the compiler of loxcraft refuses. */
+/* The numbers of answers. docs/FORMATS.md says when each is given; those of 10 to 23 are what the compiler of loxcraft refuses. Beside what is named
+ * here, 10 to 30 have function and around. */
 enum pb_number {
     PB_ACCEPTED = 0,
     PB_WORK_SHORT = 1,                /* the table has fewer than PB_TABLE_WORDS words */
@@ -94,6 +101,7 @@ enum pb_number {
  *   3, 4, 5      the file has not the form of a tree file; records or functions lie too deep in one another: the place in `at`
  *   10 to 23     what the compiler of loxcraft refuses: the span in `at` and `end`, for 10, 11 and 12 the name's number in `name`
  *   30           code or spans too short, or more than 262,144 bytes of code are open
+ *                10 to 30: the function that it is in, in `function` and `around`
  *   31           out is too short for the image: the length needed is in `length`
  *   0            compiled: the image's length is in `length`
  * After 0, out has the image and then zeros; after any other answer only zeros. The work areas end all zero, whatever the answer.

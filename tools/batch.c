@@ -48,9 +48,9 @@ static void put_answer(FILE *out, pb_answer a, const uint8_t *image, size_t leng
     put_fields(out, a), put_bytes(out, image, length);
 }
 
-/* With the fields that later requests fill, and the list of counts, which is empty. */
+/* With all the fields, and the list of counts, which is empty. */
 static void put_full(FILE *out, pb_answer a, const uint8_t *image, size_t length) {
-    put_fields(out, a), put_u32(out, 0), put_u32(out, 0), put_bytes(out, image, length), put_u32(out, 0);
+    put_fields(out, a), put_u32(out, a.function), put_u32(out, a.around), put_bytes(out, image, length), put_u32(out, 0);
 }
 
 /* The checker on each image. */

@@ -54,12 +54,23 @@ static void print_name(bytes tree, uint64_t wanted) {
     printf("'%.*s'", (int)number(at + 2, 2), (const char *)at + 4);
 }
 
+/* The function that a refusal is in, by its text, and how many are around it. */
+static void print_function(bytes tree, pb_answer a) {
+    if (a.around == 0) {
+        printf(", in the script");
+        return;
+    }
+    printf(", in "), print_name(tree, a.function);
+    printf(", %llu deep", (unsigned long long)a.around);
+}
+
 static void print_answer(bytes tree, pb_answer a) {
     printf("answer    %llu: ", (unsigned long long)a.number);
     if (a.number == 0) printf("compiled, an image of %llu bytes", (unsigned long long)a.length);
     else printf("refused, %s", a.number < 43 && REFUSALS[a.number] ? REFUSALS[a.number] : "a number that is not listed");
     if (a.number >= 3 && a.number <= 5) printf(", at byte %llu of the file", (unsigned long long)a.at);
     if (a.number >= 10 && a.number <= 23) printf(", at %llu..%llu of the text", (unsigned long long)a.at, (unsigned long long)a.end);
+    if (a.number >= 10 && a.number <= 30) print_function(tree, a);
     if (a.number >= 10 && a.number <= 12) printf(", name %llu ", (unsigned long long)a.name), print_name(tree, a.name);
     printf("\n");
 }

@@ -14,7 +14,7 @@ mod refusal;
 use std::ops::Range;
 
 pub use image::{Function, Image};
-pub use refusal::{Refusal, Span};
+pub use refusal::{Refusal, Span, Within};
 
 /// No tree file is longer, in bytes.
 pub const MAX_TREE: usize = 1_048_576;
@@ -93,7 +93,7 @@ pub fn compile(tree: &[u8]) -> Result<Vec<u8>, Refusal> {
 /// The same, with what is asked for beside the image.
 pub fn compile_with(tree: &[u8], options: Options) -> Result<Vec<u8>, Refusal> {
     match in_room(tree, options, Sizes::first(tree.len())) {
-        Err(Refusal::CodeFull | Refusal::OutFull { .. }) => in_room(tree, options, Sizes::enough(tree.len())),
+        Err(Refusal::CodeFull { .. } | Refusal::OutFull { .. }) => in_room(tree, options, Sizes::enough(tree.len())),
         answer => answer,
     }
 }
@@ -172,23 +172,30 @@ pub fn touch(image: &[u8], name: u16) -> Result<(Option<Touch>, u64), Refusal> {
     Ok(((answer.end > 0).then_some(place), answer.length))
 }
 
+/// The names of a tree file in the order of their numbers, the four that are never written among them; none where the file cannot be read.
+fn names(tree: &[u8]) -> impl Iterator<Item = &[u8]> {
+    const FIXED: [&[u8]; 4] = [b"this", b"super", b"init", b"<script>"];
+    let number = |at: usize| tree.get(at..at + 2).map(|two| u16::from_le_bytes([two[0], two[1]]));
+    let is_sound = read(tree).is_ok();
+    let count = if is_sound { number(2).unwrap_or(0) } else { 0 };
+    let mut at = 6;
+    let written = (0..count).map_while(move |_| {
+        let size = usize::from(number(at + 2)?);
+        let text = tree.get(at + 4..at + 4 + size)?;
+        at += 4 + size;
+        Some(text)
+    });
+    FIXED.into_iter().filter(move |_| is_sound).chain(written)
+}
+
 /// The number of a text in the name table of a tree file, where the file can be read and has it.
 pub fn name_number(tree: &[u8], text: &[u8]) -> Option<u16> {
-    const FIXED: [&[u8]; 4] = [b"this", b"super", b"init", b"<script>"];
-    read(tree).ok()?;
-    if let Some(place) = FIXED.iter().position(|&fixed| fixed == text) {
-        return Some(place as u16);
-    }
-    let number = |at: usize| tree.get(at..at + 2).map(|two| u16::from_le_bytes([two[0], two[1]]));
-    let mut at = 6;
-    for place in 0..number(2)? {
-        let size = usize::from(number(at + 2)?);
-        if tree.get(at + 4..at + 4 + size)? == text {
-            return Some(place + 4);
-        }
-        at += 4 + size;
-    }
-    None
+    names(tree).position(|name| name == text).map(|place| place as u16)
+}
+
+/// The text of a name in the name table of a tree file, where the file can be read and has it.
+pub fn name_text(tree: &[u8], number: u16) -> Option<&[u8]> {
+    names(tree).nth(number.into())
 }
 
 /// The same by the name's text, in the name table of the tree file that the image was made of: no place where the file has no such name.

@@ -1,5 +1,7 @@
 //! The functions of include/puffbramble.h. Each takes a slice's own pointer and length, which is all that the header asks for.
 
+use std::mem::size_of;
+
 use crate::{Areas, Run};
 
 #[repr(C)]
@@ -10,7 +12,12 @@ pub struct Answer {
     pub end: u64,
     pub name: u64,
     pub length: u64,
+    pub function: u64,
+    pub around: u64,
 }
+
+// What the header says: an archive from before the last two fields does not fit.
+const _: () = assert!(size_of::<Answer>() == 56);
 
 extern "C" {
     fn puffbramble_compile(

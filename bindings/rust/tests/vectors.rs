@@ -11,7 +11,7 @@ fn main() {
 
 #[cfg(target_arch = "x86_64")]
 fn main() {
-    let second: usize = ["tree", "compile", "limits"].map(on_x86::compiles).iter().sum();
+    let second: usize = ["tree", "compile", "limits", "refused"].map(on_x86::compiles).iter().sum();
     assert!(second > 0, "no case needs more than the first room");
     on_x86::checks();
     on_x86::work_short();
@@ -44,26 +44,27 @@ mod on_x86 {
     fn refusal(told: &Told) -> Refusal {
         let (at, name) = (told.at, told.name);
         let span = Span { start: at, end: told.end };
+        let within = Within { function: told.function, around: told.around };
         match told.number {
             2 => Refusal::TreeTooLong,
             3 => Refusal::TreeForm { at },
             4 => Refusal::TreeTooDeep { at },
             5 => Refusal::TooManyOpen { at },
-            10 => Refusal::AlreadyDefined { span, name },
-            11 => Refusal::AccessInsideInitializer { span, name },
-            12 => Refusal::ClassInheritFromSelf { span, name },
-            13 => Refusal::JumpTooLarge { span },
-            14 => Refusal::TooManyArgs { span },
-            15 => Refusal::TooManyConstants { span },
-            16 => Refusal::TooManyLocals { span },
-            17 => Refusal::TooManyParams { span },
-            18 => Refusal::TooManyUpvalues { span },
-            19 => Refusal::ReturnInInitializer { span },
-            20 => Refusal::ReturnOutsideFunction { span },
-            21 => Refusal::SuperOutsideClass { span },
-            22 => Refusal::SuperWithoutSuperclass { span },
-            23 => Refusal::ThisOutsideClass { span },
-            30 => Refusal::CodeFull,
+            10 => Refusal::AlreadyDefined { span, name, within },
+            11 => Refusal::AccessInsideInitializer { span, name, within },
+            12 => Refusal::ClassInheritFromSelf { span, name, within },
+            13 => Refusal::JumpTooLarge { span, within },
+            14 => Refusal::TooManyArgs { span, within },
+            15 => Refusal::TooManyConstants { span, within },
+            16 => Refusal::TooManyLocals { span, within },
+            17 => Refusal::TooManyParams { span, within },
+            18 => Refusal::TooManyUpvalues { span, within },
+            19 => Refusal::ReturnInInitializer { span, within },
+            20 => Refusal::ReturnOutsideFunction { span, within },
+            21 => Refusal::SuperOutsideClass { span, within },
+            22 => Refusal::SuperWithoutSuperclass { span, within },
+            23 => Refusal::ThisOutsideClass { span, within },
+            30 => Refusal::CodeFull { within },
             31 => Refusal::OutFull { needed: told.length },
             number => panic!("no vector has {number}"),
         }
@@ -181,6 +182,9 @@ mod on_x86 {
         assert_eq!(touch(&p2, 4), Ok((None, 4)));
         assert_eq!(touch(&p2[1..], 4), Err(Refusal::ImageRefused));
         assert_eq!(name_number(&tree, b"no such name"), None);
+        assert_eq!((name_number(&tree, b"speed"), name_text(&tree, 6)), (Some(6), Some(&b"speed"[..])));
+        assert_eq!((name_text(&tree, 2), name_text(&tree, 7)), (Some(&b"init"[..]), None));
+        assert_eq!((name_number(&tree[1..], b"this"), name_text(&tree[1..], 0)), (None, None));
         let named: Vec<u16> = (0..40).filter(|&name| matches!(touch(&image, name), Ok((Some(_), _)))).collect();
         assert!(!named.is_empty());
         for text in [&b"fan"[..], b"gas", b"speed"] {
@@ -194,20 +198,35 @@ mod on_x86 {
     pub fn example() {
         assert_eq!(compile(&file("examples/fan.tree")), Ok(file("examples/fan.image")));
         let text = String::from_utf8(file("examples/refused.lox")).expect("the rule is text");
-        let Err(Refusal::AccessInsideInitializer { span, name: 6 }) = compile(&file("examples/refused.tree")) else {
+        let tree = file("examples/refused.tree");
+        let Err(refusal @ Refusal::AccessInsideInitializer { span, name: 6, within }) = compile(&tree) else {
             panic!("the rule reads a variable in its own initializer");
         };
         assert_eq!(&text[span.start as usize..span.end as usize], "speed");
+        assert_eq!(within, Within { function: 4, around: 1 });
+        assert_eq!(refusal.text(&tree), "text 29..34, in 'fan', 1 deep: 'speed' is read in its own initial value");
+        assert_eq!(refusal.to_string(), "text 29..34, in function 4, 1 deep: name 6 is read in its own initial value");
         println!("examples: as the Rust has them");
     }
 
-    /// Each text names its place.
+    /// Each text names its place, and 10 to 30 the function: by its number, or by its text where a tree has it.
     pub fn texts() {
         let span = Span { start: 123, end: 456 };
+        let tree = file("examples/fan.tree");
         for number in (2..=5).chain(10..=23).chain(30..=31) {
-            let told = Told { number, at: span.start, end: span.end, name: 789, length: 321 };
-            let text = refusal(&told).to_string();
+            let told = Told { number, at: span.start, end: span.end, name: 789, length: 321, function: 4, around: 2 };
+            let refused = refusal(&told);
+            let text = refused.to_string();
             let names = |part: &str| assert!(text.contains(part), "{text}");
+            if let Some(within) = refused.within() {
+                assert_eq!(within, Within { function: 4, around: 2 });
+                names("in function 4, 2 deep");
+                assert_eq!(refused.text(&tree), text.replace("function 4", "'fan'"));
+                assert_eq!(refused.text(&tree[1..]), text, "a file that is no tree has no names");
+                let script = refusal(&Told { function: 3, around: 0, ..told });
+                assert!(script.to_string().contains("in the script") && script.text(&tree) == script.to_string());
+            }
+            assert_eq!(refused.within().is_some(), (10..=30).contains(&number));
             match number {
                 3..=5 => names("byte 123"),
                 10..=12 => {

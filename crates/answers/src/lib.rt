@@ -1,9 +1,10 @@
-// An answer's five numbers from what was found: a length where all is well, or a refusal by its name.
+// An answer's numbers from what was found: a length where all is well, or a refusal by its name and the function it is in.
 ghost use mathlib.Core.Path.{_≡_};
-ghost use Rattle.rules.specs.Answer.{at-offset, at-span, with-length, refusal};
+ghost use Rattle.rules.specs.Answer.{at-offset, at-span, with-length, refusal, outside, refusal-in};
 use rules::Answer;
 use rules::Refusal;
 use rules::Span;
+use rules::Stopped;
 
 fn at_offset(number: u64, at: usize) -> Answer
     ensures { λ r. ⌜ r ≡ at-offset number at ⌝ }
@@ -14,6 +15,8 @@ fn at_offset(number: u64, at: usize) -> Answer
         end: 0,
         name: 0,
         length: 0,
+        function: 0,
+        around: 0,
     }
 }
 
@@ -26,6 +29,8 @@ fn at_span(number: u64, span: Span, name: u16) -> Answer
         end: span.end as u64,
         name: name as u64,
         length: 0,
+        function: 0,
+        around: 0,
     }
 }
 
@@ -38,6 +43,8 @@ fn with_length(number: u64, length: usize) -> Answer
         end: 0,
         name: 0,
         length: length as u64,
+        function: 0,
+        around: 0,
     }
 }
 
@@ -76,5 +83,33 @@ pub fn refused(r: Refusal) -> Answer
         Refusal::ImageRefused => at_offset(40, 0),
         Refusal::NoSuchFunction => at_offset(41, 0),
         Refusal::NoSuchByte => at_offset(42, 0),
+    }
+}
+
+// A refusal that is in no function.
+pub fn outside(r: Refusal) -> Stopped
+    ensures { λ x. ⌜ x ≡ outside r ⌝ }
+{
+    Stopped {
+        what: r,
+        function: 0,
+        around: 0,
+    }
+}
+
+// A refusal's number and fields, and the function it is in.
+pub fn refused_in(x: Stopped) -> Answer
+    ensures { λ a. ⌜ a ≡ refusal-in x ⌝ }
+{
+    let what = x.what;
+    let a = refused(what);
+    Answer {
+        number: a.number,
+        at: a.at,
+        end: a.end,
+        name: a.name,
+        length: a.length,
+        function: x.function,
+        around: x.around,
     }
 }

@@ -1,5 +1,5 @@
 // Replays the vectors for the compiler (tests/vectors/README.md has their form): each tree is compiled with what its vector asks for and lends, and
-// the answer's five numbers and every byte of the output are compared with the vector's. Written is how many agree; tests/rust has made what is
+// the answer's seven numbers and every byte of the output are compared with the vector's. Written is how many agree; tests/rust has made what is
 // expected.
 ghost use Rattle.io.specs.Counts.{Counts};
 use rules::Answer;
@@ -25,6 +25,8 @@ struct Told {
     end: u32,
     name: u32,
     length: u32,
+    function: u32,
+    around: u32,
 }
 
 fn lent_next() -> Next {
@@ -48,12 +50,16 @@ fn told_next() -> Told {
     let end = vectors::next_u32();
     let name = vectors::next_u32();
     let length = vectors::next_u32();
+    let function = vectors::next_u32();
+    let around = vectors::next_u32();
     Told {
         number,
         at,
         end,
         name,
         length,
+        function,
+        around,
     }
 }
 
@@ -99,7 +105,13 @@ fn same_answer(a: Answer, told: Told) -> bool {
     if !same(a.name, told.name) {
         return false;
     }
-    same(a.length, told.length)
+    if !same(a.length, told.length) {
+        return false;
+    }
+    if !same(a.function, told.function) {
+        return false;
+    }
+    same(a.around, told.around)
 }
 
 fn byte_or_zero(image: &[u8], i: usize) -> u8 {

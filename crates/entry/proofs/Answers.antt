@@ -6,9 +6,9 @@ use native.Mathlib.Omega.{arith}
 use lib.ListN.{length, getD, replicate}
 use borrow.Author.Tests.{le-leb, lt-leb}
 use Rattle.rules.specs.Limits.{first-limits}
-use Rattle.rules.specs.declared.Refusal.{Refusal}
+use Rattle.rules.specs.declared.Stopped.{Stopped}
 use Rattle.rules.specs.declared.Refusal.the-variants.{WorkShort}
-use Rattle.rules.specs.Answer.{refusal}
+use Rattle.rules.specs.Answer.{outside, refusal-in}
 use Rattle.rules.specs.Image.{image-with}
 use Rattle.rules.specs.Entry.{Left, Compiled, refused, asks-directory, code-limit, leaves, write-image, write-out, compile-tree, compile-lent, compile-within, compile}
 use Rattle.state.specs.Layout.{image-at, table-words}
@@ -20,13 +20,13 @@ use Rattle.entry.specs.Whole.{limit-of, Recorded, Written}
 
 -- ## What a sound file comes to
 
-pub written-refused : {options : ℕ} {made : Compiled} {x : Refusal} {r : Made} (out : List ℕ) → r ≡ Refused x → made ≡ refused x → Written options made out r
+pub written-refused : {options : ℕ} {made : Compiled} {x : Stopped} {r : Made} (out : List ℕ) → r ≡ Refused x → made ≡ refused x → Written options made out r
 unfolding write-out
 written-refused {options} {made} {x} {r} out q e =
     subst (Written options made out) (sym q)
-    (record { is = λ lent asked o. ap (write-out lent) e ∙ ap (λ (k : ℕ). leaves lent (refusal x) (replicate k 0)) o })
+    (record { is = λ lent asked o. ap (write-out lent) e ∙ ap (λ (k : ℕ). leaves lent (refusal-in x) (replicate k 0)) o })
 
-pub refused-as : {options : ℕ} {made : Compiled} {x y : Refusal} {out : List ℕ} → x ≡ y → made ≡ refused y → Written options made out (Refused x)
+pub refused-as : {options : ℕ} {made : Compiled} {x y : Stopped} {out : List ℕ} → x ≡ y → made ≡ refused y → Written options made out (Refused x)
 refused-as {out = out} q e = written-refused out (ap Refused q) e
 
 -- what is asked for is put behind the records
@@ -45,7 +45,7 @@ written-finished w f = record {
 -- ## The table
 
 module _ (tree : List ℕ) (options : ℕ) (table code spans out : List ℕ) where
-  pub table-short : length table < table-words → compile-lent first-limits tree (lent-of options table code spans out) ≡ refused WorkShort
+  pub table-short : length table < table-words → compile-lent first-limits tree (lent-of options table code spans out) ≡ refused (outside WorkShort)
   unfolding compile-lent
   table-short h = rw (lt-leb 139296 (8 * length table) (omega arith))
 

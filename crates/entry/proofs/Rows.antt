@@ -7,7 +7,7 @@ use Rattle.rules.specs.Limits.{first-limits}
 use Rattle.rules.specs.Reader.{got}
 use Rattle.rules.specs.TreeFile.{read-stmts, read-stmt}
 use Rattle.rules.specs.Entry.{Compiled, refused, compile-tree}
-use Rattle.steps.specs.Why.{refusal-of}
+use Rattle.steps.specs.Why.{told}
 use Rattle.steps.specs.declared.Why.{Why}
 use Rattle.steps.specs.declared.Step.{Step}
 use Rattle.steps.specs.declared.Step.the-variants.{Next, Stop}
@@ -38,7 +38,7 @@ module _ (tree : List ℕ) {script : Script} (q : checked-file tree ≡ Checked.
   sound-as : ScriptedAs (compile-tree first-limits tree limit) t out r
   sound-as = subst (λ (made : Compiled). ScriptedAs made t out r) (sym (compiled-file tree limit q)) (s .did (sound-file tree q .1 .stmts) (rows-are tree q))
 
-  pub sound-refused : {x : Why} → r ≡ Stop x → compile-tree first-limits tree limit ≡ refused (refusal-of x)
+  pub sound-refused : {x : Why} → r ≡ Stop x → compile-tree first-limits tree limit ≡ refused (told t x)
   sound-refused p = subst (ScriptedAs (compile-tree first-limits tree limit) t out) p sound-as
 
   pub sound-recorded : {n : ℕ} → r ≡ Next n → Recorded (compile-tree first-limits tree limit) t out n

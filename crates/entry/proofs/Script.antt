@@ -14,7 +14,8 @@ use Rattle.rules.specs.Compiler.{Compiler, new, Outcome, ok, Compile, the, comp
 use Rattle.rules.specs.Entry.{functions-are, refused, from-outcome}
 use Rattle.state.specs.Layout.{image-at, ctxAt}
 use Rattle.steps.specs.View.{mem, Rest, view, Agrees, Fit, depth-at, Turn, steady, _⨾_, Gave, Refused, Did, Started}
-use Rattle.steps.specs.Why.{refusal-of}
+use Rattle.rules.specs.declared.Stopped.{Stopped}
+use Rattle.steps.specs.Why.{told}
 use Rattle.steps.specs.declared.Why.{Why}
 use Rattle.steps.specs.declared.Step.{Step}
 use Rattle.steps.specs.declared.Step.the-variants.{Next, Stop}
@@ -74,7 +75,7 @@ module _ {t code spans out : List ℕ} {limit : ℕ} (clean : Clean t code spans
   from-new m {o} e = subst (λ (s : Compiler). m s ≡ o) (clean .started .is code spans) e
 
   module _ (stmts : Stmts) where
-    refused-script : {x : Why} → Refused 0 0 (compile-script limit stmts) (mem t code spans) x → from-outcome (compile-functions limit stmts) ≡ refused (refusal-of x)
+    refused-script : {x : Stopped} → Refused 0 0 (compile-script limit stmts) (mem t code spans) x → from-outcome (compile-functions limit stmts) ≡ refused x
     unfolding compile-functions from-outcome
     refused-script h = ap from-outcome (seq-err (compile-script limit stmts) new _ (from-new (compile-script limit stmts) (h .refuses none-yet first-agrees)))
 
@@ -90,7 +91,7 @@ module _ {t code spans out : List ℕ} {limit : ℕ} (clean : Clean t code spans
     -- ## By its parts
 
     module _ {at n : ℕ} {t₁ code₁ spans₁ out₁ : List ℕ} {a : Step} (w : Worked 0 limit 0 at n (compile-stmts limit stmts) (mem t code spans) out (mem t₁ code₁ spans₁) out₁ a) where
-      script-first : {x : Why} → a ≡ Stop x → from-outcome (compile-functions limit stmts) ≡ refused (refusal-of x)
+      script-first : {x : Why} → a ≡ Stop x → from-outcome (compile-functions limit stmts) ≡ refused (told t₁ x)
       unfolding compile-script
       script-first q = refused-script (refused-seq (growing.refused w q) _)
 
@@ -102,7 +103,7 @@ module _ {t code spans out : List ℕ} {limit : ℕ} (clean : Clean t code spans
         fit-then = grew .gave .ahead .fit
 
         module _ {k : ℕ} {t₂ code₂ spans₂ : List ℕ} {b : Step} (d : Did 0 limit 0 k steady (script-end limit) (mem t₁ code₁ spans₁) (mem t₂ code₂ spans₂) b) where
-          script-second : {x : Why} → b ≡ Stop x → from-outcome (compile-functions limit stmts) ≡ refused (refusal-of x)
+          script-second : {x : Why} → b ≡ Stop x → from-outcome (compile-functions limit stmts) ≡ refused (told t₂ x)
           unfolding compile-script
           script-second p = refused-script (gave-refused-seq (grew .gave) _ (stuck d p))
 

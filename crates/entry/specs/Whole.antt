@@ -13,7 +13,7 @@ use Rattle.rules.specs.Compiler.{Compile, _>>_, emit-op, compile-functions}
 use Rattle.rules.specs.Entry.{Lent, Compiled, functions-are, refused, from-outcome, leaves, write-out}
 use Rattle.state.specs.Layout.{image-at}
 use Rattle.steps.specs.View.{Started}
-use Rattle.steps.specs.Why.{refusal-of}
+use Rattle.steps.specs.Why.{told}
 use Rattle.steps.specs.declared.Step.{Step}
 use Rattle.steps.specs.declared.Step.the-variants.{Next, Stop}
 use Rattle.entry_parts.specs.Ends.{answer-of, output-of}
@@ -61,7 +61,7 @@ pub record Recorded (made : Compiled) (t out : List ℕ) (n : ℕ) : Type 0 wher
 
 abbrev pub ScriptedAs : Compiled → (t out : List ℕ) → Step → Type 0
 ScriptedAs made t out (Next n) = Recorded made t out n
-ScriptedAs made t out (Stop x) = made ≡ refused (refusal-of x)
+ScriptedAs made t out (Stop x) = made ≡ refused (told t x)
 
 pub record Scripted (limit : ℕ) (rows : Read Stmts) (end : ℕ) (t out : List ℕ) (r : Step) : Type 0 where
   pub did : (stmts : Stmts) → rows ≡ got stmts end → ScriptedAs (from-outcome (compile-functions limit stmts)) t out r

@@ -10,11 +10,12 @@ ghost use Rattle.state.specs.Layout.{table-words};
 ghost use Rattle.steps.specs.View.{mem, Fit, steady, Did};
 ghost use Rattle.entry_parts.specs.Ends.{lent-of};
 ghost use Rattle.entry.specs.Whole.{limit-of, rows-at, Rows, Clean, script-end, Scripted, Written};
+use answers::outside;
 use entry_parts::Made;
 use entry_parts::code_limit;
 use entry_parts::end_call;
 use entry_parts::finish_image;
-use entry_parts::refusal_of;
+use entry_parts::stopped_of;
 use op::Op;
 use rules::Answer;
 use rules::Refusal;
@@ -99,7 +100,7 @@ fn compile_sound(
     );
     match r {
         Step::Next(n) => finish_image(out, n, t[Table::FUNCTIONS], options),
-        Step::Stop(why) => Made::Refused(refusal_of(why)),
+        Step::Stop(why) => Made::Refused(stopped_of(&t[..], why)),
     }
 }
 
@@ -115,10 +116,10 @@ fn compile_lent(
     ensures { λ r. ⌜ Written options (rules.compile-lent first-limits (now (tree .entry)) (lent-of options (now (table .entry)) (now (code .entry)) (now (spans .entry)) (now (out .entry)))) (now (out .exit)) r ⌝ }
 {
     if table.len() < Table::WORDS {
-        return Made::Refused(Refusal::WorkShort);
+        return Made::Refused(outside(Refusal::WorkShort));
     }
     match tree::read(tree) {
-        Checked::Bad(x) => Made::Refused(x),
+        Checked::Bad(x) => Made::Refused(outside(x)),
         Checked::Sound(script) => {
             compile_sound(
                 tree,

@@ -7,8 +7,9 @@ use native.Mathlib.Omega.{arith}
 use lib.ListN.{length, replicate, length-append}
 use borrow.Author.Tests.{le-leb, lt-leb}
 use Rattle.rules.specs.Base.{if_then_else_, le}
+use Rattle.rules.specs.declared.Stopped.{Stopped}
 use Rattle.rules.specs.declared.Refusal.the-variants.{OutFull}
-use Rattle.rules.specs.Answer.{refusal, accepted}
+use Rattle.rules.specs.Answer.{refusal, accepted, outside, refusal-in}
 use Rattle.rules.specs.Chunk.{ObjectFunction}
 use Rattle.rules.specs.Image.{join, function-bytes, image-bytes, places, directory-bytes, image-with}
 use Rattle.rules.specs.Entry.{Lent, asks-directory, leaves, write-image}
@@ -107,13 +108,15 @@ module _ (options count n : ℕ) {whole : ℕ} {directory : Bool} {out : List �
   long-is : {functions : List ObjectFunction} → Records out n functions → count ≡ length functions → whole ≡ length (wanted options functions)
   long-is {functions} records few = long ∙ with-long records few directory ∙ ap (λ (d : Bool). length (image-with d functions)) asked
 
-  pub finished-full : length out < whole → Finished options count n out out (Refused (OutFull whole))
-  finished-full h = record {
+  pub finished-full : {x : Stopped} → x ≡ outside (OutFull whole) → length out < whole → Finished options count n out out (Refused x)
+  unfolding refusal refusal-in
+  finished-full q h = record {
     size = refl;
     is = λ fs records few lent o.
         let l = long-is records few in
         lacks lent (wanted options fs) (omega arith) ∙ ap (λ (k : ℕ). leaves lent (refusal (OutFull k)) (replicate (lent .output-bytes) 0)) (sym l)
-        ∙ ap (λ (k : ℕ). leaves lent (refusal (OutFull whole)) (replicate k 0)) o;
+        ∙ ap (λ (k : ℕ). leaves lent (refusal (OutFull whole)) (replicate k 0)) o
+        ∙ ap (λ (x : Stopped). leaves lent (refusal-in x) (replicate (length out) 0)) (sym q);
   }
 
   pub finished-whole : {mid out′ : List ℕ} → whole ≤ length out → Behind directory count n out mid → Headed count mid out′

@@ -4,7 +4,7 @@ use mathlib.Core.List.{List}
 use Prim.Native.Nat.{ℕ}
 use lib.ListN.{length, replicate}
 use Rattle.rules.specs.declared.Answer.{Answer}
-use Rattle.rules.specs.Answer.{refusal, accepted}
+use Rattle.rules.specs.Answer.{accepted, refusal-in}
 use Rattle.rules.specs.Chunk.{ObjectFunction}
 use Rattle.rules.specs.Image.{image-with}
 use Rattle.rules.specs.Entry.{Lent, asks-directory, leaves, write-image}
@@ -24,7 +24,7 @@ lent-of options table code spans out =
 
 abbrev pub answer-of : Made → Answer
 answer-of (Image n) = accepted n
-answer-of (Refused x) = refusal x
+answer-of (Refused x) = refusal-in x
 
 abbrev pub output-of : (out : List ℕ) → Made → List ℕ
 output-of out (Image n) = out

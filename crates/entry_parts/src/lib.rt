@@ -5,13 +5,18 @@ ghost use Prim.Native.Nat.{_+_, _*_, _/_, _≤_, min};
 ghost use Rattle.rules.specs.Base.{if_then_else_};
 ghost use Rattle.rules.specs.Limits.{max-code};
 ghost use Rattle.rules.specs.Entry.{asks-directory, leaves};
-ghost use Rattle.steps.specs.Why.{refusal-of};
+ghost use lib.ListN.{length};
+ghost use Rattle.state.specs.Layout.{table-words, word, name-place};
+ghost use Rattle.steps.specs.Why.{refusal-of, told};
 ghost use Rattle.entry_parts.specs.Ends.{lent-of, answer-of, output-of, Finished};
 use answers::accepted;
-use answers::refused;
+use answers::outside;
+use answers::refused_in;
 use rules::Answer;
 use rules::Limit;
 use rules::Refusal;
+use rules::Stopped;
+use state::Table;
 use steps::Why;
 use writer::put_header;
 use writer_directory::put_directory;
@@ -19,7 +24,7 @@ use writer_directory::put_directory;
 // What became of a tree: an image of so many bytes in the output, or a refusal.
 pub enum Made {
     Image(usize),
-    Refused(Refusal),
+    Refused(Stopped),
 }
 
 fn least(a: usize, b: usize) -> usize
@@ -45,7 +50,7 @@ fn asks_directory(options: u32) -> bool
     options / 2 % 2 == 1
 }
 
-pub fn refusal_of(why: Why) -> Refusal
+fn refusal_of(why: Why) -> Refusal
     ensures { λ r. ⌜ r ≡ refusal-of why ⌝ }
 {
     let number = why.number;
@@ -70,6 +75,29 @@ pub fn refusal_of(why: Why) -> Refusal
     }
 }
 
+// The name of a level's function, as the table has it; there is none where there is no such level.
+fn name_of(t: &[u64], level: usize) -> u64
+    requires { ⌜ length (now t) ≡ table-words ⌝ }
+    ensures { λ r. ⌜ r ≡ word (now (t .entry)) level name-place ⌝ }
+{
+    if level < Table::LEVELS {
+        return t[level * Table::LEVEL_WORDS + Table::NAME];
+    }
+    0
+}
+
+// The same with the function it is in, whose name the table has.
+pub fn stopped_of(t: &[u64], why: Why) -> Stopped
+    requires { ⌜ length (now t) ≡ table-words ⌝ }
+    ensures { λ r. ⌜ r ≡ told (now (t .entry)) why ⌝ }
+{
+    Stopped {
+        what: refusal_of(why),
+        function: name_of(t, why.around),
+        around: why.around as u64,
+    }
+}
+
 // How long an image is whose records end at `n`, with a directory or without: its mark and count are six bytes, and each function has four.
 fn whole_bytes(n: usize, functions: usize, directory: bool) -> usize
     requires { ⌜ n + 6 + 4 * functions ≤ 1152921504606846976 ⌝ }
@@ -89,7 +117,7 @@ pub fn finish_image(out: &mut [u8], n: usize, functions: u64, options: u32) -> M
     let directory = asks_directory(options);
     let whole = whole_bytes(n, functions as usize, directory);
     if out.len() < whole {
-        return Made::Refused(Refusal::OutFull(whole));
+        return Made::Refused(outside(Refusal::OutFull(whole)));
     }
     if directory {
         put_directory(out, n, functions);
@@ -116,7 +144,7 @@ pub fn end_call(
         Made::Image(n) => accepted(n),
         Made::Refused(x) => {
             areas::clear8(out);
-            refused(x)
+            refused_in(x)
         }
     }
 }

@@ -38,11 +38,12 @@ pub fn call_open(
             number: Why::TOO_MANY_ARGS,
             span,
             name: 0,
+            around: level,
         });
     }
     let mark = mark_at(tree, at + 12);
     if mark == Mark::SUPER {
-        let n = need_super(class, span, 0);
+        let n = need_super(level, class, span, 0);
         let Step::Next(_) = n else {
             return n;
         };

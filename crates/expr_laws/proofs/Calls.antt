@@ -22,7 +22,7 @@ use Rattle.fields.specs.Words.{word16, letters}
 use Rattle.tree_laws.proofs.Taken.{row, no-row}
 use Rattle.tree_laws.proofs.Expressions.{RowAt, none-left, one-more, row-read, any-at, prefix-at, infix-at, get-at, assign-at, set-at, var-at, super-at, call-at, literal-at}
 use Rattle.tree_laws.proofs.Deeper.{deeper}
-use Rattle.steps.specs.View.{Mem, Rest, view, Agrees, Fit, steady, Ahead, Gave, Refused, Did}
+use Rattle.steps.specs.View.{Mem, t-of, Rest, view, Agrees, Fit, steady, Ahead, Gave, Refused, Did}
 use Rattle.steps.proofs.Steps.{went, valued, stuck, next, stop, halt, then-on, ahead-then, refused-seq, ask-seq, passed, failed}
 use Rattle.steps.specs.declared.Step.{Step}
 use Rattle.steps.specs.declared.Step.the-variants.{Next, Stop}
@@ -32,7 +32,7 @@ use Rattle.steps.proofs.Monad.{regroup, nothing}
 use Rattle.fields.specs.Marks as marks
 use Rattle.steps.proofs.Jumps.{ahead-none}
 use Rattle.steps.specs.declared.Why.{Why}
-use Rattle.steps.specs.Why.{too-many-args, refusal-of}
+use Rattle.steps.specs.Why.{too-many-args, refusal-of, told}
 
 -- ## The parts make the whole
 
@@ -147,10 +147,10 @@ name-is : (tree : List ℕ) (at n : ℕ) → n ≡ word16 tree (at + 22) → n �
 name-is tree at n q = q ∙ ap (word16 tree) (sym (twenty-two at))
 
 module _ {class limit l : ℕ} (tree : List ℕ) (at : ℕ) (span : Span) {before : Mem} where
-  pub too-many : {now : Mem} → 255 < word16 tree (at + 10) → CallOpened class limit l tree at span before now (Stop (too-many-args span))
+  pub too-many : 255 < word16 tree (at + 10) → CallOpened class limit l tree at span before before (Stop (too-many-args l span))
   unfolding call-open refusal-of
-  too-many {now} h = record {
-    did = λ d e n r. stop now (refused-seq (failed (leb (word16 tree (at + 10)) 255) (lt-leb _ _ h)) _);
+  too-many h = record {
+    did = λ d e n r. stop before (refused-seq (failed (leb (word16 tree (at + 10)) 255) (too-many-args l span) refl (lt-leb _ _ h)) _);
     few = λ v q. let z : _≡_ {A = ℕ} 0 1 = cc in absurd (omega arith);
   }
 
@@ -263,7 +263,7 @@ module _ {class limit l : ℕ} {expr : Reader Expr} {count from : ℕ} {before :
     pub walk-there : 0 < left → There (expr next)
     walk-there h = let i = head-of h in record { thing = i .one; next = i .mid; is = i .head }
 
-    pub walk-stop : {now′ : Mem} {a : Step} {x : Why} → 0 < left → Ran class limit l (expr next) now now′ a → a ≡ Stop x → Refused class l (compile-exprs limit es) before x
+    pub walk-stop : {now′ : Mem} {a : Step} {x : Why} → 0 < left → Ran class limit l (expr next) now now′ a → a ≡ Stop x → Refused class l (compile-exprs limit es) before (told (t-of now′) x)
     unfolding compile-exprs
     walk-stop h b q =
         let i = head-of h in

@@ -14,13 +14,14 @@ use Rattle.rules.specs.TreeFile.{infix-ops, prefix-ops}
 use Rattle.rules.specs.Op as op
 use Rattle.rules.specs.Compiler.{Compiler, Compile, go-on, _>>=_, _>>_, return, emit-op, emit-jump, patch-jump, prefix-op, compile-infix}
 use Rattle.tree_laws.proofs.Taken.{row, no-row}
-use Rattle.steps.specs.View.{Mem, Fit, code-len, steady, Gave, Refused, Did, Opened}
+use Rattle.steps.specs.View.{Mem, t-of, Fit, code-len, steady, Gave, Refused, Did, Opened}
 use Rattle.steps.proofs.Steps.{went, went-to, placed, stuck, stuck-to, still, gave-bind, gave-seq, gave-refused, gave-refused-seq, refused-bind, refused-seq, by-name}
 use Rattle.steps.specs.declared.Step.{Step}
 use Rattle.steps.specs.declared.Step.the-variants.{Next, Stop}
 use Rattle.expr_laws.specs.Exprs.{PrefixOp, InfixOp, before-right, after-right, BegunAs, BegunBy, Begun, Closed}
 use Rattle.steps.proofs.Monad.{returned, cut-and, cut-or}
 use Rattle.tree_laws.proofs.Statements.{same-some}
+use Rattle.steps.specs.Why.{told}
 use Rattle.steps.specs.declared.Why.{Why}
 
 -- ## Opcodes
@@ -118,7 +119,7 @@ module _ {class limit l n : ℕ} where
       → BegunBy class limit l n (before-right limit o′ span) before now r
   begun-by span {before = before} {now = now} {r = r} e d = subst (λ (x : OpInfix). BegunBy class limit l n (before-right limit x span) before now r) e d
 
-  stopped-by : {m : Compile ℕ} {before now : Mem} {r : Step} {x : Why} → r ≡ Stop x → Refused class l m before x → BegunBy class limit l n m before now r
+  stopped-by : {m : Compile ℕ} {before now : Mem} {r : Step} {x : Why} → r ≡ Stop x → Refused class l m before (told (t-of now) x) → BegunBy class limit l n m before now r
   stopped-by {m} {before} {now} q h = record { does = subst (λ (s : Step). BegunAs class limit l n m before now s) (sym q) h }
 
   -- the last step, and then the place

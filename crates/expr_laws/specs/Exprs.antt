@@ -16,7 +16,8 @@ use Rattle.rules.specs.Op as op
 use Rattle.rules.specs.Chunk.{CS}
 use Rattle.rules.specs.Compiler.{Compile, _>>=_, _>>_, return, done, need, emit-op, emit-op-u8, emit-invoke, emit-jump, patch-jump, prefix-op, need-super, get-variable, compile-expr}
 use Rattle.fields.specs.Words.{word16}
-use Rattle.steps.specs.View.{Mem, code-len, steady, Gave, Refused, Did}
+use Rattle.steps.specs.Why.{told}
+use Rattle.steps.specs.View.{Mem, t-of, code-len, steady, Gave, Refused, Did}
 use Rattle.steps.specs.declared.Step.{Step}
 use Rattle.steps.specs.declared.Step.the-variants.{Next, Stop}
 
@@ -91,7 +92,7 @@ pub record InfixOp (n r : ℕ) : Type 0 where
 
 abbrev pub BegunAs : (class limit l n : ℕ) → Compile ℕ → (before now : Mem) → Step → Type 0
 BegunAs class limit l n m before now (Next v) = Gave class limit l steady m v before now × (10 ≤ n → v + 2 ≤ code-len now l)
-BegunAs class limit l n m before now (Stop x) = Refused class l m before x
+BegunAs class limit l n m before now (Stop x) = Refused class l m before (told (t-of now) x)
 
 pub record BegunBy (class limit l n : ℕ) (m : Compile ℕ) (before now : Mem) (r : Step) : Type 0 where
   pub does : BegunAs class limit l n m before now r

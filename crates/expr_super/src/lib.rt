@@ -24,7 +24,7 @@ pub fn compile_super(
     requires { ⌜ Fit (mem (now t) (now code) (now spans)) level limit ⌝ }
     ensures { λ r. ⌜ Did class limit level next steady (compile-super limit name span) (mem (now (t .entry)) (now (code .entry)) (now (spans .entry))) (mem (now (t .exit)) (now (code .exit)) (now (spans .exit))) r ⌝ }
 {
-    let n = need_super(class, span, next);
+    let n = need_super(level, class, span, next);
     let Step::Next(_) = n else {
         return n;
     };

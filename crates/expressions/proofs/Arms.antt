@@ -21,7 +21,7 @@ use Rattle.tree_laws.proofs.Expressions.{LiteralAt, count-read, any-at, prefix-
 use Rattle.tree_laws.proofs.Expressions.{string-at, last-mark}
 use Rattle.tree_laws.proofs.Later.{later-expr}
 use Rattle.state.specs.Layout.{constantOf}
-use Rattle.steps.specs.View.{Mem, Fit, code-len, steady, Gave, Refused, Did}
+use Rattle.steps.specs.View.{Mem, t-of, Fit, code-len, steady, Gave, Refused, Did}
 use Rattle.steps.proofs.Steps.{went, valued, still, stop, halt, then-on, did-bind, did-seq, refused-bind, refused-seq, gave-refused-seq}
 use Rattle.steps.specs.declared.Step.{Step}
 use Rattle.steps.specs.declared.Step.the-variants.{Next, Stop}
@@ -31,13 +31,14 @@ use Rattle.steps.proofs.Monad.{like, on-to}
 use Rattle.expr_laws.proofs.Operators.{infix-cut}
 use Rattle.expr_laws.proofs.Calls.{call-cut, first-on, parts-read, Walk, walk-stop, walk-done}
 use Rattle.fields.specs.Marks as marks
+use Rattle.steps.specs.Why.{told}
 use Rattle.steps.specs.declared.Why.{Why}
 
 -- a number's word is the number
 number-word : (n : ℕ) → n ≤ max-bits → constantOf n ≡ CN n
 number-word n h = let b : n < 2 ^ 63 = omega arith in rw (lt-ltb n (2 ^ 63) b)
 
-same-stop : {class limit l n : ℕ} {m : Compile Unit} {before now : Mem} {r : Step} {x : Why} → r ≡ Stop x → Refused class l m before x → Did class limit l n steady m before now r
+same-stop : {class limit l n : ℕ} {m : Compile Unit} {before now : Mem} {r : Step} {x : Why} → r ≡ Stop x → Refused class l m before (told (t-of now) x) → Did class limit l n steady m before now r
 same-stop {class} {limit} {l} {n} {m} {before} {now} q h = subst (λ (s : Step). Did class limit l n steady m before now s) (sym q) (stop now h)
 
 module _ {class limit l : ℕ} {before : Mem} where
@@ -213,7 +214,7 @@ module _ {class limit l : ℕ} {before : Mem} where
   begun-gave : {n v : ℕ} {m : Compile ℕ} {now : Mem} {r : Step} → BegunBy class limit l n m before now r → r ≡ Next v → Gave class limit l steady m v before now × (10 ≤ n → v + 2 ≤ code-len now l)
   begun-gave {n} {m = m} {now = now} d q = subst (λ (s : Step). BegunAs class limit l n m before now s) q (d .does)
 
-  begun-refused : {n : ℕ} {m : Compile ℕ} {now : Mem} {r : Step} {x : Why} → BegunBy class limit l n m before now r → r ≡ Stop x → Refused class l m before x
+  begun-refused : {n : ℕ} {m : Compile ℕ} {now : Mem} {r : Step} {x : Why} → BegunBy class limit l n m before now r → r ≡ Stop x → Refused class l m before (told (t-of now) x)
   begun-refused {n} {m} {now} d q = subst (λ (s : Step). BegunAs class limit l n m before now s) q (d .does)
 
 module _ {class limit l : ℕ} {before mid : Mem} (tree : List ℕ) (d at operator : ℕ) (sp : Span) (s : sp ≡ span-of tree (at + 2)) (w : operator ≡ word8 tree (at + 10)) (m : letters tree at ≡ marks.EI)

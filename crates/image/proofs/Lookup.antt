@@ -218,7 +218,7 @@ module _ (s : List ℕ) (k : ℕ) where
       }
 
   pub told-stands : (start size end : ℕ) → Stands s k start size → end ≡ start + size
-      → Told s k (record { number = 0; at = start; end = end; name = 0; length = size })
+      → Told s k (record { number = 0; at = start; end = end; name = 0; length = size; function = 0; around = 0 })
   unfolding code-part
   told-stands start size end t e =
       let w = t .within in
@@ -279,7 +279,7 @@ module _ (s : List ℕ) where
     nothing-behind e = sym (ap (directory-verdict (length s)) (a .is) ∙ rw (eq-eqb _ _ (sym end-is ∙ e)) refl)
 
     pub directory-told : (end ≡ length s → ⊥) → (at last count : ℕ) → at ≡ end → last ≡ length s → count ≡ word32 s 2
-        → record { number = 0; at = at; end = last; name = 0; length = count } ≡ directory-of s
+        → record { number = 0; at = at; end = last; name = 0; length = count; function = 0; around = 0 } ≡ directory-of s
     unfolding directory-of directory-verdict
     directory-told e at last count p q r =
         let c : count ≡ length (a .fs) = r ∙ sym (many-length (read-function s) (word32 s 2) 6 (a .end) (a .fs) (a .are)) in

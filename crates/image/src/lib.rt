@@ -90,6 +90,8 @@ pub fn code_answer(image: &[u8], k: usize) -> Answer
         end: 0,
         name: 0,
         length: 0,
+        function: 0,
+        around: 0,
     }
 }
 
@@ -110,6 +112,8 @@ pub fn directory_of(image: &[u8]) -> Answer
         end: fields::long(image.len()),
         name: 0,
         length: fields::long32(fields::u32_at(image, 2)),
+        function: 0,
+        around: 0,
     }
 }
 

@@ -58,7 +58,7 @@ module _ (s : List ℕ) where
           let r = record-length (g .value) in
           omega (arith, size-is)
 
-      pub part-told : (size end : ℕ) → size ≡ h .code → end ≡ next → record { number = 0; at = end - size; end = end; name = 0; length = size } ≡ told
+      pub part-told : (size end : ℕ) → size ≡ h .code → end ≡ next → record { number = 0; at = end - size; end = end; name = 0; length = size; function = 0; around = 0 } ≡ told
       unfolding record-part
       part-told size end p q =
           let r : size ≡ length (g .value .chunk .ops) = p ∙ sym size-is in

@@ -86,6 +86,8 @@ pub fn record_part(image: &[u8], at: usize) -> Answer
         end,
         name: 0,
         length: size,
+        function: 0,
+        around: 0,
     }
 }
 

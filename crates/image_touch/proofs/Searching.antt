@@ -35,7 +35,7 @@ use Rattle.image_touch.proofs.Stepping.{divides-it}
 -- ## One function's instructions, and those behind it
 
 abbrev pub hit-in : Found → (k : ℕ) → Answer
-hit-in found k = record { number = 0; at = found .at; end = found .at + 2; name = k; length = found .read }
+hit-in found k = record { number = 0; at = found .at; end = found .at + 2; name = k; length = found .read; function = 0; around = 0 }
 
 module _ (name k : ℕ) (cs : List Constant) (more : List Standing) where
   found-hit : (read : ℕ) (is : List Instruction) → walked name read cs is .hit ≡ true
@@ -46,7 +46,7 @@ module _ (name k : ℕ) (cs : List Constant) (more : List Standing) where
     where
       by : (t : Bool) → (if t then (record { hit = true; at = i .at; read = read + 1 }) else walked name (read + 1) cs is) .hit ≡ true
           → (walked name (read + 1) cs is .hit ≡ true → search name (read + 1) (standing k cs is ++ more) ≡ hit-in (walked name (read + 1) cs is) k)
-          → (if t then (record { number = 0; at = i .at; end = i .at + 2; name = k; length = read + 1 }) else search name (read + 1) (standing k cs is ++ more))
+          → (if t then (record { number = 0; at = i .at; end = i .at + 2; name = k; length = read + 1; function = 0; around = 0 }) else search name (read + 1) (standing k cs is ++ more))
           ≡ hit-in (if t then (record { hit = true; at = i .at; read = read + 1 }) else walked name (read + 1) cs is) k
       by true e later = refl
       by false e later = later e
@@ -60,7 +60,7 @@ module _ (name k : ℕ) (cs : List Constant) (more : List Standing) where
       by : (t : Bool) → (if t then (record { hit = true; at = i .at; read = read + 1 }) else walked name (read + 1) cs is) .hit ≡ false
           → (walked name (read + 1) cs is .hit ≡ false
           → search name (read + 1) (standing k cs is ++ more) ≡ search name (walked name (read + 1) cs is .read) more)
-          → (if t then (record { number = 0; at = i .at; end = i .at + 2; name = k; length = read + 1 }) else search name (read + 1) (standing k cs is ++ more))
+          → (if t then (record { number = 0; at = i .at; end = i .at + 2; name = k; length = read + 1; function = 0; around = 0 }) else search name (read + 1) (standing k cs is ++ more))
           ≡ search name ((if t then (record { hit = true; at = i .at; read = read + 1 }) else walked name (read + 1) cs is) .read) more
       by true e later = absurd (no-true (sym e))
       by false e later = later e

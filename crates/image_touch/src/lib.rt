@@ -179,7 +179,7 @@ fn function(
 // What is told of a hit in function `k`.
 fn hit(found: Found, k: usize) -> Answer
     requires { ⌜ found .at + 2 < 18446744073709551616 ⌝ }
-    ensures { λ r. ⌜ r ≡ record { number = 0; at = found .at; end = found .at + 2; name = k; length = found .read } ⌝ }
+    ensures { λ r. ⌜ r ≡ record { number = 0; at = found .at; end = found .at + 2; name = k; length = found .read; function = 0; around = 0 } ⌝ }
 {
     let first = fields::long(found.at);
     let operand = first + 1;
@@ -189,6 +189,8 @@ fn hit(found: Found, k: usize) -> Answer
         end: operand + 1,
         name: fields::long(k),
         length: fields::long(found.read),
+        function: 0,
+        around: 0,
     }
 }
 

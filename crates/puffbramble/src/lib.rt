@@ -1,5 +1,5 @@
 // What C and Rust programs call: include/puffbramble.h says the same for them. A slice comes as a pointer and a number of elements, and an
-// answer goes back as a struct of five numbers. Nothing is decided here: each function hands on to the one that is proved against the rules.
+// answer goes back as a struct of seven numbers. Nothing is decided here: each function hands on to the one that is proved against the rules.
 ghost use mathlib.Core.Path.{_≡_};
 ghost use lib.ListN.{length};
 ghost use Rattle.rules.specs.Entry as rules;
@@ -9,7 +9,8 @@ ghost use Rattle.spans.specs.Words.{runs-of};
 ghost use Rattle.tree.specs.Read.{read-answer};
 use rules::Answer;
 
-// 0 with the image's length in `length`, or a refusal. The output has the image and then zeros, or only zeros; the work areas end all zero.
+// 0 with the image's length in `length`, or a refusal; 10 to 30 name the function that it is in, in `function` and `around`. The output has the
+// image and then zeros, or only zeros; the work areas end all zero.
 // Of `options` the bit 2 says something: the image ends in a directory.
 #[no_mangle]
 pub extern "C" fn puffbramble_compile(

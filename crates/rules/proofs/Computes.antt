@@ -21,7 +21,7 @@ unfolding in-base.one-on in-base.position in-base.lookup in-base.all in-base.all
 base = tt
 
 unfoldable pub answer : Unit {0}
-unfolding in-answer.refusal
+unfolding in-answer.refusal in-answer.refusal-in
 answer = tt
 
 unfoldable pub tree : Unit {0}

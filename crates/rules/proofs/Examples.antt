@@ -7,8 +7,8 @@ use Prim.Native.Nat.{ℕ, zero, suc, _+_, _/_, _%_, _^_}
 use lib.ListN.{length, replicate}
 use Rattle.rules.specs.declared.Span.{Span}
 use Rattle.rules.specs.declared.Answer.{Answer}
-use Rattle.rules.specs.declared.Refusal.the-variants.{WorkShort, TreeTooDeep, TooManyOpen, CodeFull, OutFull}
-use Rattle.rules.specs.Answer.{refusal, accepted, at-span}
+use Rattle.rules.specs.declared.Refusal.the-variants.{WorkShort, TreeTooDeep, TooManyOpen, CodeFull, OutFull, NoSuchFunction}
+use Rattle.rules.specs.Answer.{refusal, accepted, at-span, in-function, refusal-in}
 use Rattle.rules.specs.Op.{Operands, Plain, Byte, Captured, Value, Text, Invoke, Ahead, Back, Closure}
 use Rattle.rules.specs.Chunk.{ObjectFunction}
 use Rattle.rules.specs.Limits.{Limits, first-limits, max-code}
@@ -139,7 +139,7 @@ pub data Given : Type 0 where
 
 abbrev pub given : Compiled → Given
 given (functions-are fs) = codes (map (λ (f : ObjectFunction). f .chunk .ops) fs) (check (image-bytes fs))
-given (refused r) = answer (refusal r)
+given (refused x) = answer (refusal-in x)
 
 pub record Row : Type 0 where
   pub tree : List ℕ
@@ -151,16 +151,20 @@ row tree gives = record { tree = tree; gives = gives }
 abbrev pub from-to : (start end : ℕ) → Span
 from-to start end = record { start = start; end = end }
 
+-- the script's name is 3, and no function is around it
+abbrev pub in-script : Answer → Answer
+in-script a = in-function a 3 0
+
 abbrev pub table : List Row
 table =
     row P1-tree (codes (hex 2 0x01_24 ∷ []) (accepted 2)) ∷
     row P2-tree (codes (hex 5 0x00_00_1B_01_24 ∷ []) (accepted 4)) ∷
     row P3-tree (codes (hex 9 0x00_00_08_01_07_01_1B_01_24 ∷ []) (accepted 6)) ∷
     row P4-tree (codes (hex 7 0x01_05_00_1B_04_01_24 ∷ []) (accepted 6)) ∷
-    row P5-tree (answer (at-span 10 (from-to 0 11) 4)) ∷
-    row P6-tree (answer (at-span 11 (from-to 10 11) 4)) ∷
-    row P7-tree (answer (at-span 12 (from-to 0 14) 4)) ∷
-    row P8-tree (answer (at-span 20 (from-to 0 7) 0)) ∷
+    row P5-tree (answer (in-function (at-span 10 (from-to 0 11) 4) 4 1)) ∷
+    row P6-tree (answer (in-script (at-span 11 (from-to 10 11) 4))) ∷
+    row P7-tree (answer (in-script (at-span 12 (from-to 0 14) 4))) ∷
+    row P8-tree (answer (in-script (at-span 20 (from-to 0 7) 0))) ∷
     row P9-tree (codes (hex 9 0x02_1D_02_00_04_03_04_01_24 ∷ []) (accepted 7)) ∷
     row P10-tree (codes (hex 13 0x02_1D_06_00_04_01_1B_1E_0A_00_04_01_24 ∷ []) (accepted 9)) ∷
     row P11-tree
@@ -208,7 +212,7 @@ targets (some []) = []
 targets (some (i ∷ is)) = target (i .operands) (i .at) (i .bytes) ++ targets (some is)
 
 abbrev pub first-targets : Compiled → List ℕ
-first-targets (refused r) = []
+first-targets (refused x) = []
 first-targets (functions-are []) = []
 first-targets (functions-are (f ∷ fs)) = targets (division (f ∷ fs) f)
 
@@ -218,17 +222,17 @@ pub record P1-to-P12 : Type 0 where
   pub P2-whole : compile P2-tree (lent 17_412 5 15 73) ≡ leaves (lent 17_412 5 15 73) (accepted 73) P2-image
   pub P2-room-left : compile P2-tree (lent 17_413 6 16 75) ≡ leaves (lent 17_413 6 16 75) (accepted 73) (P2-image ++ 0 ∷ 0 ∷ [])
   pub P2-out-full : compile P2-tree (lent 17_412 5 15 72) ≡ leaves (lent 17_412 5 15 72) (refusal (OutFull 73)) (replicate 72 0)
-  pub P2-code-full : compile P2-tree (lent 17_412 4 15 73) ≡ leaves (lent 17_412 4 15 73) (refusal CodeFull) (replicate 73 0)
-  pub P2-spans-full : compile P2-tree (lent 17_412 5 14 73) ≡ leaves (lent 17_412 5 14 73) (refusal CodeFull) (replicate 73 0)
+  pub P2-code-full : compile P2-tree (lent 17_412 4 15 73) ≡ leaves (lent 17_412 4 15 73) (in-script (refusal CodeFull)) (replicate 73 0)
+  pub P2-spans-full : compile P2-tree (lent 17_412 5 14 73) ≡ leaves (lent 17_412 5 14 73) (in-script (refusal CodeFull)) (replicate 73 0)
   -- 30 before 31, 1 before all
-  pub P2-code-and-out : compile P2-tree (lent 17_412 4 15 72) ≡ leaves (lent 17_412 4 15 72) (refusal CodeFull) (replicate 72 0)
+  pub P2-code-and-out : compile P2-tree (lent 17_412 4 15 72) ≡ leaves (lent 17_412 4 15 72) (in-script (refusal CodeFull)) (replicate 72 0)
   pub P2-work-short : compile P2-tree (lent 17_411 4 14 72) ≡ leaves (lent 17_411 4 14 72) (refusal WorkShort) (replicate 72 0)
   -- f's JUMP_IF_FALSE goes to 12, its JUMP to the code's end
   pub P11-lands-on-end : first-targets (compile-tree first-limits P11-tree max-code) ≡ 12 ∷ 15 ∷ []
   -- the lookups in P2's image: its code is the last five bytes
   pub P2-code : code-of P2-image 0 ≡ hex 5 0x00_00_1B_01_24
   pub P2-code-place : code-place P2-image 0 ≡ 68
-  pub P2-no-function : code-answer P2-image 1 ≡ record { number = 41; at = 0; end = 0; name = 0; length = 0 }
+  pub P2-no-function : code-answer P2-image 1 ≡ refusal NoSuchFunction
 
 pub holds : P1-to-P12
 unfolding hex computes.entry computes.checker

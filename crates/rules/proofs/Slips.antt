@@ -11,13 +11,14 @@ use borrow.Author.Tests.{le-leb, lt-leb, lt-ltb, le-ltb}
 use Rattle.rules.specs.Base.{if_then_else_, position}
 use Rattle.rules.specs.declared.Span.{Span}
 use Rattle.rules.specs.declared.Refusal.{Refusal}
+use Rattle.rules.specs.declared.Stopped.{Stopped}
 use Rattle.rules.specs.declared.Refusal.the-variants.{AlreadyDefined, JumpTooLarge, TooManyArgs, TooManyParams, TooManyLocals, TooManyUpvalues}
-use Rattle.rules.specs.declared.Refusal.the-variants.{TreeTooDeep, TooManyOpen, TreeTooLong, CodeFull, OutFull, ImageRefused, NoSuchFunction}
+use Rattle.rules.specs.declared.Refusal.the-variants.{TreeTooDeep, TooManyOpen, TreeTooLong, ThisOutsideClass, CodeFull, OutFull, ImageRefused, NoSuchFunction}
 use Rattle.rules.specs.declared.Answer.{Answer}
-use Rattle.rules.specs.Answer.{NO-SPAN, refusal, accepted}
+use Rattle.rules.specs.Answer.{NO-SPAN, refusal, accepted, outside, refusal-in}
 use Rattle.rules.specs.Tree.{Expr, Exprs, ExprAssign, ExprCall, ExprGet, ExprInfix, Literal, ExprPrefix, ExprSet, ExprSuper, ExprVar, []ᵉ, _∷ᵉ_, count-exprs}
 use Rattle.rules.specs.Tree.{Less, Not, LitBool, LitNil, LitNumber, LitString}
-use Rattle.rules.specs.Tree.{Stmts, StmtBlock, StmtClass, StmtExpr, StmtFor, StmtIf, StmtPrint, StmtReturn, StmtVar, StmtWhile, []ˢ, _∷ˢ_, fun, []ᵐ, method}
+use Rattle.rules.specs.Tree.{Stmt, Stmts, StmtBlock, StmtClass, StmtExpr, StmtFor, StmtFun, StmtIf, StmtPrint, StmtReturn, StmtVar, StmtWhile, []ˢ, _∷ˢ_, fun, []ᵐ, method}
 use Rattle.rules.specs.TreeFile.{read-tree}
 use Rattle.rules.specs.TreeEncode.{encode}
 use Rattle.rules.specs.Op as op
@@ -41,7 +42,7 @@ use Rattle.rules.proofs.Computes as computes
 
 -- 256 arguments are too many whatever is called, a method of a superclass outside every class among them
 pub too-many-args : (limit : ℕ) (span : Span) (callee : Expr) (args : Exprs) (s : Compiler) → 256 ≤ count-exprs args →
-    c.compile-expr limit (ExprCall span callee args) s ≡ err (TooManyArgs span)
+    c.compile-expr limit (ExprCall span callee args) s ≡ err (c.stopped (TooManyArgs span) s)
 unfolding c.compile-expr c._>>_ c.go-on c.need
 too-many-args limit span callee args s l =
     rw (lt-leb (count-exprs args) 255 (omega arith))
@@ -54,7 +55,7 @@ unfolding c.compile-expr c._>>_ c.go-on c.need
 enough-args limit span callee args s l = rw (le-leb (count-exprs args) 255 l)
 
 pub too-many-params : (limit : ℕ) (type : FunctionType) (name : ℕ) (params : List ℕ) (body : c.Compile Unit) (span : Span) (s : Compiler) → 256 ≤ length params →
-    c.compile-function-with limit type name params body span s ≡ err (TooManyParams span)
+    c.compile-function-with limit type name params body span s ≡ err (c.stopped (TooManyParams span) s)
 unfolding c.compile-function-with c._>>_ c.go-on c.need
 too-many-params limit type name params body span s l = rw (lt-leb (length params) 255 (omega arith))
 
@@ -91,7 +92,7 @@ unfolding add-upvalue added
 last-upvalue u span ctx parents e l = rw (e, l)
 
 pub too-many-locals : (name : ℕ) (span : Span) (s : Compiler) → declared-here (s .ctx .scope-depth) name (s .ctx .locals) ≡ false → 256 ≤ length (s .ctx .locals) →
-    c.declare-local name span s ≡ err (TooManyLocals span)
+    c.declare-local name span s ≡ err (c.stopped (TooManyLocals span) s)
 unfolding c.declare-local c._>>=_ c._>>_ c.go-on c.need c.the
 too-many-locals name span s e l = rw (e, le-ltb (length (s .ctx .locals)) 256 l)
 
@@ -107,7 +108,7 @@ enough-locals name span s e l = rw (e, lt-ltb (length (s .ctx .locals)) 256 l)
 
 -- a name that its scope has already is 10, however many there are
 pub already-declared : (name : ℕ) (span : Span) (s : Compiler) → declared-here (s .ctx .scope-depth) name (s .ctx .locals) ≡ true →
-    c.declare-local name span s ≡ err (AlreadyDefined span name)
+    c.declare-local name span s ≡ err (c.stopped (AlreadyDefined span name) s)
 unfolding c.declare-local c._>>=_ c._>>_ c.go-on c.need c.the
 already-declared name span s e = rw e
 
@@ -125,7 +126,7 @@ unfolding c.patch-jump c.code-length c._>>=_ c._>>_ c.go-on c.need c.the c.updat
 near-ahead at span s l = rw (le-leb (length (s .ctx .chunk .ops) - 2 - at) 65_535 l)
 
 pub too-far-ahead : (at : ℕ) (span : Span) (s : Compiler) → 65_535 < length (s .ctx .chunk .ops) - 2 - at →
-    c.patch-jump at span s ≡ err (JumpTooLarge span)
+    c.patch-jump at span s ≡ err (c.stopped (JumpTooLarge span) s)
 unfolding c.patch-jump c.code-length c._>>=_ c._>>_ c.go-on c.need c.the
 too-far-ahead at span s l = rw (lt-leb (length (s .ctx .chunk .ops) - 2 - at) 65_535 l)
 
@@ -137,7 +138,7 @@ unfolding c.emit-loop c.code-length c._>>=_ c._>>_ c.go-on c.need c.the
 near-back limit start span s l = rw (le-leb (length (s .ctx .chunk .ops) + 3 - start) 65_535 l)
 
 pub too-far-back : (limit start : ℕ) (span : Span) (s : Compiler) → 65_535 < length (s .ctx .chunk .ops) + 3 - start →
-    c.emit-loop limit start span s ≡ err (JumpTooLarge span)
+    c.emit-loop limit start span s ≡ err (c.stopped (JumpTooLarge span) s)
 unfolding c.emit-loop c.code-length c._>>=_ c._>>_ c.go-on c.need c.the
 too-far-back limit start span s l = rw (lt-leb (length (s .ctx .chunk .ops) + 3 - start) 65_535 l)
 
@@ -187,10 +188,10 @@ other-kind n = refl
 
 -- ## 31 only where all else is accepted
 
-pub refused-first : (limits : Limits) (tree : List ℕ) (lent : Lent) (r : Refusal) → compile-lent limits tree lent ≡ refused r →
-    compile-within limits tree lent .answer ≡ refusal r
+pub refused-first : (limits : Limits) (tree : List ℕ) (lent : Lent) (x : Stopped) → compile-lent limits tree lent ≡ refused x →
+    compile-within limits tree lent .answer ≡ refusal-in x
 unfolding compile-within entry.write-out entry.leaves
-refused-first limits tree lent r e = ap (λ (x : Compiled). entry.write-out lent x .answer) e
+refused-first limits tree lent x e = ap (λ (x : Compiled). entry.write-out lent x .answer) e
 
 -- ## Work areas end all zero, whatever the answer
 
@@ -220,7 +221,7 @@ unfolding compile-within entry.write-out
 work-areas-zero limits tree lent = by-answer (compile-lent limits tree lent)
   where
     by-answer : (x : Compiled) → Zero lent (entry.write-out lent x)
-    by-answer (refused r) = leaves-zero lent _ _
+    by-answer (refused x) = leaves-zero lent _ _
     by-answer (functions-are fs) = image-zero lent _
 
 -- ## The reader's limits are what it is given: P2 has depth 2, and P12 two `SF` inside one another
@@ -230,16 +231,16 @@ limits d f = record { depth = d; funs = f; table-bytes = 0 }
 
 pub record At-limits : Type 0 where
   pub deep-enough : compile-tree (limits 2 0) P2-tree max-code ≡ compile-tree first-limits P2-tree max-code
-  pub too-deep : compile-tree (limits 1 0) P2-tree max-code ≡ refused (TreeTooDeep 16)
+  pub too-deep : compile-tree (limits 1 0) P2-tree max-code ≡ refused (outside (TreeTooDeep 16))
   pub open-enough : compile-tree (limits 4 2) P12-tree max-code ≡ compile-tree first-limits P12-tree max-code
-  pub too-many-open : compile-tree (limits 4 1) P12-tree max-code ≡ refused (TooManyOpen 39)
+  pub too-many-open : compile-tree (limits 4 1) P12-tree max-code ≡ refused (outside (TooManyOpen 39))
 
 pub at-limits : At-limits
 unfolding hex computes.entry
 at-limits = record { deep-enough = refl; too-deep = refl; open-enough = refl; too-many-open = refl }
 
 -- 2, for every tree that is too long
-pub too-long : (limits : Limits) (tree : List ℕ) (limit : ℕ) → max-tree < length tree → compile-tree limits tree limit ≡ refused TreeTooLong
+pub too-long : (limits : Limits) (tree : List ℕ) (limit : ℕ) → max-tree < length tree → compile-tree limits tree limit ≡ refused (outside TreeTooLong)
 unfolding compile-tree
 too-long limits tree limit long = rw (lt-leb (length tree) max-tree long)
 
@@ -268,9 +269,9 @@ abbrev two-runs : List Run
 two-runs = record { span = from-to 1 2; count = 3 } ∷ record { span = from-to 4 6; count = 1 } ∷ []
 
 pub record Spans : Type 0 where
-  pub last-of-first : span-of two-runs 2 ≡ record { number = 0; at = 1; end = 2; name = 0; length = 0 }
-  pub first-of-next : span-of two-runs 3 ≡ record { number = 0; at = 4; end = 6; name = 0; length = 0 }
-  pub past-the-end : span-of two-runs 4 ≡ record { number = 42; at = 0; end = 0; name = 0; length = 0 }
+  pub last-of-first : span-of two-runs 2 ≡ record { number = 0; at = 1; end = 2; name = 0; length = 0; function = 0; around = 0 }
+  pub first-of-next : span-of two-runs 3 ≡ record { number = 0; at = 4; end = 6; name = 0; length = 0; function = 0; around = 0 }
+  pub past-the-end : span-of two-runs 4 ≡ record { number = 42; at = 0; end = 0; name = 0; length = 0; function = 0; around = 0 }
 
 pub spans : Spans
 unfolding computes.checker
@@ -334,7 +335,7 @@ abbrev P2-directory : List ℕ
 P2-directory = hex 10 0x44_58_01000000_06000000
 
 abbrev functions-in : Compiled → List ObjectFunction
-functions-in (refused r) = []
+functions-in (refused x) = []
 functions-in (functions-are functions) = functions
 
 abbrev methods : List ObjectFunction
@@ -358,7 +359,7 @@ pub record Directory : Type 0 where
   pub two-accepted : check methods-image ≡ accepted 10
   pub second-off : check (image-bytes methods ++ hex 14 0x44_58_02000000_06000000_27000000) ≡ refusal ImageRefused
   -- where it is, and where there is none
-  pub found : directory-of (P2-image ++ P2-directory) ≡ record { number = 0; at = 73; end = 83; name = 0; length = 1 }
+  pub found : directory-of (P2-image ++ P2-directory) ≡ record { number = 0; at = 73; end = 83; name = 0; length = 1; function = 0; around = 0 }
   pub none-there : directory-of P2-image ≡ accepted 0
   -- through it
   pub first-through : code-through methods-image (directory-of methods-image .at) 0 ≡ code-part methods-image 0
@@ -414,8 +415,8 @@ touch-functions = functions-in (compile-tree first-limits touch-tree max-code)
 
 pub record Touched : Type 0 where
   pub whole-list : full-list 4 (all-standing touch-functions 0 touch-functions) ≡ (0, 0) ∷ (1, 8) ∷ []
-  pub first-function : touch (image-bytes touch-functions) 4 ≡ record { number = 0; at = 0; end = 2; name = 0; length = 1 }
-  pub second-function : touch (image-with true touch-functions) 5 ≡ record { number = 0; at = 2; end = 4; name = 1; length = 6 }
+  pub first-function : touch (image-bytes touch-functions) 4 ≡ record { number = 0; at = 0; end = 2; name = 0; length = 1; function = 0; around = 0 }
+  pub second-function : touch (image-with true touch-functions) 5 ≡ record { number = 0; at = 2; end = 4; name = 1; length = 6; function = 0; around = 0 }
   pub not-named : touch (image-bytes touch-functions) 6 ≡ accepted 12
   pub no-image : touch touch-tree 4 ≡ refusal ImageRefused
 
@@ -444,13 +445,49 @@ open-tree =
 -- two bytes of the script stand before the eight of f; the script itself has eight in the end
 pub record Limited : Type 0 where
   pub capped : entry.code-limit (lent 0 262_145 786_435 0) ≡ max-code
-  pub summed : compile-tree first-limits open-tree 9 ≡ refused CodeFull
+  pub summed : compile-tree first-limits open-tree 9 ≡ refused (record { what = CodeFull; function = 4; around = 1 })
   pub enough : given (compile-tree first-limits open-tree 10)
       ≡ codes (hex 8 0x01_1B_01_1B_01_1B_01_24 ∷ hex 8 0x01_1B_22_00_08_01_01_24 ∷ []) (accepted 14)
 
 pub limited : Limited
 unfolding hex computes.entry computes.checker
 limited = record { capped = refl; summed = refl; enough = refl }
+
+-- ## Which function a refusal is in: the one whose context is open then, f being 5
+
+abbrev somewhere : Span
+somewhere = from-to 1 2
+
+abbrev f-with : (params : List ℕ) → Stmts → Stmt
+f-with params body = StmtFun somewhere (fun 5 params body)
+
+-- { var a; fun f() { return a; } }: f has three bytes behind one of the script, and then its closure four
+abbrev f-captures : Stmts
+f-captures =
+    StmtBlock somewhere (StmtVar somewhere 4 none ∷ˢ f-with [] (StmtReturn somewhere (some (ExprVar somewhere 4)) ∷ˢ []ˢ) ∷ˢ []ˢ) ∷ˢ []ˢ
+
+-- { var f; fun f() {} }
+abbrev f-again : Stmts
+f-again = StmtBlock somewhere (StmtVar somewhere 5 none ∷ˢ f-with [] []ˢ ∷ˢ []ˢ) ∷ˢ []ˢ
+
+-- fun f() { fun g() { return this; } }
+abbrev this-in-g : Stmts
+this-in-g = f-with [] (StmtFun somewhere (fun 6 [] (StmtReturn somewhere (some (ExprVar somewhere 0)) ∷ˢ []ˢ)) ∷ˢ []ˢ) ∷ˢ []ˢ
+
+abbrev in-the : (function around : ℕ) → Refusal → Stopped
+in-the function around r = record { what = r; function = function; around = around }
+
+pub record Located : Type 0 where
+  pub its-byte : c.compile-functions 3 f-captures ≡ err (in-the 5 1 CodeFull)
+  pub its-closure : c.compile-functions 4 f-captures ≡ err (in-the 3 0 CodeFull)
+  pub its-parameter : c.compile-functions max-code (f-with (4 ∷ 4 ∷ []) []ˢ ∷ˢ []ˢ) ≡ err (in-the 5 1 (AlreadyDefined somewhere 4))
+  pub its-slot-zero : c.compile-functions max-code (f-with (5 ∷ []) []ˢ ∷ˢ []ˢ) ≡ err (in-the 5 1 (AlreadyDefined somewhere 5))
+  pub its-name : c.compile-functions max-code f-again ≡ err (in-the 3 0 (AlreadyDefined somewhere 5))
+  pub in-two : c.compile-functions max-code this-in-g ≡ err (in-the 6 2 (ThisOutsideClass somewhere))
+
+pub located : Located
+unfolding computes.compiler
+located = record { its-byte = refl; its-closure = refl; its-parameter = refl; its-slot-zero = refl; its-name = refl; in-two = refl }
 
 -- ## The tree file written: every record once, its bytes written out from document 01
 

@@ -169,6 +169,8 @@ code-part image k =
       end = code-place image k + length (code-of image k);
       name = 0;
       length = length (code-of image k);
+      function = 0;
+      around = 0;
     }
 
 -- ## The same through the directory
@@ -178,7 +180,7 @@ directory-verdict size none = refusal ImageRefused
 directory-verdict size (some functions) =
     if eqb (length (image-bytes functions)) size
     then accepted 0
-    else record { number = 0; at = length (image-bytes functions); end = size; name = 0; length = length functions }
+    else record { number = 0; at = length (image-bytes functions); end = size; name = 0; length = length functions; function = 0; around = 0 }
 
 -- where the directory of a checked image stands, its end, and of how many functions it tells; 0 and zeros where there is none; 40
 unfoldable pub directory-of : (image : List ℕ) → Answer
@@ -198,7 +200,7 @@ module _ (image : List ℕ) where
   unfoldable pub record-part : Read ObjectFunction → Answer
   record-part (bad r) = refusal r
   record-part (got f next) =
-      record { number = 0; at = next - length (f .chunk .ops); end = next; name = 0; length = length (f .chunk .ops) }
+      record { number = 0; at = next - length (f .chunk .ops); end = next; name = 0; length = length (f .chunk .ops); function = 0; around = 0 }
 
   unfoldable pub entry-part : Read ℕ → Answer
   entry-part (bad r) = refusal r

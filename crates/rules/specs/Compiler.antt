@@ -12,6 +12,7 @@ use lib.Dec.{ltb, leb, eqb}
 use Rattle.rules.specs.Base.{if_then_else_, position}
 use Rattle.rules.specs.declared.Span.{Span}
 use Rattle.rules.specs.declared.Refusal.{Refusal}
+use Rattle.rules.specs.declared.Stopped.{Stopped}
 use Rattle.rules.specs.declared.Refusal.the-variants.{AlreadyDefined, AccessInsideInitializer, ClassInheritFromSelf, JumpTooLarge, TooManyArgs, TooManyConstants, TooManyLocals, TooManyParams, TooManyUpvalues}
 use Rattle.rules.specs.declared.Refusal.the-variants.{ReturnInInitializer, ReturnOutsideFunction, SuperOutsideClass, SuperWithoutSuperclass, ThisOutsideClass, CodeFull}
 use Rattle.rules.specs.Answer.{NO-SPAN}
@@ -124,16 +125,20 @@ with-classes s x = record { ctx = s .ctx; parents = s .parents; class-ctx = x; f
 
 -- ## A step takes the state, and gives a value and the next state, or refuses
 
+-- a refusal in this state is in the function of its context
+abbrev pub stopped : Refusal → Compiler → Stopped
+stopped r s = record { what = r; function = s .ctx .name; around = length (s .parents) }
+
 pub data Outcome (A : Type 0) : Type 0 where
   ok : A → Compiler → Outcome A
-  err : Refusal → Outcome A
+  err : Stopped → Outcome A
 
 abbrev pub Compile : Type 0 → Type 0
 Compile A = Compiler → Outcome A
 
 unfoldable pub go-on : {A B : Type 0} → Outcome A → (A → Compile B) → Outcome B
 go-on (ok a s) f = f a s
-go-on (err r) f = err r
+go-on (err x) f = err x
 
 infixl 10 _>>=_
 unfoldable pub _>>=_ : {A B : Type 0} → Compile A → (A → Compile B) → Compile B
@@ -150,11 +155,11 @@ unfoldable pub done : Compile Unit
 done = return tt
 
 unfoldable pub refuse : {A : Type 0} → Refusal → Compile A
-refuse r s = err r
+refuse r s = err (stopped r s)
 
 unfoldable pub need : Bool → Refusal → Compile Unit
 need true r s = ok tt s
-need false r s = err r
+need false r s = err (stopped r s)
 
 unfoldable pub get : Compile Compiler
 get s = ok s s

@@ -7,9 +7,9 @@ use lib.Dec.{leb, eqb}
 use Rattle.rules.specs.Base.{if_then_else_}
 use Rattle.rules.specs.Limits.{Limits, first-limits, max-tree, max-code}
 use Rattle.rules.specs.declared.Answer.{Answer}
-use Rattle.rules.specs.declared.Refusal.{Refusal}
+use Rattle.rules.specs.declared.Stopped.{Stopped}
 use Rattle.rules.specs.declared.Refusal.the-variants.{WorkShort, TreeTooLong, OutFull}
-use Rattle.rules.specs.Answer.{refusal, accepted}
+use Rattle.rules.specs.Answer.{refusal, accepted, outside, refusal-in}
 use Rattle.rules.specs.Chunk.{ObjectFunction}
 use Rattle.rules.specs.Tree.{Stmts}
 use Rattle.rules.specs.Reader.{Read, got, bad}
@@ -43,17 +43,17 @@ code-limit lent = min (min (lent .code-bytes) (lent .span-words / 3)) max-code
 
 pub data Compiled : Type 0 where
   functions-are : List ObjectFunction → Compiled
-  refused : Refusal → Compiled
+  refused : Stopped → Compiled
 
 -- 10 to 30, in the Rust's own order of work
 unfoldable pub from-outcome : Outcome (List ObjectFunction) → Compiled
 from-outcome (ok functions _) = functions-are functions
-from-outcome (err r) = refused r
+from-outcome (err x) = refused x
 
 -- 3, 4 and 5 over the whole file come first
 unfoldable pub from-read : Read Stmts → (limit : ℕ) → Compiled
 from-read (got stmts _) limit = from-outcome (compile-functions limit stmts)
-from-read (bad r) limit = refused r
+from-read (bad r) limit = refused (outside r)
 
 -- whatever the answer, the work areas end all zero
 unfoldable pub leaves : Lent → Answer → (output : List ℕ) → Left
@@ -74,7 +74,7 @@ write-image lent image =
 
 -- the image and then zeros, or after a refusal only zeros; 31 where all else is accepted
 unfoldable pub write-out : Lent → Compiled → Left
-write-out lent (refused r) = leaves lent (refusal r) (replicate (lent .output-bytes) 0)
+write-out lent (refused x) = leaves lent (refusal-in x) (replicate (lent .output-bytes) 0)
 write-out lent (functions-are functions) = write-image lent (image-with (asks-directory (lent .options)) functions)
 
 module _ (limits : Limits) where
@@ -83,14 +83,14 @@ module _ (limits : Limits) where
   compile-tree tree limit =
       if leb (length tree) max-tree
       then from-read (read-tree tree (limits .depth) (limits .funs)) limit
-      else refused TreeTooLong
+      else refused (outside TreeTooLong)
 
   -- 1, and what comes after it
   unfoldable pub compile-lent : (tree : List ℕ) → Lent → Compiled
   compile-lent tree lent =
       if leb (limits .table-bytes) (8 * lent .table-words)
       then compile-tree tree (code-limit lent)
-      else refused WorkShort
+      else refused (outside WorkShort)
 
   unfoldable pub compile-within : (tree : List ℕ) → Lent → Left
   compile-within tree lent = write-out lent (compile-lent tree lent)

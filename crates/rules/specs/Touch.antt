@@ -60,7 +60,7 @@ full-list name (s ∷ rest) =
 
 abbrev pub hit : (read : ℕ) → Standing → Answer
 hit read s =
-    record { number = 0; at = s .instruction .at; end = s .instruction .at + 2; name = s .function; length = read }
+    record { number = 0; at = s .instruction .at; end = s .instruction .at + 2; name = s .function; length = read; function = 0; around = 0 }
 
 -- where `read` instructions were read before: the first that names the global, with how many were read up to and including it, or how many there are
 unfoldable pub search : (name read : ℕ) → List Standing → Answer

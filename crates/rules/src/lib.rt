@@ -1,4 +1,4 @@
-// What comes back, as types: a refusal by its name, and the answer's five numbers; and the numbers that mean something in all crates, by name. specs/ computes with these same types, so that code and
+// What comes back, as types: a refusal by its name, the function it is in, and the answer's numbers; and the numbers that mean something in all crates, by name. specs/ computes with these same types, so that code and
 // rules cannot mean two things by one name; specs/Answer.antt gives each refusal its number and fields.
 
 // The limits, for the code. specs/ has them where they belong: Limits.antt, and the steps that refuse what passes one.
@@ -85,6 +85,14 @@ pub enum Refusal {
     NoSuchByte,
 }
 
+// A refusal, and the function it is in: its name, and how many functions are open around it. A refusal that comes before the compiler starts or after it
+// has ended is in none, and has 0 and 0.
+pub struct Stopped {
+    pub what: Refusal,
+    pub function: u64,
+    pub around: u64,
+}
+
 #[repr(C)]
 pub struct Answer {
     pub number: u64,
@@ -92,4 +100,6 @@ pub struct Answer {
     pub end: u64,
     pub name: u64,
     pub length: u64,
+    pub function: u64,
+    pub around: u64,
 }

@@ -10,7 +10,7 @@ use lib.Dec.{T, leb, ltb→lt, leb→le}
 use Rattle.rules.specs.Base.{if_then_else_, all}
 use Rattle.rules.specs.Limits.{Limits, first-limits, max-tree, max-code}
 use Rattle.rules.specs.declared.Refusal.the-variants as refusal
-use Rattle.rules.specs.Answer.{accepted}
+use Rattle.rules.specs.Answer.{accepted, outside, refusal-in}
 use Rattle.rules.specs.Tree.{Stmts}
 use Rattle.rules.specs.Reader.{Read, got, bad}
 use Rattle.rules.specs.TreeFile.{read-tree}
@@ -71,7 +71,7 @@ from-tree limits tree limit fs e = by-length (leb (length tree) max-tree) refl (
     by-read l (bad x) r e = let z : _≡_ {A = ℕ} 0 1 = cc in absurd (omega arith)
 
     by-length : (b : Bool) → leb (length tree) max-tree ≡ b → (r : Read Stmts) → read-tree tree (limits .depth) (limits .funs) ≡ r →
-        (if b then entry.from-read r limit else refused refusal.TreeTooLong) ≡ functions-are fs → From limits tree limit fs
+        (if b then entry.from-read r limit else refused (outside refusal.TreeTooLong)) ≡ functions-are fs → From limits tree limit fs
     by-length true l r e₁ e₂ = by-read (leb→le (length tree) max-tree (rw l tt)) r e₁ e₂
     by-length false l r e₁ e₂ = let z : _≡_ {A = ℕ} 0 1 = cc in absurd (omega arith)
 
@@ -220,7 +220,7 @@ pub record Good (lent : Lent) (r : Left) : Type 0 where
 
 module _ (limits : Limits) (tree : List ℕ) (bytes : Bytes tree) (lent : Lent) where
   pub within-good : compile-within limits tree lent .answer .number ≡ 0 → Good lent (compile-within limits tree lent)
-  unfolding compile-within entry.write-out entry.leaves entry.write-image
+  unfolding compile-within entry.write-out entry.leaves entry.write-image refusal-in
   within-good e = by-compiled (compile-lent limits tree lent) refl e
     where
       by-room : (fs : List ObjectFunction) → compile-lent limits tree lent ≡ functions-are fs → (b : Bool) →
@@ -237,7 +237,7 @@ module _ (limits : Limits) (tree : List ℕ) (bytes : Bytes tree) (lent : Lent) 
       by-compiled : (x : Compiled) → compile-lent limits tree lent ≡ x → entry.write-out lent x .answer .number ≡ 0 →
           Good lent (entry.write-out lent x)
       by-compiled (functions-are fs) e₁ e₂ = by-room fs e₁ (leb (length (image-for lent fs)) (lent .output-bytes)) e₂
-      by-compiled (refused r) e₁ e₂ = absurd (omega (arith, refusal-number r))
+      by-compiled (refused y) e₁ e₂ = absurd (omega (arith, refusal-number (y .what)))
 
 -- for every tree file of bytes and all lent sizes
 pub accepted-good : (tree : List ℕ) → Bytes tree → (lent : Lent) → compile tree lent .answer .number ≡ 0 → Good lent (compile tree lent)

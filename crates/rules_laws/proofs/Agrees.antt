@@ -7,12 +7,13 @@ use lib.Dec.{leb, leb→le, nleb→lt}
 use Rattle.rules.specs.declared.Refusal.the-variants.{CodeFull}
 use Rattle.rules.specs.Tree.{Stmts}
 use Rattle.rules.specs.Compiler as c
-use Rattle.rules.specs.Compiler.{Outcome, err}
-use Rattle.rules_laws.proofs.Peak.{peak, moments-of, peak-fits, peak-full}
+use Rattle.rules.specs.Compiler.{Outcome}
+use Rattle.rules_laws.proofs.Refusals.{Refused-by}
+use Rattle.rules_laws.proofs.Peak.{peak, moments-of, peak-fits, peak-full, full-by-30}
 
 -- under the smaller limit 30, or the same under both
 pub data Under {A : Type 0} (o o′ : Outcome A) : Type 0 where
-  full : o ≡ err CodeFull → Under o o′
+  full : Refused-by CodeFull o → Under o o′
   same : o ≡ o′ → Under o o′
 
 -- for all statements and two limits
@@ -23,4 +24,4 @@ agrees limit limit′ l stmts = by-peak (leb (peak (moments-of stmts)) limit) re
     by-peak true e =
         let p : peak (moments-of stmts) ≤ limit = leb→le (peak (moments-of stmts)) limit (rw e tt) in
         same (peak-fits stmts limit p ∙ sym (peak-fits stmts limit′ (omega arith)))
-    by-peak false e = full (peak-full stmts limit (nleb→lt (peak (moments-of stmts)) limit (rw e tt)))
+    by-peak false e = full (full-by-30 (peak-full stmts limit (nleb→lt (peak (moments-of stmts)) limit (rw e tt))))

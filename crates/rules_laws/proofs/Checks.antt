@@ -11,7 +11,7 @@ use Rattle.rules.specs.Base.{if_then_else_, all, all-below}
 use Rattle.rules.specs.declared.Answer.{Answer}
 use Rattle.rules.specs.declared.Refusal.{Refusal}
 use Rattle.rules.specs.declared.Refusal.the-variants as answer
-use Rattle.rules.specs.Answer.{refusal, accepted}
+use Rattle.rules.specs.Answer.{refusal, accepted, outside, refusal-in}
 use Rattle.rules.specs.Tree.{Stmts}
 use Rattle.rules.specs.Reader.{Read, got, bad}
 use Rattle.rules.specs.TreeFile.{read-tree}
@@ -42,7 +42,7 @@ use Rattle.rules_laws.proofs.Demand3.{demand-3, divides, listing, instr
 -- what comes back from an accepted tree
 pub from-ok : {A : Type 0} (Q : A → Type 0) (o : Outcome A) (a : A) (s : Compiler) → o ≡ ok a s → After (λ a _. Q a) o → Q a
 from-ok Q (ok b s′) a s e h = let z : b ≡ a = cc in subst Q z h
-from-ok Q (err r) a s e h = let z : _≡_ {A = ℕ} 0 1 = cc in absurd (omega arith)
+from-ok Q (err x) a s e h = let z : _≡_ {A = ℕ} 0 1 = cc in absurd (omega arith)
 
 all-apart : (fs : List ObjectFunction) → All (λ (f : ObjectFunction). List ObjectFunction × Counted (f .chunk)) fs →
     T (all (λ (f : ObjectFunction). runs-apart (f .chunk .spans)) fs)
@@ -257,13 +257,13 @@ module _ (limits : Limits) where
     where
       by-outcome : (stmts : Stmts) (o : Outcome (List ObjectFunction)) → c.compile-functions limit stmts ≡ o → entry.from-outcome o ≡ functions-are fs → Q fs
       by-outcome stmts (ok gs s) e₁ e₂ = let z : gs ≡ fs = cc in subst Q z (law stmts gs s e₁)
-      by-outcome stmts (err r) e₁ e₂ = let z : _≡_ {A = ℕ} 0 1 = cc in absurd (omega arith)
+      by-outcome stmts (err x) e₁ e₂ = let z : _≡_ {A = ℕ} 0 1 = cc in absurd (omega arith)
 
       by-read : (r : Read Stmts) → entry.from-read r limit ≡ functions-are fs → Q fs
       by-read (got stmts at) e = by-outcome stmts (c.compile-functions limit stmts) refl e
       by-read (bad r) e = let z : _≡_ {A = ℕ} 0 1 = cc in absurd (omega arith)
 
-      by-length : (b : Bool) (r : Read Stmts) → (if b then entry.from-read r limit else refused answer.TreeTooLong) ≡ functions-are fs → Q fs
+      by-length : (b : Bool) (r : Read Stmts) → (if b then entry.from-read r limit else refused (outside answer.TreeTooLong)) ≡ functions-are fs → Q fs
       by-length true r e = by-read r e
       by-length false r e = let z : _≡_ {A = ℕ} 0 1 = cc in absurd (omega arith)
 
@@ -279,7 +279,7 @@ module _ (limits : Limits) where
   unfolding compile-lent
   from-lent tree lent fs e = by-table (leb (limits .table-bytes) (8 * lent .table-words)) e
     where
-      by-table : (b : Bool) → (if b then compile-tree limits tree (code-limit lent) else refused answer.WorkShort) ≡ functions-are fs →
+      by-table : (b : Bool) → (if b then compile-tree limits tree (code-limit lent) else refused (outside answer.WorkShort)) ≡ functions-are fs →
           compile-tree limits tree (code-limit lent) ≡ functions-are fs
       by-table true e = e
       by-table false e = let z : _≡_ {A = ℕ} 0 1 = cc in absurd (omega arith)
@@ -360,12 +360,12 @@ module _ (lent : Lent) where
 
   -- for all limits, bytes and lent sizes: the answer 0 comes with such an output
   pub within-holds : (limits : Limits) (tree : List ℕ) → compile-within limits tree lent .answer .number ≡ 0 → Holds lent (compile-within limits tree lent)
-  unfolding compile-within entry.write-out entry.leaves
+  unfolding compile-within entry.write-out entry.leaves refusal-in
   within-holds limits tree e = by-compiled (compile-lent limits tree lent) refl e
     where
       by-compiled : (x : Compiled) → compile-lent limits tree lent ≡ x → entry.write-out lent x .answer .number ≡ 0 → Holds lent (entry.write-out lent x)
       by-compiled (functions-are fs) e₁ e₂ = image-holds fs (lent-checked limits tree lent fs e₁) (lent-sound limits tree lent fs e₁) e₂
-      by-compiled (refused r) e₁ e₂ = absurd (omega (arith, refusal-number r))
+      by-compiled (refused y) e₁ e₂ = absurd (omega (arith, refusal-number (y .what)))
 
   pub accepted-holds : (tree : List ℕ) → compile tree lent .answer .number ≡ 0 → Holds lent (compile tree lent)
   accepted-holds tree e = within-holds first-limits tree e

@@ -225,4 +225,4 @@ named limit stmts = after-map (c.compile-functions limit stmts) (layer.whole (Un
   where
     after-map : (o : Outcome (List ObjectFunction)) → After (λ fs _. layer.Whole (Unit {0}) P tt (λ _ k. k) (λ _ k. k) limit (laws limit) fs) o → After (λ fs _. Named fs) o
     after-map (ok fs s) w = whole-named limit fs w
-    after-map (err r) w = tt
+    after-map (err x) w = tt

@@ -248,4 +248,4 @@ demand-3 limit stmts fs s e = of-both (c.compile-functions limit stmts) e (coded
         After (λ gs _. All (λ (f : ObjectFunction). List ObjectFunction × Coded none-known [] gs (f .upvalue-count) (f .chunk)) gs) o →
         After (λ gs _. All (λ (f : ObjectFunction). List ObjectFunction × Counted (f .chunk)) gs) o → T (fits fs)
     of-both (ok gs s′) e h r = let z : gs ≡ fs = cc in subst (λ (hs : List ObjectFunction). T (fits hs)) z (functions-fit gs gs h r)
-    of-both (err r) e h r′ = let z : _≡_ {A = ℕ} 0 1 = cc in absurd (omega arith)
+    of-both (err x) e h r = let z : _≡_ {A = ℕ} 0 1 = cc in absurd (omega arith)

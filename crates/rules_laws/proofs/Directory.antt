@@ -10,8 +10,8 @@ use lib.ListN.{length, length-append, replicate, take, drop}
 use lib.Seq.{take-append-seam, drop-append-seam}
 use lib.Dec.{T, leb, leb→le, le→leb}
 use Rattle.rules.specs.Limits.{Limits}
-use Rattle.rules.specs.declared.Refusal.{Refusal}
-use Rattle.rules.specs.Answer.{refusal}
+use Rattle.rules.specs.declared.Stopped.{Stopped}
+use Rattle.rules.specs.Answer.{refusal, refusal-in}
 use Rattle.rules.specs.Chunk.{ObjectFunction}
 use Rattle.rules.specs.Image.{image-bytes, directory-bytes, image-with}
 use Rattle.rules.specs.Entry as entry
@@ -86,15 +86,15 @@ module _ (limits : Limits) (tree : List ℕ) (lent : Lent) where
   unfolding entry.write-out
   image-so options fs e = given-so options (functions-are fs) e ∙ sym (same-room options lent (image-with (asks-directory options) fs))
 
-  refused-so : (options options′ : ℕ) (r : Refusal) → compile-lent limits tree lent ≡ refused r →
+  refused-so : (options options′ : ℕ) (y : Stopped) → compile-lent limits tree lent ≡ refused y →
       compile-within limits tree (asking options lent) ≡ compile-within limits tree (asking options′ lent)
   unfolding entry.write-out entry.leaves
-  refused-so options options′ r e = given-so options (refused r) e ∙ sym (given-so options′ (refused r) e)
+  refused-so options options′ y e = given-so options (refused y) e ∙ sym (given-so options′ (refused y) e)
 
-  never-0 : (options : ℕ) (r : Refusal) → compile-lent limits tree lent ≡ refused r →
+  never-0 : (options : ℕ) (y : Stopped) → compile-lent limits tree lent ≡ refused y →
       compile-within limits tree (asking options lent) .answer .number ≡ 0 → ⊥
-  unfolding entry.write-out entry.leaves
-  never-0 options r d e = omega (arith, ap (λ (r : Left). r .answer .number) (given-so options (refused r) d), refusal-number r)
+  unfolding entry.write-out entry.leaves refusal-in
+  never-0 options y d e = omega (arith, ap (λ (r : Left). r .answer .number) (given-so options (refused y) d), refusal-number (y .what))
 
   -- of the options one bit counts
   pub one-bit : (options : ℕ) → asks-directory (lent .options) ≡ asks-directory options →
@@ -103,7 +103,7 @@ module _ (limits : Limits) (tree : List ℕ) (lent : Lent) where
     where
       by-compiled : (x : Compiled) → compile-lent limits tree lent ≡ x →
           compile-within limits tree lent ≡ compile-within limits tree (asking options lent)
-      by-compiled (refused r) d = refused-so (lent .options) options r d
+      by-compiled (refused y) d = refused-so (lent .options) options y d
       by-compiled (functions-are fs) d =
           image-so (lent .options) fs d ∙ ap (λ (b : Bool). entry.write-image lent (image-with b fs)) e ∙ sym (image-so options fs d)
 
@@ -120,7 +120,7 @@ module _ (limits : Limits) (tree : List ℕ) (lent : Lent) where
     where
       by-compiled : (x : Compiled) → compile-lent limits tree lent ≡ x →
           compile-within limits tree lent ≡ compile-within limits tree (asking options lent)
-      by-compiled (refused r) d = refused-so (lent .options) options r d
+      by-compiled (refused y) d = refused-so (lent .options) options y d
       by-compiled (functions-are fs) d =
           absurd (either lent (image-with (asks-directory (lent .options)) fs)
           (λ e. n (ap (λ (r : Left). r .answer .number) (image-so (lent .options) fs d) ∙ e))
@@ -200,7 +200,7 @@ module _ (limits : Limits) (tree : List ℕ) (lent : Lent) where
     before-directory e = by-compiled (compile-lent limits tree lent) refl
       where
         by-compiled : (x : Compiled) → compile-lent limits tree lent ≡ x → Before
-        by-compiled (refused r) d = absurd (never-0 (lent .options) r d e)
+        by-compiled (refused y) d = absurd (never-0 (lent .options) y d e)
         by-compiled (functions-are fs) d =
             before-so fs d (fits-only lent (image-bytes fs ++ directory-bytes fs) (sym (ap (λ (r : Left). r .answer .number) (left-so fs d)) ∙ e))
 
@@ -209,5 +209,5 @@ module _ (limits : Limits) (tree : List ℕ) (lent : Lent) where
     full-by-directory e e′ = by-compiled (compile-lent limits tree lent) refl
       where
         by-compiled : (x : Compiled) → compile-lent limits tree lent ≡ x → Adds
-        by-compiled (refused r) d = absurd (never-0 0 r d e′)
+        by-compiled (refused y) d = absurd (never-0 0 y d e′)
         by-compiled (functions-are fs) d = adds-so fs d

@@ -15,7 +15,7 @@ use Rattle.rules_laws.proofs.Impossible.{script-alone}
 -- the functions' code is that of the finished functions and of the script
 abbrev Its-code : Outcome (List ObjectFunction) → Type 0
 Its-code (ok fs t) = sum (of-finished fs) ≡ all-of (lengths t)
-Its-code (err r) = Unit {0}
+Its-code (err x) = Unit {0}
 
 its-code : (limit : ℕ) (stmts : Stmts) → Its-code (c.compile-functions limit stmts)
 unfolding c.compile-functions c._>>_ go-on c.the c.finish
@@ -30,7 +30,7 @@ its-code limit stmts = by-outcome (c.compile-script limit stmts c.new) (script-a
     by-outcome : (o : Outcome (Unit {0})) → After (λ _ t. length (t .parents) ≡ 0) o →
         Its-code (go-on o (λ _. c.the (λ (s : Compiler). s .functions ++ (c.finish (s .ctx) ∷ []))))
     by-outcome (ok a t) e = by-parents t (t .parents) e
-    by-outcome (err r) e = tt
+    by-outcome (err x) e = tt
 
 -- no byte is left out and none is there twice
 pub each-byte-once : (stmts : Stmts) (fs : List ObjectFunction) (t : Compiler) → free-run stmts ≡ ok fs t →

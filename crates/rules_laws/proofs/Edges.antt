@@ -1,6 +1,7 @@
 -- The Rust's limits on jumps, loops, parameters and locals, from both sides, for every state: a step refuses so exactly when its limit is passed. What
--- it does up to there, and that it refuses past it, are Slips' laws; here is that no other way leads to that refusal, and what stands at the edge.
-use mathlib.Core.Path.{_≡_, refl, sym, ap, _∙_}
+-- it does up to there, and that it refuses past it, in the function of that state, are Slips' laws; here is that no other way leads to that refusal, and
+-- what stands at the edge.
+use mathlib.Core.Path.{_≡_, refl, ap, subst, subst⁻¹, _∙_}
 use mathlib.Core.Logic.{_↔_}
 use mathlib.Core.Bool.{Bool, true, false}
 use mathlib.Core.Option.{none}
@@ -20,6 +21,7 @@ use Rattle.rules.specs.Compiler.{Compiler, CompilerCtx, Compile, Outcome, ok, e
 use Rattle.rules.specs.Compiler.{with-ctx, with-chunk}
 use Rattle.rules.proofs.Slips.{near-ahead, too-far-ahead, near-back, too-far-back, with-operand, too-many-params, enough-params, too-many-locals, enough-locals, already-declared}
 use Rattle.rules_laws.proofs.Facts.{with-ops, write-all, loop-bytes}
+use Rattle.rules_laws.proofs.Refusals.{Refused-by}
 use Rattle.rules_laws.proofs.Sizes.{emitted, byte-fits}
 use Rattle.rules_laws.proofs.Spends as spends
 use Rattle.rules_laws.proofs.Spends.{Spends, Ends}
@@ -40,19 +42,19 @@ module _ (x : Refusal) where
   abbrev Never : {A : Type 0} → Compile A → Type 0
   Never m = Spends Nothing Other 0 tt tt 0 m
 
-  never : {A : Type 0} {m : Compile A} → ((s : Compiler) → m s ≡ err x → ⊥) → Never m
+  never : {A : Type 0} {m : Compile A} → ((s : Compiler) → Refused-by x (m s) → ⊥) → Never m
   never {A} {m = m} h = spends.free Nothing Other 0 silent (λ s k j. by-outcome k (m s) (h s))
     where
-      by-outcome : (k : ℕ) (o : Outcome A) → (o ≡ err x → ⊥) → Ends Nothing Other 0 tt k o
+      by-outcome : (k : ℕ) (o : Outcome A) → (Refused-by x o → ⊥) → Ends Nothing Other 0 tt k o
       by-outcome k (ok a t) h = tt
-      by-outcome k (err r) h = λ e. h (ap err e)
+      by-outcome k (err y) h = h
 
-  says : {A : Type 0} {m : Compile A} → Never m → (s : Compiler) → m s ≡ err x → ⊥
+  says : {A : Type 0} {m : Compile A} → Never m → (s : Compiler) → Refused-by x (m s) → ⊥
   says {A} {m = m} h s e = by-outcome (m s) ((h .run) s 0 (omega arith) tt) e
     where
-      by-outcome : (o : Outcome A) → Ends Nothing Other 0 tt 0 o → o ≡ err x → ⊥
-      by-outcome (ok a t) h e = let z : _≡_ {A = ℕ} 0 1 = cc in omega arith
-      by-outcome (err r) h e = h (let z : r ≡ x = cc in z)
+      by-outcome : (o : Outcome A) → Ends Nothing Other 0 tt 0 o → Refused-by x o → ⊥
+      by-outcome (ok a t) h e = e
+      by-outcome (err y) h e = h e
 
   bind : {A B : Type 0} {m : Compile A} {f : A → Compile B} → Never m → ((a : A) → Never (f a)) → Never (c._>>=_ m f)
   bind hm hf = spends.bind Nothing Other 0 silent hm hf
@@ -138,13 +140,12 @@ ahead s at = length (s .ctx .chunk .ops) - 2 - at
 
 module _ (at : ℕ) (span : Span) (s : Compiler) where
   -- exactly when the way from behind the operand to the end of the code is above 65,535
-  pub jump-too-large-exactly : (c.patch-jump at span s ≡ err (JumpTooLarge span)) ↔ (65_535 < ahead s at)
-  jump-too-large-exactly = (λ e. by-test (leb (ahead s at) 65_535) refl e, too-far-ahead at span s)
+  pub jump-too-large-exactly : Refused-by (JumpTooLarge span) (c.patch-jump at span s) ↔ (65_535 < ahead s at)
+  jump-too-large-exactly =
+      (λ e. by-test (leb (ahead s at) 65_535) refl e, λ l. subst⁻¹ (Refused-by (JumpTooLarge span)) (too-far-ahead at span s l) refl)
     where
-      by-test : (b : Bool) → leb (ahead s at) 65_535 ≡ b → c.patch-jump at span s ≡ err (JumpTooLarge span) → 65_535 < ahead s at
-      by-test true t e =
-          let o = near-ahead at span s (leb→le (ahead s at) 65_535 (rw t tt)) in
-          let z : _≡_ {A = ℕ} 0 1 = cc in absurd (omega arith)
+      by-test : (b : Bool) → leb (ahead s at) 65_535 ≡ b → Refused-by (JumpTooLarge span) (c.patch-jump at span s) → 65_535 < ahead s at
+      by-test true t e = absurd (subst (Refused-by (JumpTooLarge span)) (near-ahead at span s (leb→le (ahead s at) 65_535 (rw t tt))) e)
       by-test false t e = nleb→lt (ahead s at) 65_535 (rw t tt)
 
   -- the longest: both of its bytes are 255
@@ -164,19 +165,20 @@ back s start = length (s .ctx .chunk .ops) + 3 - start
 
 module _ (limit start : ℕ) (span : Span) (s : Compiler) where
   -- exactly when the way from behind the LOOP to the loop's start is above 65,535, under every code limit
-  pub loop-too-large-exactly : (c.emit-loop limit start span s ≡ err (JumpTooLarge span)) ↔ (65_535 < back s start)
-  loop-too-large-exactly = (λ e. by-test (leb (back s start) 65_535) refl e, too-far-back limit start span s)
+  pub loop-too-large-exactly : Refused-by (JumpTooLarge span) (c.emit-loop limit start span s) ↔ (65_535 < back s start)
+  loop-too-large-exactly =
+      (λ e. by-test (leb (back s start) 65_535) refl e, λ l. subst⁻¹ (Refused-by (JumpTooLarge span)) (too-far-back limit start span s l) refl)
     where
       writes : (byte : ℕ) → Never (JumpTooLarge span) (c.emit-u8 limit byte span)
       writes byte =
           emit-u8 (JumpTooLarge span) (λ e. let z : _≡_ {A = ℕ} 0 1 = cc in omega arith) (λ _ e. let z : _≡_ {A = ℕ} 0 1 = cc in omega arith) limit byte
           span
 
-      by-test : (b : Bool) → leb (back s start) 65_535 ≡ b → c.emit-loop limit start span s ≡ err (JumpTooLarge span) → 65_535 < back s start
+      by-test : (b : Bool) → leb (back s start) 65_535 ≡ b → Refused-by (JumpTooLarge span) (c.emit-loop limit start span s) → 65_535 < back s start
       by-test true t e =
           absurd (says (JumpTooLarge span) (_⟫_ (JumpTooLarge span) (writes op.LOOP)
           (_⟫_ (JumpTooLarge span) (writes (back s start % 256)) (writes (back s start / 256)))) s
-          (sym (near-back limit start span s (leb→le (back s start) 65_535 (rw t tt))) ∙ e))
+          (subst (Refused-by (JumpTooLarge span)) (near-back limit start span s (leb→le (back s start) 65_535 (rw t tt))) e))
       by-test false t e = nleb→lt (back s start) 65_535 (rw t tt)
 
   -- and up to there it writes LOOP and how far, where the code limit has room for three bytes
@@ -205,11 +207,11 @@ module _ (limit start : ℕ) (span : Span) (s : Compiler) where
 
 -- exactly when there are more than 255, where the body does not refuse so itself, by a function in it
 pub too-many-params-exactly : (limit : ℕ) (type : FunctionType) (name : ℕ) (params : List ℕ) (body : Compile Unit) (span : Span) →
-    ((s : Compiler) → body s ≡ err (TooManyParams span) → ⊥) → (s : Compiler) →
-    (c.compile-function-with limit type name params body span s ≡ err (TooManyParams span)) ↔ (255 < length params)
+    ((s : Compiler) → Refused-by (TooManyParams span) (body s) → ⊥) → (s : Compiler) →
+    Refused-by (TooManyParams span) (c.compile-function-with limit type name params body span s) ↔ (255 < length params)
 unfolding c.begin-ctx
 too-many-params-exactly limit type name params body span own s =
-    (λ e. by-test (leb (length params) 255) refl e, λ l. too-many-params limit type name params body span s (omega arith))
+    (λ e. by-test (leb (length params) 255) refl e, λ l. subst⁻¹ (Refused-by x) (too-many-params limit type name params body span s (omega arith)) refl)
   where
     x : Refusal
     x = TooManyParams span
@@ -229,39 +231,40 @@ too-many-params-exactly limit type name params body span own s =
     locals : (span : Span) → TooManyLocals span ≡ x → ⊥
     locals span e = let z : _≡_ {A = ℕ} 0 1 = cc in omega arith
 
-    begun : (depth : ℕ) (s : Compiler) → c.begin-ctx (c.new-ctx name (length params) type (depth + 1)) s ≡ err x → ⊥
-    begun depth s e = let z : _≡_ {A = ℕ} 0 1 = cc in omega arith
+    begun : (depth : ℕ) (s : Compiler) → Refused-by x (c.begin-ctx (c.new-ctx name (length params) type (depth + 1)) s) → ⊥
+    begun depth s e = e
 
     -- every other part of a function refuses otherwise
-    by-test : (b : Bool) → leb (length params) 255 ≡ b → c.compile-function-with limit type name params body span s ≡ err x → 255 < length params
+    by-test : (b : Bool) → leb (length params) 255 ≡ b → Refused-by x (c.compile-function-with limit type name params body span s) → 255 < length params
     by-test true t e =
         absurd (says x (bind x (the x _) (λ depth. _⟫_ x (never x (begun depth))
         (_⟫_ x (declare-local x again locals _ span)
         (_⟫_ x (define-local x again locals)
         (_⟫_ x (declare-params x again locals params span)
         (_⟫_ x (never x own) (_⟫_ x (implicit-return x full constants limit outside) (end-function x full constants limit span)))))))) s
-        (sym (enough-params limit type name params body span s (leb→le (length params) 255 (rw t tt))) ∙ e))
+        (subst (Refused-by x) (enough-params limit type name params body span s (leb→le (length params) 255 (rw t tt))) e))
     by-test false t e = nleb→lt (length params) 255 (rw t tt)
 
 -- ## 16 TooManyLocals
 
 module _ (name : ℕ) (span : Span) (s : Compiler) where
   -- exactly when 256 stand already and the scope has none of that name; the 256th is declared: Slips `enough-locals`
-  pub too-many-locals-exactly : (c.declare-local name span s ≡ err (TooManyLocals span)) ↔
+  pub too-many-locals-exactly : Refused-by (TooManyLocals span) (c.declare-local name span s) ↔
       ((declared-here (s .ctx .scope-depth) name (s .ctx .locals) ≡ false) × (256 ≤ length (s .ctx .locals)))
-  too-many-locals-exactly =
-      (λ e. by-name (declared-here (s .ctx .scope-depth) name (s .ctx .locals)) refl e, λ p. too-many-locals name span s (p .0) (p .1))
+  too-many-locals-exactly = (
+    λ e. by-name (declared-here (s .ctx .scope-depth) name (s .ctx .locals)) refl e,
+    λ p. subst⁻¹ (Refused-by (TooManyLocals span)) (too-many-locals name span s (p .0) (p .1)) refl,
+  )
     where
       by-count : declared-here (s .ctx .scope-depth) name (s .ctx .locals) ≡ false → (b : Bool) → ltb (length (s .ctx .locals)) 256 ≡ b →
-          c.declare-local name span s ≡ err (TooManyLocals span) → 256 ≤ length (s .ctx .locals)
+          Refused-by (TooManyLocals span) (c.declare-local name span s) → 256 ≤ length (s .ctx .locals)
       by-count d true t e =
-          let o = enough-locals name span s d (ltb→lt (length (s .ctx .locals)) 256 (rw t tt)) in
-          let z : _≡_ {A = ℕ} 0 1 = cc in absurd (omega arith)
+          absurd (subst (Refused-by (TooManyLocals span)) (enough-locals name span s d (ltb→lt (length (s .ctx .locals)) 256 (rw t tt))) e)
       by-count d false t e = nltb→le (length (s .ctx .locals)) 256 (rw t tt)
 
-      by-name : (b : Bool) → declared-here (s .ctx .scope-depth) name (s .ctx .locals) ≡ b → c.declare-local name span s ≡ err (TooManyLocals span) →
+      by-name : (b : Bool) → declared-here (s .ctx .scope-depth) name (s .ctx .locals) ≡ b → Refused-by (TooManyLocals span) (c.declare-local name span s) →
           (declared-here (s .ctx .scope-depth) name (s .ctx .locals) ≡ false) × (256 ≤ length (s .ctx .locals))
       by-name true d e =
-          let o = already-declared name span s d in
+          let r : AlreadyDefined span name ≡ TooManyLocals span = subst (Refused-by (TooManyLocals span)) (already-declared name span s d) e in
           let z : _≡_ {A = ℕ} 0 1 = cc in absurd (omega arith)
       by-name false d e = (d, by-count d (ltb (length (s .ctx .locals)) 256) refl e)

@@ -282,7 +282,7 @@ module _ (limit most top : ℕ) (pays : Pays most) where
             spent = record { levels = i .levels; spent = omega (arith, i .spent, byte-weighs (s .ctx .chunk) b span) };
             last = push-last (s .ctx .chunk .spans) span;
           })
-      by-outcome s i (err r) e = tt
+      by-outcome s i (err x) e = tt
 
   -- a triple for each sum that was spent before is a step that spends
   from-triple : {A : Type 0} {g h n : ℕ} {m : Compile A} → ((k : ℕ) → Triple (J g k) m (λ _. J h (k + n))) → Does g h n m
@@ -290,7 +290,7 @@ module _ (limit most top : ℕ) (pays : Pays most) where
     where
       by-outcome : (k : ℕ) (o : Outcome A) → After (λ _. J h (k + n)) o → Ends J Any top h (k + n) o
       by-outcome k (ok a t) j = j
-      by-outcome k (err r) j = tt
+      by-outcome k (err x) j = tt
 
   emit-u8 : {g : ℕ} (b : ℕ) (span : Span) → Does g g 12 (c.emit-u8 limit b span)
   emit-u8 b span = from-triple (λ k. keeps.so (emit-last k b span) (λ _ s h. h .spent))
@@ -323,7 +323,7 @@ module _ (limit most top : ℕ) (pays : Pays most) where
     where
       widen : (o : Outcome (Unit {0})) → After (λ _. Both span g (k + 10 + 12)) o → After (λ _. Both span g (k + 22)) o
       widen (ok a t) h = record { spent = more (summed held) weigh-all most g (k + 10 + 12) (k + 22) t (omega arith) (h .spent); last = h .last }
-      widen (err r) h = tt
+      widen (err x) h = tt
   place-last s k no-room span i e = tt
 
   constant-last : {g : ℕ} (k : ℕ) (v : Constant) (span : Span) → Triple (J g k) (c.emit-constant limit v span) (λ _. Both span g (k + 22))
@@ -363,7 +363,7 @@ module _ (limit most top : ℕ) (pays : Pays most) where
             reach = omega (arith, i .reach, push-used (t .ctx .chunk .spans) span (i .last));
             last = push-last (t .ctx .chunk .spans) span;
           })
-      by-outcome t i (err r) e = tt
+      by-outcome t i (err x) e = tt
 
   since-pairs : (span : Span) (s : Compiler) (us : List Upvalue) (n : ℕ) →
       Triple (Since span s n) (c.emit-upvalues limit us span) (λ _. Since span s (n + 2 * length us))
@@ -402,7 +402,7 @@ module _ (limit most top : ℕ) (pays : Pays most) where
                   used-most (s .ctx .chunk .spans) span (i .last),
                 );
           }
-      by-outcome s i (err r) h = tt
+      by-outcome s i (err x) h = tt
 
   -- 45 beside the pairs: two bytes, a constant, and a run for the pairs
   emit-closure : {g : ℕ} (k number : ℕ) (us : List Upvalue) (span : Span) →
@@ -436,7 +436,7 @@ module _ (limit most top : ℕ) (pays : Pays most) where
       by-outcome : ((t : Compiler) → t .ctx .locals ≡ xs → J g k t → Ends J Any top g k (c.pop-locals limit xs span t)) → (o : Outcome (Unit {0})) →
           After (λ _ t. t ≡ emitted s b span) o → Ends J Any top g k (go-on o (λ _. rest))
       by-outcome ih (ok a t) e = subst⁻¹ (λ (t : Compiler). Ends J Any top g k (rest t)) e (ih popped refl fits)
-      by-outcome ih (err r) e = tt
+      by-outcome ih (err x) e = tt
 
       by-depth : (d : Bool) → ((t : Compiler) → t .ctx .locals ≡ xs → J g k t → Ends J Any top g k (c.pop-locals limit xs span t)) →
           Ends J Any top g k ((if d then c._>>_ (c.emit-op limit b span) rest else c.done) s)
@@ -463,7 +463,7 @@ module _ (limit most top : ℕ) (pays : Pays most) where
     where
       by-outcome : (o : Outcome (Unit {0})) → After (λ _. J g (k + 12 + 22 + (11 + 3 * length us))) o → Ends J Any top g k′ o
       by-outcome (ok a u) h = more (summed held) weigh-all most g (k + 12 + 22 + (11 + 3 * length us)) k′ u (omega arith) h
-      by-outcome (err r) h = tt
+      by-outcome (err x) h = tt
 
   back-to : {h : ℕ} (g : ℕ) (s : Compiler) (k : ℕ) (ps : List CompilerCtx) (span : Span) → s .parents ≡ ps → g ≡ suc h → g ≤ most → J h k s →
       Ends J Any top g (k + (68 + 3 * pays .at-end)) (go-on (c.back-to ps s) (λ (r : ℕ × List Upvalue). c.emit-closure limit (r .0) (r .1) span))
@@ -514,7 +514,7 @@ module _ (limit most top : ℕ) (pays : Pays most) where
         begin-scope = scaled 0 (omega arith) (open-ones.begin-scope (summed held) weigh-all 48 12 most holds Any (λ r o. tt) top);
         push-class-ctx = λ b. scaled 0 (omega arith) (open-ones.push-class-ctx (summed held) weigh-all 48 12 most holds Any (λ r o. tt) top b);
         pop-class-ctx = scaled 0 (omega arith) (open-ones.pop-class-ctx (summed held) weigh-all 48 12 most holds Any (λ r o. tt) top);
-        begin-ctx = λ name arity depth type up n a. scaled 0 (omega arith)
+        begin-ctx = λ name arity depth type inner up n a. scaled 0 (omega arith)
             (open-ones.begin-ctx (summed held) weigh-all 48 12 most holds Any (λ r o. tt) top name arity depth type (up .0));
         emit-u8 = λ b span n. scaled 12 (omega (arith, pays .some)) (emit-u8 b span);
         emit-constant = λ v span o n. scaled 22 (omega (arith, pays .some)) (emit-constant v span);
@@ -548,7 +548,7 @@ image-most limit most pays stmts directory bound o l = by-outcome (c.compile-scr
           weigh-end (s .functions) (c.finish (s .ctx)),
           with-length directory (s .functions ++ (c.finish (s .ctx) ∷ [])),
         )
-    by-outcome (err r) i = tt
+    by-outcome (err x) i = tt
 
 thrice : (n : ℕ) → times 3 n ≡ 3 * n
 thrice zero = refl

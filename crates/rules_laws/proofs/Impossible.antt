@@ -482,7 +482,7 @@ regroup : {A : Type 0} (o : Outcome A) (f g : A → Compile Unit) (step : Compil
     go-on o f ≡ go-on (go-on o g) (λ _. step)
 unfolding go-on
 regroup (ok a s) f g step h = h a s
-regroup (err r) f g step h = refl
+regroup (err x) f g step h = refl
 
 past : {A : Type 0} (m : Compile A) {n p step : Compile Unit} → Splits n p step → Splits (c._>>_ m n) (c._>>_ m p) step
 unfolding c._>>_

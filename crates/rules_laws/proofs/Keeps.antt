@@ -25,7 +25,7 @@ use Rattle.rules.proofs.Computes as computes
 
 abbrev pub After : {A : Type 0} → (A → Compiler → Type 0) → Outcome A → Type 0
 After Q (ok a s) = Q a s
-After Q (err r) = Unit {0}
+After Q (err x) = Unit {0}
 
 -- from a state with `P`, the step refuses or comes to a value and a state with `Q`
 pub record Triple {A : Type 0} (P : Compiler → Type 0) (m : Compile A) (Q : A → Compiler → Type 0) : Type 0 where
@@ -35,7 +35,7 @@ after : {A B : Type 0} {Q : A → Compiler → Type 0} {R : B → Compiler → T
     After Q o → ((a : A) → Triple (Q a) (f a) R) → After R (go-on o f)
 unfolding go-on
 after (ok a s) f q hf = (hf a) .run s q
-after (err r) f q hf = tt
+after (err x) f q hf = tt
 
 infixl 10 _>>=_
 pub _>>=_ : {A B : Type 0} {P : Compiler → Type 0} {m : Compile A} {Q : A → Compiler → Type 0} {f : A → Compile B} {R : B → Compiler → Type 0} →
@@ -87,7 +87,7 @@ so {A} {Q = Q} {R = R} {m = m} hm h = record { run = λ s p. weaker (m s) (hm .r
   where
     weaker : (o : Outcome A) → After Q o → After R o
     weaker (ok a s) q = h a s q
-    weaker (err r) q = tt
+    weaker (err x) q = tt
 
 pub given : {A : Type 0} {P P′ : Compiler → Type 0} {Q : A → Compiler → Type 0} {m : Compile A} →
     ((s : Compiler) → P s → P′ s) → Triple P′ m Q → Triple P m Q

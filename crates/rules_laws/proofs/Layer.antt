@@ -809,11 +809,11 @@ module _ (K : Type 0) (P : K → Fact) (start : K) (waits backs : ℕ → K → 
       after-map : (o : Outcome (List ObjectFunction)) → After (λ fs _. Whole fs) o →
           After (λ fs _. All (λ (f : ObjectFunction). (opened : List ObjectFunction) × P start opened fs (f .upvalue-count) (f .chunk)) fs) o
       after-map (ok fs s) w = finished-all more [] fs (all-finished fs w)
-      after-map (err r) w = tt
+      after-map (err x) w = tt
 
   pub ordered : (stmts : Stmts) → After (λ fs _. Finished K P start [] fs) (c.compile-functions limit stmts)
   ordered stmts = after-map (c.compile-functions limit stmts) (whole stmts)
     where
       after-map : (o : Outcome (List ObjectFunction)) → After (λ fs _. Whole fs) o → After (λ fs _. Finished K P start [] fs) o
       after-map (ok fs s) w = all-finished fs w
-      after-map (err r) w = tt
+      after-map (err x) w = tt

@@ -37,3 +37,5 @@ pub mod Edges
 pub mod UpTo
 pub mod Impossible
 pub mod EachByte
+pub mod OpenFunctions
+pub mod Located

@@ -1,6 +1,7 @@
 -- 30 by the sentence of document 01: "a byte would take the open functions' code, summed, past the code limit". Beside each step stand here what it does
 -- where no limit is met, and the states of that run right after each byte. The step under a limit does the same, unless in one of these states the
--- open functions' code, summed, is more than the limit: then it is refused by 30. So the limit that a tree needs is the peak of these sums.
+-- open functions' code, summed, is more than the limit: then it is refused by 30, in the function that is innermost in the first such state. So the limit
+-- that a tree needs is the peak of these sums.
 use mathlib.Core.Path.{_≡_, refl, sym, ap, subst, subst⁻¹, _∙_}
 use mathlib.Core.Bool.{Bool, true, false}
 use mathlib.Core.List.{List, [], _∷_, _++_}
@@ -12,15 +13,16 @@ use Rattle.rules.specs.Base.{if_then_else_}
 use Rattle.rules.specs.declared.Span.{Span}
 use Rattle.rules.specs.declared.Refusal.{Refusal}
 use Rattle.rules.specs.declared.Refusal.the-variants.{CodeFull, TooManyConstants}
+use Rattle.rules.specs.declared.Stopped.{Stopped}
 use Rattle.rules.specs.Tree.{Stmts}
 use Rattle.rules.specs.Chunk.{Chunk, Constant, CF, Written, at-place, no-room, write-constant, ObjectFunction}
 use Rattle.rules.specs.Compiler as c
 use Rattle.rules.specs.Compiler.{Compiler, CompilerCtx, Compile, Outcome, ok, err, go-on, Found, at-slot, uninitialized, no-local, Resolved, captured, nowhere, failed, Upvalue, Local, FunctionType}
-use Rattle.rules_laws.proofs.Refusals.{Rusts}
+use Rattle.rules_laws.proofs.Refusals.{Rusts, Refused-by}
 use Rattle.rules_laws.proofs.Steps as steps
 use Rattle.rules_laws.proofs.Steps.{Laws}
 use Rattle.rules_laws.proofs.Trees.{anything, stmts-any}
-use Rattle.rules_laws.proofs.Sizes.{emitted, byte-fits, byte-full, one-more, Placed, placed, Likes, Raised-if, Within, open-code-step}
+use Rattle.rules_laws.proofs.Sizes.{emitted, byte-fits, byte-full, one-more, Placed, placed, Likes, Raised-if, open-code-step}
 use Rattle.rules_laws.proofs.Sizes as sizes
 
 -- ## The run that meets no limit
@@ -49,7 +51,7 @@ pub data Still : Lengths → Lengths → Type 0 where
 -- a run: the states right after each of its bytes, each of which is one more of the innermost function's code, and what it comes to
 pub data Path {A : Type 0} : Lengths → List Compiler → Outcome A → Type 0 where
   comes-to : {x : Lengths} {a : A} {t : Compiler} → Still x (lengths t) → Path x [] (ok a t)
-  refuses : {x : Lengths} {r : Refusal} → Rusts r → Path x [] (err r)
+  refuses : {x : Lengths} {y : Stopped} → Rusts (y .what) → Path x [] (err y)
   byte : {n : ℕ} {x : Lengths} {ls fs : List ℕ} {t : Compiler} {ts : List Compiler} {o : Outcome A} → Still x (n ∷ ls, fs) →
       lengths t ≡ (suc n ∷ ls, fs) →
       Path (lengths t) ts o → Path x (t ∷ ts) o
@@ -63,6 +65,20 @@ abbrev pub peak : List Compiler → ℕ
 peak [] = 0
 peak (t ∷ ts) = max (c.open-code t) (peak ts)
 
+-- the first of these states in which it is more than the limit
+pub data First-above (limit : ℕ) : List Compiler → Compiler → Type 0 where
+  here : {t : Compiler} {ts : List Compiler} → limit < c.open-code t → First-above limit (t ∷ ts) t
+  later : {t u : Compiler} {ts : List Compiler} → c.open-code t ≤ limit → First-above limit ts u → First-above limit (t ∷ ts) u
+
+-- 30, in the function whose byte came to that state
+pub record Full {A : Type 0} (limit : ℕ) (ts : List Compiler) (o : Outcome A) : Type 0 where
+  pub moment : Compiler
+  pub first : First-above limit ts moment
+  pub is : o ≡ err (c.stopped CodeFull moment)
+
+pub full-by-30 : {A : Type 0} {limit : ℕ} {ts : List Compiler} {o : Outcome A} → Full limit ts o → Refused-by CodeFull o
+full-by-30 h = subst⁻¹ (Refused-by CodeFull) (h .is) refl
+
 -- a step, given for every limit
 pub record Counted {A : Type 0} (m : ℕ → Compile A) : Type 0 where
   -- what it does where no limit is met, and the states right after each of its bytes, to its end or its first refusal
@@ -71,13 +87,21 @@ pub record Counted {A : Type 0} (m : ℕ → Compile A) : Type 0 where
   pub path : (s : Compiler) → Path (lengths s) (moments s) (freely s)
   -- under a limit the same, or 30
   pub fits : (limit : ℕ) (s : Compiler) → peak (moments s) ≤ limit → m limit s ≡ freely s
-  pub full : (limit : ℕ) (s : Compiler) → limit < peak (moments s) → m limit s ≡ err CodeFull
+  pub full : (limit : ℕ) (s : Compiler) → limit < peak (moments s) → Full limit (moments s) (m limit s)
 
 -- ## Steps put together
 
 peak-both : (ts us : List Compiler) → peak (ts ++ us) ≡ max (peak ts) (peak us)
 peak-both [] us = omega arith
 peak-both (t ∷ ts) us = omega (arith, peak-both ts us)
+
+first-left : {limit : ℕ} {ts : List Compiler} {t : Compiler} (us : List Compiler) → First-above limit ts t → First-above limit (ts ++ us) t
+first-left us (here l) = here l
+first-left us (later l h) = later l (first-left us h)
+
+first-right : {limit : ℕ} (ts : List Compiler) {us : List Compiler} {t : Compiler} → peak ts ≤ limit → First-above limit us t → First-above limit (ts ++ us) t
+first-right [] l h = h
+first-right (t ∷ ts) l h = later {t = t} (omega arith) (first-right ts (omega arith) h)
 
 still-both : {x y z : Lengths} → Still x y → Still y z → Still x z
 still-both same h = h
@@ -87,7 +111,7 @@ still-both (ended g) h = ended (still-both g h)
 -- what comes after a step, if it comes to something
 abbrev after : {A : Type 0} → Outcome A → (A → Compiler → List Compiler) → List Compiler
 after (ok a t) f = f a t
-after (err r) f = []
+after (err x) f = []
 
 start : {A : Type 0} {x y : Lengths} {ts : List Compiler} {o : Outcome A} → Still x y → Path y ts o → Path x ts o
 start h (comes-to g) = comes-to (still-both h g)
@@ -105,18 +129,23 @@ module _ {A B : Type 0} {m : ℕ → Compile A} {f : ℕ → A → Compile B} (h
   both-fit : (limit : ℕ) (o o′ : Outcome A) → o ≡ o′ → peak (after o′ (λ a. hf a .moments)) ≤ limit → go-on o (f limit) ≡ go-on o′ (λ a. hf a .freely)
   unfolding go-on
   both-fit limit o (ok a t) e l = ap (λ (o : Outcome A). go-on o (f limit)) e ∙ hf a .fits limit t l
-  both-fit limit o (err r) e l = ap (λ (o : Outcome A). go-on o (f limit)) e
+  both-fit limit o (err x) e l = ap (λ (o : Outcome A). go-on o (f limit)) e
 
-  later-full : (limit : ℕ) (o o′ : Outcome A) → o ≡ o′ → limit < peak (after o′ (λ a. hf a .moments)) → go-on o (f limit) ≡ err CodeFull
+  later-full : (limit : ℕ) (ts : List Compiler) (o o′ : Outcome A) → o ≡ o′ → peak ts ≤ limit → limit < peak (after o′ (λ a. hf a .moments)) →
+      Full limit (ts ++ after o′ (λ a. hf a .moments)) (go-on o (f limit))
   unfolding go-on
-  later-full limit o (ok a t) e l = ap (λ (o : Outcome A). go-on o (f limit)) e ∙ hf a .full limit t l
-  later-full limit o (err r) e l = absurd (omega arith)
+  later-full limit ts o (ok a t) e b l =
+      let h = hf a .full limit t l in
+      record { moment = h .moment; first = first-right ts b (h .first); is = ap (λ (o : Outcome A). go-on o (f limit)) e ∙ h .is }
+  later-full limit ts o (err x) e b l = absurd (omega arith)
 
   full-by : (limit : ℕ) (s : Compiler) (b : Bool) → leb (peak (hm .moments s)) limit ≡ b →
-      limit < peak (hm .moments s ++ after (hm .freely s) (λ a. hf a .moments)) → go-on (m limit s) (f limit) ≡ err CodeFull
+      limit < peak (hm .moments s ++ after (hm .freely s) (λ a. hf a .moments)) →
+      Full limit (hm .moments s ++ after (hm .freely s) (λ a. hf a .moments)) (go-on (m limit s) (f limit))
   unfolding go-on
   full-by limit s true e l =
-      later-full limit (m limit s) (hm .freely s) (hm .fits limit s (leb→le (peak (hm .moments s)) limit (rw e tt)))
+      later-full limit (hm .moments s) (m limit s) (hm .freely s) (hm .fits limit s (leb→le (peak (hm .moments s)) limit (rw e tt)))
+      (leb→le (peak (hm .moments s)) limit (rw e tt))
       (omega (
         arith,
         l,
@@ -124,7 +153,8 @@ module _ {A B : Type 0} {m : ℕ → Compile A} {f : ℕ → A → Compile B} (h
         leb→le (peak (hm .moments s)) limit (rw e tt),
       ))
   full-by limit s false e l =
-      ap (λ (o : Outcome A). go-on o (f limit)) (hm .full limit s (nleb→lt (peak (hm .moments s)) limit (rw e tt)))
+      let h = hm .full limit s (nleb→lt (peak (hm .moments s)) limit (rw e tt)) in
+      record { moment = h .moment; first = first-left _ (h .first); is = ap (λ (o : Outcome A). go-on o (f limit)) (h .is) }
 
   bind : Counted (λ limit. c._>>=_ (m limit) (f limit))
   unfolding c._>>=_
@@ -162,7 +192,7 @@ needs true r a h =
     }
 needs false r a h =
     record {
-      freely = λ s. err r;
+      freely = λ s. err (c.stopped r s);
       moments = λ s. [];
       path = λ s. refuses a;
       fits = λ limit s l. refl;
@@ -177,11 +207,11 @@ either false hm hp = hp
 
 abbrev Rests : {A : Type 0} → Compiler → Outcome A → Type 0
 Rests s (ok a t) = Still (lengths s) (lengths t)
-Rests s (err r) = Rusts r
+Rests s (err x) = Rusts (x .what)
 
 rested : {A : Type 0} (s : Compiler) (o : Outcome A) → Rests s o → Path (lengths s) [] o
 rested s (ok a t) h = comes-to h
-rested s (err r) h = refuses h
+rested s (err x) h = refuses h
 
 -- a step that does not know the limit and leaves the lengths, or opens or ends a function
 quiet : {A : Type 0} (m : Compile A) → ((s : Compiler) → Rests s (m s)) → Counted (λ _. m)
@@ -309,7 +339,11 @@ emit-u8 b span =
       moments = λ s. emitted s b span ∷ [];
       path = λ s. byte same (longer s) (comes-to same);
       fits = λ limit s l. byte-fits limit s b span (omega (arith, l, open-code-emitted s b span));
-      full = λ limit s l. byte-full limit s b span (omega (arith, l, open-code-emitted s b span));
+      full = λ limit s l. record {
+        moment = emitted s b span;
+        first = here {t = emitted s b span} (omega (arith, l));
+        is = byte-full limit s b span (omega (arith, l, open-code-emitted s b span));
+      };
     }
   where
     longer : (s : Compiler) → lengths (emitted s b span) ≡ (suc (length (s .ctx .chunk .ops)) ∷ of-open (s .parents), of-finished (s .functions))
@@ -323,7 +357,7 @@ pooled s ch = c.with-ctx s (c.with-chunk (s .ctx) ch)
 
 abbrev place-freely : Written → Span → Compile Unit
 place-freely (at-place place ch) span s = emit-u8 place span .freely (pooled s ch)
-place-freely no-room span s = err (TooManyConstants span)
+place-freely no-room span s = err (c.stopped (TooManyConstants span) s)
 
 abbrev place-moments : Written → Span → Compiler → List Compiler
 place-moments (at-place place ch) span s = emit-u8 place span .moments (pooled s ch)
@@ -342,7 +376,7 @@ place-fits (at-place place ch) span limit s l = emit-u8 place span .fits limit (
 place-fits no-room span limit s l = refl
 
 place-full : (w : Written) (span : Span) (limit : ℕ) (s : Compiler) → limit < peak (place-moments w span s) →
-    c.emit-place limit w span s ≡ err CodeFull
+    Full limit (place-moments w span s) (c.emit-place limit w span s)
 unfolding c.emit-place c._>>_ go-on c.update-ctx c.refuse
 place-full (at-place place ch) span limit s l = emit-u8 place span .full limit (pooled s ch) l
 place-full no-room span limit s l = absurd (omega arith)
@@ -414,7 +448,7 @@ laws =
       begin-scope = begin-scope;
       push-class-ctx = λ b. push-class-ctx b;
       pop-class-ctx = pop-class-ctx;
-      begin-ctx = λ name arity depth type up n a. begin-ctx name arity depth type;
+      begin-ctx = λ name arity depth type inner up n a. begin-ctx name arity depth type;
       emit-u8 = λ b span n. emit-u8 b span;
       emit-constant = λ v span o n. emit-constant v span;
       end-scope = λ span n. end-scope span;
@@ -426,7 +460,7 @@ laws =
 -- `compile-functions`, up to where it starts
 whole : (stmts : Stmts) →
     Counted (λ limit. c._>>_ (c.compile-script limit stmts) (c.the (λ (s : Compiler). s .functions ++ (c.finish (s .ctx) ∷ []))))
-whole stmts = steps.compile-script anything (λ A g h n w m. Counted {A = A} m) laws stmts tt (stmts-any stmts) >> the _
+whole stmts = steps.compile-script anything (λ A g h n w m. Counted {A = A} m) laws stmts 0 (stmts-any stmts 0) >> the _
 
 module _ (stmts : Stmts) where
   -- what the compiler comes to where no limit is met, and the states right after each byte, to the end or the first refusal
@@ -441,23 +475,23 @@ module _ (stmts : Stmts) where
   unfolding free-run moments-of
   run-path = whole stmts .path c.new
 
-  -- the same under every limit that is not below the peak, and 30 under every other
+  -- the same under every limit that is not below the peak, and 30 under every other, in the function whose byte is the first to pass it
   pub peak-fits : (limit : ℕ) → peak moments-of ≤ limit → c.compile-functions limit stmts ≡ free-run
   unfolding c.compile-functions free-run moments-of
   peak-fits limit l = whole stmts .fits limit c.new l
 
-  pub peak-full : (limit : ℕ) → limit < peak moments-of → c.compile-functions limit stmts ≡ err CodeFull
+  pub peak-full : (limit : ℕ) → limit < peak moments-of → Full limit moments-of (c.compile-functions limit stmts)
   unfolding c.compile-functions free-run moments-of
   peak-full limit l = whole stmts .full limit c.new l
 
   -- 30 is no answer of the run that meets no limit
-  pub free-run-not-full : free-run ≡ err CodeFull → ⊥
-  free-run-not-full e = subst Within e (by-path run-path)
+  pub free-run-not-full : Refused-by CodeFull free-run → ⊥
+  free-run-not-full e = by-path run-path e
     where
-      by-path : {x : Lengths} {ts : List Compiler} {o : Outcome (List ObjectFunction)} → Path x ts o → Within o
-      by-path (comes-to h) = tt
-      by-path (refuses a) = a
-      by-path (byte h d p) = by-path p
+      by-path : {x : Lengths} {ts : List Compiler} {o : Outcome (List ObjectFunction)} → Path x ts o → Refused-by CodeFull o → ⊥
+      by-path (comes-to h) e = e
+      by-path (refuses a) e = subst Rusts e a
+      by-path (byte h d p) e = by-path p e
 
 -- ## What is counted
 
@@ -485,7 +519,7 @@ still-all (ended {n} {ls} {fs} h) = omega (arith, still-all h, sum-both fs (n �
 -- a byte adds one to the code of all functions, and nothing else changes how much that is
 abbrev pub Adds-up : {A : Type 0} → Lengths → List Compiler → Outcome A → Type 0
 Adds-up x ts (ok a t) = all-of (lengths t) ≡ all-of x + length ts
-Adds-up x ts (err r) = Unit {0}
+Adds-up x ts (err y) = Unit {0}
 
 pub adds-up : {A : Type 0} {x : Lengths} {ts : List Compiler} {o : Outcome A} → Path x ts o → Adds-up x ts o
 adds-up (comes-to h) = omega (arith, still-all h)
@@ -494,4 +528,4 @@ adds-up {A} {x = x} (byte {n = n} {ls = ls} {fs = fs} {t = t} {ts = ts} {o = o} 
   where
     onward : (o : Outcome A) → Adds-up (lengths t) ts o → Adds-up x (t ∷ ts) o
     onward (ok a u) k = omega (arith, k, still-all h, ap all-of e)
-    onward (err r) k = tt
+    onward (err y) k = tt

@@ -1,5 +1,5 @@
 -- Which refusals come from where, by the table of document 01: 3, 4 and 5 from the reader, 10 to 23 from the Rust's own rules, 30 from the code limit;
--- and their numbers.
+-- and their numbers and fields.
 use mathlib.Core.Path.{_≡_, refl}
 use mathlib.Core.Logic.{_≢_}
 use Prim.Native.Nat.{ℕ, _≤_}
@@ -7,6 +7,7 @@ use native.Mathlib.Omega.{arith}
 use Rattle.rules.specs.declared.Refusal.{Refusal}
 use Rattle.rules.specs.declared.Refusal.the-variants as refusal
 use Rattle.rules.specs.Answer as answer
+use Rattle.rules.specs.Compiler.{Outcome, ok, err}
 
 -- 3, 4 and 5
 abbrev pub Readers : Refusal → Type 0
@@ -146,7 +147,12 @@ compiled-by refusal.ImageRefused h = absurd h
 compiled-by refusal.NoSuchFunction h = absurd h
 compiled-by refusal.NoSuchByte h = absurd h
 
--- ## Numbers
+-- a step refuses so, in whatever function
+abbrev pub Refused-by : {A : Type 0} → Refusal → Outcome A → Type 0
+Refused-by r (ok a s) = ⊥
+Refused-by r (err x) = x .what ≡ r
+
+-- ## Numbers and fields
 
 abbrev pub number-of : Refusal → ℕ
 number-of r = answer.refusal r .number
@@ -232,3 +238,31 @@ no-length (refusal.OutFull needed) n = absurd (n refl)
 no-length refusal.ImageRefused n = refl
 no-length refusal.NoSuchFunction n = refl
 no-length refusal.NoSuchByte n = refl
+
+-- a refusal that is in no function has its own fields alone: the other two are 0
+pub refusal-outside : (r : Refusal) → answer.refusal-in (answer.outside r) ≡ answer.refusal r
+unfolding answer.refusal answer.refusal-in
+refusal-outside refusal.WorkShort = refl
+refusal-outside refusal.TreeTooLong = refl
+refusal-outside (refusal.TreeForm at) = refl
+refusal-outside (refusal.TreeTooDeep at) = refl
+refusal-outside (refusal.TooManyOpen at) = refl
+refusal-outside (refusal.AlreadyDefined span name) = refl
+refusal-outside (refusal.AccessInsideInitializer span name) = refl
+refusal-outside (refusal.ClassInheritFromSelf span name) = refl
+refusal-outside (refusal.JumpTooLarge span) = refl
+refusal-outside (refusal.TooManyArgs span) = refl
+refusal-outside (refusal.TooManyConstants span) = refl
+refusal-outside (refusal.TooManyLocals span) = refl
+refusal-outside (refusal.TooManyParams span) = refl
+refusal-outside (refusal.TooManyUpvalues span) = refl
+refusal-outside (refusal.ReturnInInitializer span) = refl
+refusal-outside (refusal.ReturnOutsideFunction span) = refl
+refusal-outside (refusal.SuperOutsideClass span) = refl
+refusal-outside (refusal.SuperWithoutSuperclass span) = refl
+refusal-outside (refusal.ThisOutsideClass span) = refl
+refusal-outside refusal.CodeFull = refl
+refusal-outside (refusal.OutFull needed) = refl
+refusal-outside refusal.ImageRefused = refl
+refusal-outside refusal.NoSuchFunction = refl
+refusal-outside refusal.NoSuchByte = refl

@@ -1,6 +1,7 @@
 -- Memory: after a refusal the output has only zeros; if one room gives an answer other than 1, 30 and 31, every room at least as large in each size
 -- gives the same answer and the same image, and the output is longer only by zeros; and so do two rooms of which neither is the larger, if both give
--- such an answer. For all limits, trees, options and lent sizes; the same is asked for in both rooms.
+-- such an answer. For all limits, trees, options and lent sizes; the same is asked for in both rooms. The same answer is one with the same fields, the
+-- function that an error is in among them.
 use mathlib.Core.Path.{_≡_, refl, sym, ap, subst, subst⁻¹, _∙_}
 use mathlib.Core.Logic.{_≢_}
 use mathlib.Core.Bool.{Bool, true, false}
@@ -13,17 +14,17 @@ use Rattle.rules.specs.Base.{if_then_else_}
 use Rattle.rules.specs.Limits.{Limits, first-limits, max-tree}
 use Rattle.rules.specs.declared.Answer.{Answer}
 use Rattle.rules.specs.declared.Refusal.the-variants.{WorkShort, TreeTooLong, CodeFull}
-use Rattle.rules.specs.Answer.{refusal}
+use Rattle.rules.specs.Answer.{refusal, outside, refusal-in}
 use Rattle.rules.specs.Tree.{Stmts}
 use Rattle.rules.specs.Reader.{Read, got, bad}
 use Rattle.rules.specs.TreeFile.{read-tree}
 use Rattle.rules.specs.Chunk.{ObjectFunction}
-use Rattle.rules.specs.Compiler.{Outcome}
+use Rattle.rules.specs.Compiler.{Outcome, ok, err}
 use Rattle.rules.specs.Image.{image-with}
 use Rattle.rules.specs.Entry as entry
 use Rattle.rules.specs.Entry.{Lent, Left, asks-directory, code-limit, Compiled, functions-are, refused, compile-tree, compile-lent, compile-within, compile}
 use Rattle.rules_laws.proofs.Checks.{image-for, room}
-use Rattle.rules_laws.proofs.Refusals.{no-length}
+use Rattle.rules_laws.proofs.Refusals.{Refused-by, number-of, no-length}
 use Rattle.rules_laws.proofs.Agrees as agreeing
 use Rattle.rules_laws.proofs.Agrees.{Under, agrees}
 
@@ -41,13 +42,22 @@ larger-limit lent lent′ l = omega (arith, l .code-bytes, l .span-words)
 
 -- ## What the compiler comes to under two limits
 
+-- 30, in whatever function
+abbrev pub Met : Compiled → Type 0
+Met (functions-are fs) = ⊥
+Met (refused y) = y .what ≡ CodeFull
+
 pub data Under-compiled (x x′ : Compiled) : Type 0 where
-  full : x ≡ refused CodeFull → Under-compiled x x′
+  full : Met x → Under-compiled x x′
   same : x ≡ x′ → Under-compiled x x′
 
-from-outcome : {o o′ : Outcome (List ObjectFunction)} → Under o o′ → Under-compiled (entry.from-outcome o) (entry.from-outcome o′)
+met : (o : Outcome (List ObjectFunction)) → Refused-by CodeFull o → Met (entry.from-outcome o)
 unfolding entry.from-outcome
-from-outcome (agreeing.full e) = full (ap entry.from-outcome e)
+met (ok fs s) h = h
+met (err x) h = h
+
+from-outcome : {o o′ : Outcome (List ObjectFunction)} → Under o o′ → Under-compiled (entry.from-outcome o) (entry.from-outcome o′)
+from-outcome {o} (agreeing.full h) = full (met o h)
 from-outcome (agreeing.same e) = same (ap entry.from-outcome e)
 
 from-read : (r : Read Stmts) (limit limit′ : ℕ) → limit ≤ limit′ → Under-compiled (entry.from-read r limit) (entry.from-read r limit′)
@@ -64,8 +74,8 @@ module _ (limits : Limits) (tree : List ℕ) where
       read = read-tree tree (limits .depth) (limits .funs)
 
       by-length : (b : Bool) →
-          Under-compiled (if b then entry.from-read read limit else refused TreeTooLong)
-          (if b then entry.from-read read limit′ else refused TreeTooLong)
+          Under-compiled (if b then entry.from-read read limit else refused (outside TreeTooLong))
+          (if b then entry.from-read read limit′ else refused (outside TreeTooLong))
       by-length true = from-read read limit limit′ l
       by-length false = same refl
 
@@ -82,8 +92,13 @@ refused-leaves-zeros limits tree lent n = by-compiled (compile-lent limits tree 
     by-room image false n = refl
 
     by-compiled : (x : Compiled) → entry.write-out lent x .answer .number ≢ 0 → entry.write-out lent x .output ≡ replicate (lent .output-bytes) 0
-    by-compiled (refused r) n = refl
+    by-compiled (refused y) n = refl
     by-compiled (functions-are fs) n = by-room (image-for lent fs) (leb (length (image-for lent fs)) (lent .output-bytes)) n
+
+met-is-30 : (lent : Lent) (x : Compiled) → Met x → entry.write-out lent x .answer .number ≡ 30
+unfolding entry.write-out entry.leaves refusal refusal-in
+met-is-30 lent (refused y) h = ap number-of h
+met-is-30 lent (functions-are fs) h = absurd h
 
 -- neither 1, 30 nor 31
 abbrev pub Enough : Answer → Type 0
@@ -126,7 +141,7 @@ module _ (lent lent′ : Lent) (larger : Larger lent lent′) where
 
   out-same : (x : Compiled) → entry.write-out lent x .answer .number ≢ 31 → Same lent lent′ (entry.write-out lent x) (entry.write-out lent′ x)
   unfolding entry.write-out entry.leaves
-  out-same (refused r) n =
+  out-same (refused y) n =
       record {
         answer = refl;
         output = zeros (lent′ .output-bytes) (lent .output-bytes) (lent′ .output-bytes - lent .output-bytes)
@@ -138,18 +153,17 @@ module _ (lent lent′ : Lent) (larger : Larger lent lent′) where
 
   out-agrees : (x x′ : Compiled) → Under-compiled x x′ → Enough (entry.write-out lent x .answer) →
       Same lent lent′ (entry.write-out lent x) (entry.write-out lent′ x′)
-  unfolding entry.write-out entry.leaves refusal
-  out-agrees x x′ (full e) n = absurd (n .1 (ap (λ (x : Compiled). entry.write-out lent x .answer .number) e))
+  out-agrees x x′ (full h) n = absurd (n .1 (met-is-30 lent x h))
   out-agrees x x′ (same e) n = subst (λ (x′ : Compiled). Same lent lent′ (entry.write-out lent x) (entry.write-out lent′ x′)) e (out-same x (n .2))
 
   -- room enough is room enough where there is more
   pub more-room-within : (limits : Limits) (tree : List ℕ) → Enough (compile-within limits tree lent .answer) →
       Same lent lent′ (compile-within limits tree lent) (compile-within limits tree lent′)
-  unfolding compile-within compile-lent entry.write-out entry.leaves refusal
+  unfolding compile-within compile-lent entry.write-out entry.leaves refusal refusal-in
   more-room-within limits tree n = by-table (leb (limits .table-bytes) (8 * lent .table-words)) refl n
     where
       table : Lent → Bool → Compiled
-      table lent b = if b then compile-tree limits tree (code-limit lent) else refused WorkShort
+      table lent b = if b then compile-tree limits tree (code-limit lent) else refused (outside WorkShort)
 
       by-larger : (b : Bool) → T b → Enough (entry.write-out lent (table lent true) .answer) →
           Same lent lent′ (entry.write-out lent (table lent true)) (entry.write-out lent′ (table lent′ b))
@@ -204,13 +218,13 @@ module _ (lent lent′ : Lent) where
 
   out-alike : lent .options ≡ lent′ .options → (x : Compiled) → entry.write-out lent x .answer .number ≢ 31 →
       entry.write-out lent′ x .answer .number ≢ 31 → Alike lent lent′ (entry.write-out lent x) (entry.write-out lent′ x)
-  unfolding entry.write-out entry.leaves
-  out-alike o (refused r) n n′ =
+  unfolding entry.write-out entry.leaves refusal-in
+  out-alike o (refused y) n n′ =
       record {
         answer = refl;
         image = [];
-        here = record { says = no-length r n; fits = omega arith; output = all-zeros (lent .output-bytes) };
-        there = record { says = no-length r n; fits = omega arith; output = all-zeros (lent′ .output-bytes) };
+        here = record { says = no-length (y .what) n; fits = omega arith; output = all-zeros (lent .output-bytes) };
+        there = record { says = no-length (y .what) n; fits = omega arith; output = all-zeros (lent′ .output-bytes) };
       }
     where
       all-zeros : (n : ℕ) → replicate {A = ℕ} n 0 ≡ replicate (n - 0) 0
@@ -224,25 +238,25 @@ module _ (lent lent′ : Lent) where
 
 module _ (limits : Limits) (tree : List ℕ) where
   -- past 1, what comes back is what the compiler comes to under the room's code limit
-  has-table : (lent : Lent) → compile-within limits tree lent .answer .number ≢ 1 →
+  pub has-table : (lent : Lent) → compile-within limits tree lent .answer .number ≢ 1 →
       compile-within limits tree lent ≡ entry.write-out lent (compile-tree limits tree (code-limit lent))
-  unfolding compile-within compile-lent entry.write-out entry.leaves refusal
+  unfolding compile-within compile-lent entry.write-out entry.leaves refusal refusal-in
   has-table lent n = by-table (leb (limits .table-bytes) (8 * lent .table-words)) n
     where
       table : Bool → Left
-      table b = entry.write-out lent (if b then compile-tree limits tree (code-limit lent) else refused WorkShort)
+      table b = entry.write-out lent (if b then compile-tree limits tree (code-limit lent) else refused (outside WorkShort))
 
       by-table : (b : Bool) → table b .answer .number ≢ 1 → table b ≡ table true
       by-table true n = refl
       by-table false n = absurd (n refl)
 
   -- of two limits that are not met, what comes back is the same
-  neither-full : (limit limit′ : ℕ) → (compile-tree limits tree limit ≡ refused CodeFull → ⊥) → (compile-tree limits tree limit′ ≡ refused CodeFull → ⊥) →
+  neither-full : (limit limit′ : ℕ) → (Met (compile-tree limits tree limit) → ⊥) → (Met (compile-tree limits tree limit′) → ⊥) →
       compile-tree limits tree limit ≡ compile-tree limits tree limit′
   neither-full limit limit′ n n′ = by-order (leb limit limit′) refl
     where
-      of-under : {x x′ : Compiled} → (x ≡ refused CodeFull → ⊥) → Under-compiled x x′ → x ≡ x′
-      of-under n (full e) = absurd (n e)
+      of-under : {x x′ : Compiled} → (Met x → ⊥) → Under-compiled x x′ → x ≡ x′
+      of-under n (full h) = absurd (n h)
       of-under n (same e) = e
 
       by-order : (b : Bool) → leb limit limit′ ≡ b → compile-tree limits tree limit ≡ compile-tree limits tree limit′
@@ -250,28 +264,27 @@ module _ (limits : Limits) (tree : List ℕ) where
       by-order false e = sym (of-under n′ (tree-agrees limits tree limit′ limit (omega (arith, nleb→lt limit limit′ (rw e tt)))))
 
   full-is-30 : (lent : Lent) → compile-within limits tree lent .answer .number ≢ 1 → compile-within limits tree lent .answer .number ≢ 30 →
-      compile-tree limits tree (code-limit lent) ≡ refused CodeFull → ⊥
-  unfolding entry.write-out entry.leaves refusal
-  full-is-30 lent n₁ n₃₀ e =
-      n₃₀ (ap (λ (r : Left). r .answer .number) (has-table lent n₁) ∙ ap (λ (x : Compiled). entry.write-out lent x .answer .number) e)
+      Met (compile-tree limits tree (code-limit lent)) → ⊥
+  full-is-30 lent n₁ n₃₀ h =
+      n₃₀ (ap (λ (r : Left). r .answer .number) (has-table lent n₁) ∙ met-is-30 lent (compile-tree limits tree (code-limit lent)) h)
 
-  -- if both rooms are enough, both give the same
+  -- if both rooms are enough, what the compiler comes to is the same, whatever is asked for
+  pub one-in-both : (lent lent′ : Lent) → Enough (compile-within limits tree lent .answer) → Enough (compile-within limits tree lent′ .answer) →
+      (x : Compiled) × (compile-within limits tree lent ≡ entry.write-out lent x) × (compile-within limits tree lent′ ≡ entry.write-out lent′ x)
+  one-in-both lent lent′ n n′ = (
+    compile-tree limits tree (code-limit lent),
+    has-table lent (n .0),
+    has-table lent′ (n′ .0)
+        ∙ ap (entry.write-out lent′)
+        (sym (neither-full (code-limit lent) (code-limit lent′) (full-is-30 lent (n .0) (n .1)) (full-is-30 lent′ (n′ .0) (n′ .1)))),
+  )
+
+  -- and both give the same
   pub enough-in-both : (lent lent′ : Lent) → lent .options ≡ lent′ .options →
       Enough (compile-within limits tree lent .answer) → Enough (compile-within limits tree lent′ .answer) →
       Alike lent lent′ (compile-within limits tree lent) (compile-within limits tree lent′)
   enough-in-both lent lent′ o n n′ =
+      let (x, e, e′) = one-in-both lent lent′ n n′ in
       subst (λ (r : Left). Alike lent lent′ r (compile-within limits tree lent′)) (sym e)
       (subst (λ (r′ : Left). Alike lent lent′ (entry.write-out lent x) r′) (sym e′)
       (out-alike lent lent′ o x (subst (λ (r : Left). r .answer .number ≢ 31) e (n .2)) (subst (λ (r : Left). r .answer .number ≢ 31) e′ (n′ .2))))
-    where
-      x : Compiled
-      x = compile-tree limits tree (code-limit lent)
-
-      e : compile-within limits tree lent ≡ entry.write-out lent x
-      e = has-table lent (n .0)
-
-      e′ : compile-within limits tree lent′ ≡ entry.write-out lent′ x
-      e′ =
-          has-table lent′ (n′ .0)
-          ∙ ap (entry.write-out lent′)
-          (sym (neither-full (code-limit lent) (code-limit lent′) (full-is-30 lent (n .0) (n .1)) (full-is-30 lent′ (n′ .0) (n′ .1))))

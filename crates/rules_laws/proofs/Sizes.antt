@@ -44,12 +44,12 @@ byte-fits limit s b span l = by-test (ltb (c.open-code s) limit) (lt→ltb (c.op
     by-test true t = refl
     by-test false t = absurd t
 
-pub byte-full : (limit : ℕ) (s : Compiler) (b : ℕ) (span : Span) → limit < c.open-code s + 1 → c.emit-u8 limit b span s ≡ err CodeFull
+pub byte-full : (limit : ℕ) (s : Compiler) (b : ℕ) (span : Span) → limit < c.open-code s + 1 → c.emit-u8 limit b span s ≡ err (c.stopped CodeFull s)
 unfolding c.emit-u8 c._>>=_ c._>>_ go-on c.the c.need
 byte-full limit s b span l = by-test (ltb (c.open-code s) limit) (λ t. omega (arith, ltb→lt (c.open-code s) limit t))
   where
     by-test : (t : Bool) → (T t → ⊥) →
-        go-on (c.need t CodeFull s) (λ _. c.update-ctx (λ x. c.with-chunk x (write-u8 (x .chunk) b span))) ≡ err CodeFull
+        go-on (c.need t CodeFull s) (λ _. c.update-ctx (λ x. c.with-chunk x (write-u8 (x .chunk) b span))) ≡ err (c.stopped CodeFull s)
     by-test true t = absurd (t tt)
     by-test false t = refl
 
@@ -98,6 +98,8 @@ open-code-reach s n = omega (arith, open-code-of s (s .ctx) (s .parents) n (max 
 -- ## A name that is looked up: at most one variable more is captured by each function, and all of them are carried as one
 
 pub record Like (x x′ : CompilerCtx) : Type 0 where
+  pub name : x′ .name ≡ x .name
+  pub type : x′ .type ≡ x .type
   pub ops : length (x′ .chunk .ops) ≡ length (x .chunk .ops)
   pub locals : length (x′ .locals) ≡ length (x .locals)
   pub pairs : length (x′ .upvalues) ≤ length (x .upvalues) + 1
@@ -109,13 +111,13 @@ Likes (x ∷ xs) [] = ⊥
 Likes (x ∷ xs) (y ∷ ys) = Like x y × Likes xs ys
 
 like-self : (x : CompilerCtx) → Like x x
-like-self x = record { ops = refl; locals = refl; pairs = omega arith }
+like-self x = record { name = refl; type = refl; ops = refl; locals = refl; pairs = omega arith }
 
 likes-self : (xs : List CompilerCtx) → Likes xs xs
 likes-self [] = tt
 likes-self (x ∷ xs) = (like-self x, likes-self xs)
 
-likes-length : (xs ys : List CompilerCtx) → Likes xs ys → length ys ≡ length xs
+pub likes-length : (xs ys : List CompilerCtx) → Likes xs ys → length ys ≡ length xs
 likes-length [] [] h = refl
 likes-length [] (y ∷ ys) h = absurd h
 likes-length (x ∷ xs) [] h = absurd h
@@ -159,7 +161,7 @@ added none u span ctx parent above parents h = by-room (ltb (length (ctx .upvalu
     by-room : (b : Bool) →
         Raised-if ctx (parent ∷ above)
         (if b then captured (length (ctx .upvalues)) (c.with-upvalues ctx (ctx .upvalues ++ (u ∷ []))) parents else failed (TooManyUpvalues span))
-    by-room true = (record { ops = refl; locals = refl; pairs = omega (arith, length-append (ctx .upvalues) (u ∷ [])) }, h)
+    by-room true = (record { name = refl; type = refl; ops = refl; locals = refl; pairs = omega (arith, length-append (ctx .upvalues) (u ∷ [])) }, h)
     by-room false = tt
 
 through : (f : Found) (outer : Resolved) (name : ℕ) (span : Span) (ctx parent : CompilerCtx) (above : List CompilerCtx) →
@@ -167,7 +169,7 @@ through : (f : Found) (outer : Resolved) (name : ℕ) (span : Span) (ctx parent 
 unfolding c.through c.further-out c.add-upvalue
 through (at-slot slot) outer name span ctx parent above o =
     added _ (record { idx = slot; is-local = true }) span ctx parent above (c.with-locals parent (c.capture name (parent .locals)) ∷ above)
-    (record { ops = refl; locals = capture-length name (parent .locals); pairs = omega arith }, likes-self above)
+    (record { name = refl; type = refl; ops = refl; locals = capture-length name (parent .locals); pairs = omega arith }, likes-self above)
 through uninitialized outer name span ctx parent above o = tt
 through no-local (captured idx q qs) name span ctx parent above o =
     added _ (record { idx = idx; is-local = false }) span ctx parent above (q ∷ qs) o
@@ -443,7 +445,7 @@ module _ (limit most top : ℕ) (room : top ≤ limit) where
                     (max (length (s .ctx .chunk .ops) + (all - (0 + all))) (2 * length (s .ctx .upvalues))) 0 (s .parents) (omega arith),
               );
         }
-    closed g (err r) i = i
+    closed g (err x) i = i
 
   back-to : {h : ℕ} (g : ℕ) (s : Compiler) (k : ℕ) (ps : List CompilerCtx) (span : Span) → s .parents ≡ ps → g ≡ suc h → g ≤ most → k + 3 ≤ top →
       J h k s →
@@ -506,7 +508,7 @@ module _ (limit most top : ℕ) (room : top ≤ limit) where
         begin-scope = open-ones.begin-scope reached gone 2 1 most (holds most) Rusts (λ r o. o) top;
         push-class-ctx = λ b. open-ones.push-class-ctx reached gone 2 1 most (holds most) Rusts (λ r o. o) top b;
         pop-class-ctx = open-ones.pop-class-ctx reached gone 2 1 most (holds most) Rusts (λ r o. o) top;
-        begin-ctx = λ name arity depth type up n a. open-ones.begin-ctx reached gone 2 1 most (holds most) Rusts
+        begin-ctx = λ name arity depth type inner up n a. open-ones.begin-ctx reached gone 2 1 most (holds most) Rusts
             (λ r o. o) top name arity depth type (up .0);
         emit-u8 = λ b span n. emit-u8 limit top J (more reached gone most) fits longer pooled b span;
         emit-constant = λ v span o n. emit-constant limit top J (more reached gone most) fits longer pooled v span;
@@ -519,7 +521,7 @@ module _ (limit most top : ℕ) (room : top ≤ limit) where
 -- with such a code limit the compiler gives functions, or refuses by 10 to 23
 abbrev pub Within : Outcome (List ObjectFunction) → Type 0
 Within (ok fs s) = Unit {0}
-Within (err r) = Rusts r
+Within (err x) = Rusts (x .what)
 
 pub within : (limit most : ℕ) (stmts : Stmts) → Of-stmts (fitting most) stmts most → stmts-size stmts + 2 ≤ limit →
     Within (c.compile-functions limit stmts)
@@ -538,4 +540,4 @@ within limit most stmts o room = by-outcome (c.compile-script limit stmts c.new)
     by-outcome : (r : Outcome (Unit {0})) → Ends (λ g k s. Spent reached gone most g k s) Rusts top most (0 + top) r →
         Within (go-on r (λ _. c.the (λ (s : Compiler). s .functions ++ (c.finish (s .ctx) ∷ []))))
     by-outcome (ok a s) i = tt
-    by-outcome (err r) i = i
+    by-outcome (err x) i = i

@@ -13,7 +13,7 @@ use Rattle.rules.specs.Compiler.{Compiler, Compile, Outcome, ok, err, go-on}
 module _ {level : Type 0} (J : level → ℕ → Compiler → Type 0) (Allowed : Refusal → Type 0) (top : ℕ) where
   abbrev pub Ends : {A : Type 0} → level → ℕ → Outcome A → Type 0
   Ends g k (ok a s) = J g k s
-  Ends g k (err r) = Allowed r
+  Ends g k (err x) = Allowed (x .what)
 
   pub record Spends {A : Type 0} (g h : level) (n : ℕ) (m : Compile A) : Type 0 where
     pub run : (s : Compiler) (k : ℕ) → k + n ≤ top → J g k s → Ends h (k + n) (m s)
@@ -21,13 +21,13 @@ module _ {level : Type 0} (J : level → ℕ → Compiler → Type 0) (Allowed :
   module _ (more : (g : level) (k k′ : ℕ) (s : Compiler) → k ≤ k′ → J g k s → J g k′ s) where
     pub ends-more : {A : Type 0} (g : level) (k k′ : ℕ) (o : Outcome A) → k ≤ k′ → Ends g k o → Ends g k′ o
     ends-more g k k′ (ok a s) l h = more g k k′ s l h
-    ends-more g k k′ (err r) l h = h
+    ends-more g k k′ (err x) l h = h
 
     on : {A B : Type 0} (h i : level) (n n′ k : ℕ) (o : Outcome A) (f : A → Compile B) → k + (n + n′) ≤ top → Ends h (k + n) o →
         ((a : A) → Spends h i n′ (f a)) → Ends i (k + (n + n′)) (go-on o f)
     unfolding go-on
     on h i n n′ k (ok a t) f l e hf = ends-more i (k + n + n′) (k + (n + n′)) (f a t) (omega arith) ((hf a) .run t (k + n) (omega arith) e)
-    on h i n n′ k (err r) f l e hf = e
+    on h i n n′ k (err x) f l e hf = e
 
     pub bind : {A B : Type 0} {g h i : level} {n n′ : ℕ} {m : Compile A} {f : A → Compile B} → Spends g h n m → ((a : A) → Spends h i n′ (f a)) →
         Spends g i (n + n′) (c._>>=_ m f)

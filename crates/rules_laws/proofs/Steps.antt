@@ -8,12 +8,12 @@ use mathlib.Core.List.{List, [], _∷_}
 use Prim.Native.Nat.{ℕ, _+_, _*_, _≤_}
 use native.Mathlib.Omega.{arith}
 use lib.ListN.{length}
-use lib.Dec.{T, leb, leb→le}
+use lib.Dec.{T, leb, eqb, leb→le}
 use Rattle.rules.specs.Base.{if_then_else_}
 use Rattle.rules.specs.declared.Span.{Span}
 use Rattle.rules.specs.declared.Refusal.{Refusal}
 use Rattle.rules.specs.Answer.{NO-SPAN}
-use Rattle.rules.specs.Tree.{this-name, super-name}
+use Rattle.rules.specs.Tree.{this-name, super-name, init-name}
 use Rattle.rules.specs.Tree.{Expr, Exprs, ExprAssign, ExprCall, ExprGet, ExprInfix, Literal, ExprPrefix, ExprSet, ExprSuper, ExprVar, []ᵉ, _∷ᵉ_}
 use Rattle.rules.specs.Tree.{OpInfix, Add, Subtract, Multiply, Divide, Less, LessEqual, Greater, GreaterEqual, Equal, NotEqual, LogicAnd, LogicOr}
 use Rattle.rules.specs.Tree.{ExprLiteral, LitBool, LitNil, LitNumber, LitString, Superclass}
@@ -32,6 +32,20 @@ abbrev pub Of-constant : Leaf → Constant → Type 0
 Of-constant l (CN bits) = l .bits bits
 Of-constant l (CS name) = l .name name
 Of-constant l (CF number) = ⊥
+
+-- the type of every function but the script
+abbrev pub Inner : FunctionType → Type 0
+Inner Function = Unit {0}
+Inner Initializer = Unit {0}
+Inner Method = Unit {0}
+Inner Script = ⊥
+
+method-inner : (name : ℕ) → Inner (c.method-type name)
+method-inner name = by-test (eqb name init-name)
+  where
+    by-test : (b : Bool) → Inner (if b then Initializer else Method)
+    by-test true = tt
+    by-test false = tt
 
 module _ (l : Leaf) (R : (A : Type 0) → (from to : l .level) → (code image : ℕ) → (ℕ → Compile A) → Type 0) where
   pub record Laws : Type 1 where
@@ -59,7 +73,7 @@ module _ (l : Leaf) (R : (A : Type 0) → (from to : l .level) → (code image :
     pub begin-scope : {g : l .level} → R _ g g 0 0 (λ _. c.begin-scope)
     pub push-class-ctx : {g : l .level} (b : Bool) → R _ g g 0 0 (λ _. c.push-class-ctx b)
     pub pop-class-ctx : {g : l .level} → R _ g g 0 0 (λ _. c.pop-class-ctx)
-    pub begin-ctx : {g h : l .level} (name arity depth : ℕ) (type : FunctionType) → l .opens g h → l .name name → arity ≤ 255 →
+    pub begin-ctx : {g h : l .level} (name arity depth : ℕ) (type : FunctionType) → Inner type → l .opens g h → l .name name → arity ≤ 255 →
         R _ g h 0 0 (λ _. c.begin-ctx (c.new-ctx name arity type depth))
     -- steps that write: the bytes of a scope's end are paid for where its locals are declared, a closure's pairs where they are captured
     pub emit-u8 : {g : l .level} (b : ℕ) (span : Span) → l .span span → R _ g g 1 12 (λ limit. c.emit-u8 limit b span)
@@ -123,7 +137,7 @@ module _ (l : Leaf) (R : (A : Type 0) → (from to : l .level) → (code image :
       emit-u8 _ _ s
       emit-u8 _ _ s
 
-    emit-op-constant : {g : l .level} (b : ℕ) (v : Constant) (span : Span) → Of-constant l v → l .span span →
+    pub emit-op-constant : {g : l .level} (b : ℕ) (v : Constant) (span : Span) → Of-constant l v → l .span span →
         Has g g 2 34 (λ limit. c.emit-op-constant limit b v span)
     unfolding c.emit-op-constant
     emit-op-constant b v span o s = do
@@ -420,7 +434,7 @@ module _ (l : Leaf) (R : (A : Type 0) → (from to : l .level) → (code image :
               (omega arith) (omega arith)))
         (omega arith) (omega arith)
 
-    define-name : {g : l .level} (name : ℕ) (span : Span) → l .name name → l .span span → Has g g 2 34 (λ limit. c.define-name limit name span)
+    pub define-name : {g : l .level} (name : ℕ) (span : Span) → l .name name → l .span span → Has g g 2 34 (λ limit. c.define-name limit name span)
     unfolding c.define-name
     define-name name span n s = do
       global ← is-global
@@ -479,7 +493,7 @@ module _ (l : Leaf) (R : (A : Type 0) → (from to : l .level) → (code image :
       patch-jump _ _
       emit-op _ _ s
 
-    declare-params : {g : l .level} (ps : List ℕ) (span : Span) →
+    pub declare-params : {g : l .level} (ps : List ℕ) (span : Span) →
         R _ g g (length ps) (12 * length ps) (λ _. c.declare-params ps span)
     unfolding c.declare-params
     declare-params [] span = done
@@ -491,23 +505,23 @@ module _ (l : Leaf) (R : (A : Type 0) → (from to : l .level) → (code image :
           declare-params ps span)
         (omega arith) (omega arith)
 
-    implicit-return : {g : l .level} → Has g g 3 36 (λ limit. c.implicit-return limit)
+    pub implicit-return : {g : l .level} → Has g g 3 36 (λ limit. c.implicit-return limit)
     unfolding c.implicit-return
     implicit-return = do
       ops ← the _
       either (c.ends-in-return ops) (enough done (omega arith) (omega arith)) (compile-return none NO-SPAN tt no-span)
 
     compile-function-with : {g h : l .level} {n w : ℕ} (type : FunctionType) (name : ℕ) (params : List ℕ) {body : ℕ → Compile (Unit {0})}
-        (span : Span) → l .opens g h → R _ h h n w body →
+        (span : Span) → Inner type → l .opens g h → R _ h h n w body →
         l .name name → l .span span →
         R _ g g (length params + n + 7) (12 * length params + w + 116) (λ limit. c.compile-function-with limit type name params (body limit) span)
     unfolding c.compile-function-with
-    compile-function-with type name params span up hb n s =
+    compile-function-with type name params span inner up hb n s =
         needs (leb (length params) 255) _ tt
         (λ t. enough
         (do
           depth ← the _
-          begin-ctx _ _ _ _ up n (leb→le (length params) 255 t)
+          begin-ctx _ _ _ _ inner up n (leb→le (length params) 255 t)
           declare-local _ _
           define-local
           declare-params params _
@@ -569,7 +583,7 @@ module _ (l : Leaf) (R : (A : Type 0) → (from to : l .level) → (code image :
       compile-stmt (StmtFun span f) g o =
           enough
           (do
-            compile-function f (o .1) g _ _ (o .3) (o .2) (o .0)
+            compile-function f (o .1) g Function _ tt (o .3) (o .2) (o .0)
             define-name _ _ (fun-name-of f (o .1) (o .3)) (o .0))
           (omega arith) (omega arith)
       compile-stmt (StmtIf span cond yes-part no-part) g o =
@@ -616,10 +630,10 @@ module _ (l : Leaf) (R : (A : Type 0) → (from to : l .level) → (code image :
             compile-stmts ts g (o .1))
           (omega arith) (omega arith)
 
-      pub compile-function : (f : Fun) (h g : l .level) (type : FunctionType) (span : Span) → Of-fun l f h → l .opens g h → l .span span →
+      pub compile-function : (f : Fun) (h g : l .level) (type : FunctionType) (span : Span) → Inner type → Of-fun l f h → l .opens g h → l .span span →
           Has g g (fun-size f + 1) (17 * fun-size f + 14) (λ limit. c.compile-function limit f type span)
-      compile-function (fun name params body) h g type span o up s =
-          enough (compile-function-with type name params span up (compile-stmts body h (o .2)) (o .0) s) (omega arith) (omega arith)
+      compile-function (fun name params body) h g type span inner o up s =
+          enough (compile-function-with type name params span inner up (compile-stmts body h (o .2)) (o .0) s) (omega arith) (omega arith)
 
       pub compile-methods : (ms : Methods) (g : l .level) → Of-methods l ms g →
           Has g g (methods-size ms) (17 * methods-size ms) (λ limit. c.compile-methods limit ms)
@@ -627,7 +641,7 @@ module _ (l : Leaf) (R : (A : Type 0) → (from to : l .level) → (code image :
       compile-methods (method span f ms) g o =
           enough
           (do
-            compile-function f (o .1) g _ _ (o .3) (o .2) (o .0)
+            compile-function f (o .1) g _ _ (method-inner (c.fun-name f)) (o .3) (o .2) (o .0)
             emit-op-constant _ (CS (c.fun-name f)) _ (fun-name-of f (o .1) (o .3)) (o .0)
             compile-methods ms g (o .4))
           (omega arith) (omega arith)

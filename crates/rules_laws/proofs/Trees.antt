@@ -1,8 +1,9 @@
 -- What a tree is made of: its spans, names and numbers, how deep its functions stand in one another, and how many bytes its records have.
 -- A law of the compiler that asks something of the tree asks it here; `Leaf` says what is asked of each part.
+use mathlib.Core.Path.{_≡_, refl}
 use mathlib.Core.Option.{Option, none, some}
 use mathlib.Core.List.{List, [], _∷_}
-use Prim.Native.Nat.{ℕ, _+_, _*_}
+use Prim.Native.Nat.{ℕ, suc, _+_, _*_}
 use lib.ListN.{length}
 use Rattle.rules.specs.declared.Span.{Span}
 use Rattle.rules.specs.Tree.{Expr, Exprs, ExprAssign, ExprCall, ExprGet, ExprInfix, Literal, ExprPrefix, ExprSet, ExprSuper, ExprVar, []ᵉ, _∷ᵉ_}
@@ -19,9 +20,13 @@ pub record Leaf : Type 1 where
   pub level : Type 0
   pub opens : level → level → Type 0
 
--- nothing is asked
+-- nothing is asked of spans, names and numbers
+abbrev pub any-leaf : (level : Type 0) → (level → level → Type 0) → Leaf
+any-leaf level opens = record { span = λ _. Unit {0}; name = λ _. Unit {0}; bits = λ _. Unit {0}; level = level; opens = opens }
+
+-- nor how deep functions stand in one another: a level says how many are open
 abbrev pub anything : Leaf
-anything = record { span = λ _. Unit {0}; name = λ _. Unit {0}; bits = λ _. Unit {0}; level = Unit {0}; opens = λ _ _. Unit {0} }
+anything = any-leaf ℕ (λ g h. h ≡ suc g)
 
 abbrev pub If-some : {A : Type 0} → (A → Type 0) → Option A → Type 0
 If-some P none = Unit {0}
@@ -80,63 +85,70 @@ module _ (l : Leaf) where
 
 -- ## Every tree is one of which nothing is asked
 
+module _ (level : Type 0) (opens : level → level → Type 0) where
+  abbrev asked : Leaf
+  asked = any-leaf level opens
+
+  literals : (k : ExprLiteral) → Of-literal asked k
+  literals (LitBool b) = tt
+  literals LitNil = tt
+  literals (LitNumber bits) = tt
+  literals (LitString name) = tt
+
+  mutual
+    exprs-any : (es : Exprs) → Of-exprs asked es
+    exprs-any []ᵉ = tt
+    exprs-any (e ∷ᵉ es) = (expr-any e, exprs-any es)
+
+    pub expr-any : (e : Expr) → Of-expr asked e
+    expr-any (ExprAssign span name value) = (tt, tt, expr-any value)
+    expr-any (ExprCall span callee args) = (tt, expr-any callee, exprs-any args)
+    expr-any (ExprGet span name object) = (tt, tt, expr-any object)
+    expr-any (ExprInfix span op lt rt) = (tt, expr-any lt, expr-any rt)
+    expr-any (Literal span literal) = (tt, literals literal)
+    expr-any (ExprPrefix span op rt) = (tt, expr-any rt)
+    expr-any (ExprSet span name value object) = (tt, tt, expr-any value, expr-any object)
+    expr-any (ExprSuper span name) = (tt, tt)
+    expr-any (ExprVar span name) = (tt, tt)
+
 abbrev all-names : (ns : List ℕ) → All (anything .name) ns
 all-names [] = tt
 all-names (n ∷ ns) = (tt, all-names ns)
 
-literals : (k : ExprLiteral) → Of-literal anything k
-literals (LitBool b) = tt
-literals LitNil = tt
-literals (LitNumber bits) = tt
-literals (LitString name) = tt
-
-mutual
-  exprs-any : (es : Exprs) → Of-exprs anything es
-  exprs-any []ᵉ = tt
-  exprs-any (e ∷ᵉ es) = (expr-any e, exprs-any es)
-
-  expr-any : (e : Expr) → Of-expr anything e
-  expr-any (ExprAssign span name value) = (tt, tt, expr-any value)
-  expr-any (ExprCall span callee args) = (tt, expr-any callee, exprs-any args)
-  expr-any (ExprGet span name object) = (tt, tt, expr-any object)
-  expr-any (ExprInfix span op lt rt) = (tt, expr-any lt, expr-any rt)
-  expr-any (Literal span literal) = (tt, literals literal)
-  expr-any (ExprPrefix span op rt) = (tt, expr-any rt)
-  expr-any (ExprSet span name value object) = (tt, tt, expr-any value, expr-any object)
-  expr-any (ExprSuper span name) = (tt, tt)
-  expr-any (ExprVar span name) = (tt, tt)
+any-expr : (e : Expr) → Of-expr anything e
+any-expr e = expr-any ℕ (λ g h. h ≡ suc g) e
 
 option-any : (v : Option Expr) → If-some (Of-expr anything) v
 option-any none = tt
-option-any (some e) = expr-any e
+option-any (some e) = any-expr e
 
 super-any : (v : Option Superclass) → If-some (Of-superclass anything) v
 super-any none = tt
 super-any (some e) = record { span = tt; name = tt }
 
 mutual
-  stmt-any : (t : Stmt) → Of-stmt anything t tt
-  stmt-any (StmtBlock span stmts) = (tt, stmts-any stmts)
-  stmt-any (StmtClass span name sup methods) = (tt, tt, super-any sup, methods-any methods)
-  stmt-any (StmtExpr span value) = (tt, expr-any value)
-  stmt-any (StmtFor span init cond body incr) = (tt, stmts-any init, option-any cond, stmt-any body, option-any incr)
-  stmt-any (StmtFun span f) = (tt, tt, tt, fun-any f)
-  stmt-any (StmtIf span cond yes-part no-part) = (tt, expr-any cond, stmt-any yes-part, stmts-any no-part)
-  stmt-any (StmtPrint span value) = (tt, expr-any value)
-  stmt-any (StmtReturn span value) = (tt, option-any value)
-  stmt-any (StmtVar span name value) = (tt, tt, option-any value)
-  stmt-any (StmtWhile span cond body) = (tt, expr-any cond, stmt-any body)
+  stmt-any : (t : Stmt) (g : ℕ) → Of-stmt anything t g
+  stmt-any (StmtBlock span stmts) g = (tt, stmts-any stmts g)
+  stmt-any (StmtClass span name sup methods) g = (tt, tt, super-any sup, methods-any methods g)
+  stmt-any (StmtExpr span value) g = (tt, any-expr value)
+  stmt-any (StmtFor span init cond body incr) g = (tt, stmts-any init g, option-any cond, stmt-any body g, option-any incr)
+  stmt-any (StmtFun span f) g = (tt, suc g, refl, fun-any f (suc g))
+  stmt-any (StmtIf span cond yes-part no-part) g = (tt, any-expr cond, stmt-any yes-part g, stmts-any no-part g)
+  stmt-any (StmtPrint span value) g = (tt, any-expr value)
+  stmt-any (StmtReturn span value) g = (tt, option-any value)
+  stmt-any (StmtVar span name value) g = (tt, tt, option-any value)
+  stmt-any (StmtWhile span cond body) g = (tt, any-expr cond, stmt-any body g)
 
-  pub stmts-any : (ts : Stmts) → Of-stmts anything ts tt
-  stmts-any []ˢ = tt
-  stmts-any (t ∷ˢ ts) = (stmt-any t, stmts-any ts)
+  pub stmts-any : (ts : Stmts) (g : ℕ) → Of-stmts anything ts g
+  stmts-any []ˢ g = tt
+  stmts-any (t ∷ˢ ts) g = (stmt-any t g, stmts-any ts g)
 
-  fun-any : (f : Fun) → Of-fun anything f tt
-  fun-any (fun name params body) = (tt, all-names params, stmts-any body)
+  pub fun-any : (f : Fun) (g : ℕ) → Of-fun anything f g
+  fun-any (fun name params body) g = (tt, all-names params, stmts-any body g)
 
-  methods-any : (ms : Methods) → Of-methods anything ms tt
-  methods-any []ᵐ = tt
-  methods-any (method span f methods) = (tt, tt, tt, fun-any f, methods-any methods)
+  methods-any : (ms : Methods) (g : ℕ) → Of-methods anything ms g
+  methods-any []ᵐ g = tt
+  methods-any (method span f methods) g = (tt, suc g, refl, fun-any f (suc g), methods-any methods g)
 
 -- ## How many bytes a record has, its children among them
 

@@ -11,8 +11,8 @@ use lib.Dec.{ltb}
 use Rattle.rules.specs.Base.{if_then_else_, position}
 use Rattle.rules.specs.Limits.{max-bits}
 use Rattle.rules.specs.declared.Span.{Span}
-use Rattle.rules.specs.declared.Refusal.{Refusal}
 use Rattle.rules.specs.declared.Refusal.the-variants.{TooManyUpvalues}
+use Rattle.rules.specs.declared.Stopped.{Stopped}
 use Rattle.rules.specs.Tree.{Stmts}
 use Rattle.rules.specs.Chunk.{Chunk, Constant, CN, CS, CF, Run, push-span, same-span, write-u8, Written, at-place, no-room, write-constant, written, same-constant, ObjectFunction}
 use Rattle.rules.specs.Compiler as c
@@ -313,7 +313,7 @@ module _ (limit top : ℕ) where
             (λ s k i. record { ctx = i .ctx; parents = i .parents; functions = i .functions; count = i .count });
         pop-class-ctx =
             spends.free Fit Compilers top more (λ s k i. record { ctx = i .ctx; parents = i .parents; functions = i .functions; count = i .count });
-        begin-ctx = λ name arity depth type up n a. begin-ctx name arity depth type n a;
+        begin-ctx = λ name arity depth type inner up n a. begin-ctx name arity depth type n a;
         emit-u8 = λ b span n. costs 1 (emit-u8 b span n);
         emit-constant = λ v span o n. costs 1 (emit-constant v span (constant-small most v o) n);
         end-scope = λ span n. end-scope span n;
@@ -356,14 +356,14 @@ module _ (limit funs : ℕ) (stmts : Stmts) (o : Of-stmts (fitting funs) stmts f
             some = omega (arith, length-append (s .functions) (c.finish (s .ctx) ∷ []));
             count = omega (arith, i .count, length-append (s .functions) (c.finish (s .ctx) ∷ []));
           }
-      by-outcome (err r) i = tt
+      by-outcome (err x) i = tt
 
   -- and what it refuses by is 10 to 23 or 30
-  pub refuses : (r : Refusal) → c.compile-functions limit stmts ≡ err r → Compilers r
+  pub refuses : (x : Stopped) → c.compile-functions limit stmts ≡ err x → Compilers (x .what)
   unfolding c.compile-functions c._>>_ c.the go-on
-  refuses r e = by-outcome (c.compile-script limit stmts c.new) compiled e
+  refuses x e = by-outcome (c.compile-script limit stmts c.new) compiled e
     where
-      by-outcome : (x : Outcome (Unit {0})) → Ends Fit Compilers top funs (0 + top) x →
-          go-on x (λ _. c.the (λ (s : Compiler). s .functions ++ (c.finish (s .ctx) ∷ []))) ≡ err r → Compilers r
+      by-outcome : (o : Outcome (Unit {0})) → Ends Fit Compilers top funs (0 + top) o →
+          go-on o (λ _. c.the (λ (s : Compiler). s .functions ++ (c.finish (s .ctx) ∷ []))) ≡ err x → Compilers (x .what)
       by-outcome (ok a s) i e = let z : _≡_ {A = ℕ} 0 1 = cc in absurd (omega arith)
-      by-outcome (err x) i e = let z : x ≡ r = cc in subst Compilers z i
+      by-outcome (err y) i e = let z : y ≡ x = cc in subst (λ (x : Stopped). Compilers (x .what)) z i

@@ -20,10 +20,10 @@ abbrev pub spanAt : List Run → ℕ → Answer
 spanAt runs k = span-of (runs-in runs) k
 
 abbrev pub found : Run → Answer
-found r = record { number = 0; at = r .start; end = r .end; name = 0; length = 0 }
+found r = record { number = 0; at = r .start; end = r .end; name = 0; length = 0; function = 0; around = 0 }
 
 abbrev pub noSuchByte : Answer
-noSuchByte = record { number = 42; at = 0; end = 0; name = 0; length = 0 }
+noSuchByte = record { number = 42; at = 0; end = 0; name = 0; length = 0; function = 0; around = 0 }
 
 abbrev pub none : Run
 none = record { start = 0; end = 0; count = 0 }

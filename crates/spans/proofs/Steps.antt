@@ -37,7 +37,7 @@ module _ (words : List ℕ) (at k : ℕ) where
       rw (e, f, add-one, drop-cons words at 0 (omega arith), drop-cons words (suc at) 0 (omega arith), drop-cons words (suc (suc at)) 0 (omega arith)) refl
 
   pub holds : at + 2 < length words → k < getD words (at + 2) 0
-      → record { number = 0; at = getD words at 0; end = getD words (at + 1) 0; name = 0; length = 0 } ≡ left
+      → record { number = 0; at = getD words at 0; end = getD words (at + 1) 0; name = 0; length = 0; function = 0; around = 0 } ≡ left
   unfolding runs-of span-of
   holds h l = rw (three h, lt-ltb _ _ l) refl
 

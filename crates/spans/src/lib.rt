@@ -24,6 +24,8 @@ pub fn span_of_words(words: &[u32], offset: usize) -> Answer
                 end: fields::long32(words[at + 1]),
                 name: 0,
                 length: 0,
+                function: 0,
+                around: 0,
             };
         }
         left -= count;
@@ -61,6 +63,8 @@ pub fn span_of(runs: &[Run], offset: usize) -> Answer
                 end: e,
                 name: 0,
                 length: 0,
+                function: 0,
+                around: 0,
             };
         }
         left = left - n;
@@ -72,5 +76,7 @@ pub fn span_of(runs: &[Run], offset: usize) -> Answer
         end: 0,
         name: 0,
         length: 0,
+        function: 0,
+        around: 0,
     }
 }

@@ -10,8 +10,8 @@ use borrow.Author.Tests.{lt-ltb, le-ltb}
 use Rattle.rules.specs.declared.Span.{Span}
 use Rattle.rules.specs.declared.Refusal.the-variants.{CodeFull, TooManyConstants}
 use Rattle.rules.specs.Chunk.{Chunk, empty-chunk, ObjectFunction, Constant, write-u8, write-constant, Written, at-place, no-room}
-use Rattle.rules.specs.Compiler.{Compiler, Outcome, ok, err, go-on, _>>=_, _>>_, the, need, refuse, update-ctx, with-chunk, with-ctx, open-code, emit-u8, emit-place, emit-constant, emit-op-constant}
-use Rattle.state.specs.Layout.{levels, image-at, constantOf, codeEnd, runsEnd, chunkAt, ctxAt, parentsOf, constants-place, depth-place, code-from-place, runs-from-place, level-words}
+use Rattle.rules.specs.Compiler.{Compiler, Outcome, ok, err, go-on, _>>=_, _>>_, the, need, refuse, update-ctx, with-chunk, with-ctx, open-code, emit-u8, emit-place, emit-constant, emit-op-constant, stopped}
+use Rattle.state.specs.Layout.{levels, image-at, constantOf, codeEnd, runsEnd, chunkAt, ctxAt, parentsOf, constants-place, depth-place, code-from-place, runs-from-place, name-place, level-words}
 use Rattle.state.specs.Contracts.{top-chunk, Wrote, WroteAs, Constants, written-as}
 use Rattle.state.proofs.Laws.{kept-off, ctx-paths, locals-same, upvalues-same, parents-same}
 use Rattle.state.specs.declared.Emitted.{Emitted}
@@ -21,9 +21,9 @@ use Rattle.state.specs.declared.Constanted.the-variants as constanted
 use Rattle.steps.specs.View.{Mem, mem, t-of, Rest, view, Agrees, Fit, code-len, depth-at, Turn, steady, Ahead, Gave, Refused, DidAs, Did}
 use Rattle.steps.specs.declared.Step.{Step}
 use Rattle.steps.specs.declared.Step.the-variants.{Next, Stop}
-use Rattle.steps.proofs.Steps.{went, ahead-then}
+use Rattle.steps.proofs.Steps.{went, ahead-then, refuses-in}
 use Rattle.steps.proofs.Views.{open-is, view-len, still-agrees, ahead-kept, view-chunk}
-use Rattle.steps.specs.Why.{code-full, too-many-constants, refusal-of}
+use Rattle.steps.specs.Why.{code-full, too-many-constants, refusal-of, told}
 
 -- ## A byte
 
@@ -36,7 +36,7 @@ emit-ok : (limit byte : ℕ) (span : Span) (x : Compiler) → open-code x < limi
 unfolding need go-on update-ctx
 emit-ok limit byte span x h = emit-is limit byte span x true (lt-ltb _ _ h)
 
-emit-full : (limit byte : ℕ) (span : Span) (x : Compiler) → limit ≤ open-code x → emit-u8 limit byte span x ≡ err CodeFull
+emit-full : (limit byte : ℕ) (span : Span) (x : Compiler) → limit ≤ open-code x → emit-u8 limit byte span x ≡ err (stopped CodeFull x)
 unfolding need go-on
 emit-full limit byte span x h = emit-is limit byte span x false (le-ltb _ _ h)
 
@@ -92,9 +92,10 @@ module _ (l limit byte : ℕ) (span : Span) (t code spans t′ code′ spans′ 
         };
       }
 
-  pub byte-full : {class : ℕ} → r ≡ emitted.Full → Refused class l (emit-u8 limit byte span) (mem t code spans) code-full
+  pub byte-full : {class : ℕ} → r ≡ emitted.Full → Refused class l (emit-u8 limit byte span) (mem t code spans) (told t′ (code-full l))
   unfolding refusal-of
-  byte-full q = record { refuses = λ rest _. emit-full limit byte span (view (mem t code spans) l rest) (omega (arith, as-full q, open-is t code spans l limit rest (fit .coded))) }
+  byte-full q = refuses-in (code-full l) refl t′ (at l name-place (fit .low) (omega arith))
+      (λ rest _. emit-full limit byte span (view (mem t code spans) l rest) (omega (arith, as-full q, open-is t code spans l limit rest (fit .coded))))
 
 -- a byte more is one more
 out : (x y : Compiler) → _≡_ {A = Outcome Unit} (ok tt x) (ok tt y) → x ≡ y
@@ -106,7 +107,7 @@ unfolding need go-on update-ctx write-u8
 one-more limit byte span s s′ true h e =
     let q : with-ctx s (with-chunk (s .ctx) (write-u8 (s .ctx .chunk) byte span)) ≡ s′ = out _ _ (sym (emit-is limit byte span s true h) ∙ e) in
     ap (λ (x : Compiler). length (x .ctx .chunk .ops)) (sym q) ∙ length-append (s .ctx .chunk .ops) (byte ∷ [])
-one-more limit byte span s s′ false h e = let p : _≡_ {A = Outcome Unit} (err CodeFull) (ok tt s′) = sym (emit-is limit byte span s false h) ∙ e in let z : _≡_ {A = ℕ} 0 1 = cc in absurd (omega arith)
+one-more limit byte span s s′ false h e = let p : _≡_ {A = Outcome Unit} (err (stopped CodeFull s)) (ok tt s′) = sym (emit-is limit byte span s false h) ∙ e in let z : _≡_ {A = ℕ} 0 1 = cc in absurd (omega arith)
 
 -- some rest that agrees, outside of every class
 unmade : ObjectFunction
@@ -138,7 +139,7 @@ place-at : (limit : ℕ) (span : Span) (i : ℕ) (c : Chunk) (x : Compiler) → 
 unfolding emit-place _>>_ update-ctx go-on
 place-at limit span i c x = refl
 
-place-full : (limit : ℕ) (span : Span) (x : Compiler) → emit-place limit no-room span x ≡ err (TooManyConstants span)
+place-full : (limit : ℕ) (span : Span) (x : Compiler) → emit-place limit no-room span x ≡ err (stopped (TooManyConstants span) x)
 unfolding emit-place refuse
 place-full limit span x = refl
 
@@ -179,12 +180,12 @@ module _ (l limit w : ℕ) (span : Span) (t code spans t′ : List ℕ) (r : Con
       now a → Did class limit l n steady (emit-constant limit (constantOf w) span) (mem t code spans) now a
   constant-then i {a = a} q d = record { does = constant-as i a q d }
 
-  pub constant-full : {class : ℕ} → r ≡ constanted.Full → Refused class l (emit-constant limit (constantOf w) span) (mem t code spans) (too-many-constants span)
+  pub constant-full : {class : ℕ} → r ≡ constanted.Full → Refused class l (emit-constant limit (constantOf w) span) (mem t code spans)
+      (told t′ (too-many-constants l span))
   unfolding refusal-of
-  constant-full q = record {
-    refuses = λ rest _. place-is limit span (constantOf w) (view (mem t code spans) l rest) _ (does-as constanted.Full q rest) ∙
-        place-full limit span (view (mem t code spans) l rest);
-  }
+  constant-full q = refuses-in (too-many-constants l span) refl t′ (c .kept .above _ (omega arith)) (λ rest _.
+      place-is limit span (constantOf w) (view (mem t code spans) l rest) _ (does-as constanted.Full q rest) ∙
+      place-full limit span (view (mem t code spans) l rest))
 
 -- the same constant by another name
 pub constant-is : {class limit l n : ℕ} {e : Turn} (span : Span) {k k′ : Constant} {before now : Mem} {r : Step} → k ≡ k′ → Did class limit l n e

@@ -29,6 +29,7 @@ pub fn emit_op(
             number: Why::CODE_FULL,
             span: Span { start: 0, end: 0 },
             name: 0,
+            around: level,
         });
     };
     Step::Next(next)
@@ -75,6 +76,7 @@ pub fn emit_constant(
             number: Why::TOO_MANY_CONSTANTS,
             span,
             name: 0,
+            around: level,
         });
     };
     emit_op(t, code, spans, level, limit, place, span, next)

@@ -74,6 +74,7 @@ pub fn patch_jump(
             number: Why::JUMP_TOO_LARGE,
             span,
             name: 0,
+            around: level,
         });
     }
     let at = from + place;
@@ -102,6 +103,7 @@ pub fn emit_loop(
             number: Why::JUMP_TOO_LARGE,
             span,
             name: 0,
+            around: level,
         });
     }
     let a = emit_op(t, code, spans, level, limit, Op::LOOP, span, next);

@@ -11,21 +11,22 @@ use Rattle.rules.specs.Tree.{this-name}
 use Rattle.rules.specs.declared.Span.{Span}
 use Rattle.rules.specs.declared.Refusal.the-variants.{ThisOutsideClass}
 use Rattle.rules.specs.Compiler.{Compiler, ok, go-on, _>>=_, _>>_, return, refuse, need, get, the, put-ctxs, Found, at-slot, uninitialized, no-local, find-local, Resolved, resolve-upvalue, Place, local-at, upvalue-at, global-named, resolved, resolve, get-place, get-variable}
-use Rattle.state.specs.Layout.{levels, code-end-at, runs-end-at, codeEnd, runsEnd, ctxAt, parentsOf, depth-place}
+use Rattle.state.specs.Layout.{levels, code-end-at, runs-end-at, codeEnd, runsEnd, ctxAt, parentsOf, depth-place, name-place, word}
 use Rattle.state.specs.Contracts.{found, Looked, up-of, Captured}
 use Rattle.state.specs.declared.Slot.{Slot}
 use Rattle.state.specs.declared.Slot.the-variants as slot
 use Rattle.state.specs.declared.Up.{Up}
 use Rattle.state.specs.declared.Up.the-variants as up
-use Rattle.steps.specs.View.{Mem, mem, Rest, view, top-class, Agrees, Fit, steady, Gave, Refused, DidAs, Did, PlacedAs, Placed}
+use Rattle.steps.specs.View.{Mem, mem, t-of, Rest, view, top-class, Agrees, Fit, steady, Gave, Refused, DidAs, Did, PlacedAs, Placed}
 use Rattle.steps.specs.declared.Place.{Place as Answer}
 use Rattle.steps.specs.declared.Place.the-variants.{Local, Upvalue, Global, Nowhere}
 use Rattle.steps.specs.declared.Step.{Step}
 use Rattle.steps.specs.declared.Step.the-variants.{Next, Stop}
+use Rattle.steps.proofs.Steps.{refuses-in}
 use Rattle.steps.proofs.Views.{still-agrees, ahead-named}
 use Rattle.steps.proofs.Jumps.{ahead-none}
 use Rattle.steps.specs.declared.Why.{Why}
-use Rattle.steps.specs.Why.{access-inside-initializer, this-outside-class, too-many-upvalues, refusal-of}
+use Rattle.steps.specs.Why.{access-inside-initializer, this-outside-class, too-many-upvalues, refusal-of, told}
 
 resolve-is : (nm : ℕ) (span : Span) (x : Compiler) (f : Found) (u : Resolved) → find-local nm (x .ctx .locals) ≡ f → resolve-upvalue nm span (x .ctx)
     (x .parents) ≡ u → resolve nm span x ≡ resolved f u nm span x
@@ -50,11 +51,11 @@ module _ (l nm : ℕ) (span : Span) (t t₁ : List ℕ) (s : Slot) (res : Looked
         (stays nm span (mem t code spans) (local-at i) fit (λ rest. resolve-is nm span (view (mem t code spans) l rest) (at-slot i) _ (finds (slot.At i) e code spans rest) refl));
   }
 
-  pub at-unready : s ≡ slot.Unready → Placed l nm span t t₁ (Nowhere (access-inside-initializer span nm))
+  pub at-unready : s ≡ slot.Unready → Placed l nm span t t₁ (Nowhere (access-inside-initializer l span nm))
   unfolding resolved refuse refusal-of
   at-unready e = record {
-    gives = λ class limit code spans fit. record
-        { refuses = λ rest _. resolve-is nm span (view (mem t code spans) l rest) uninitialized _ (finds slot.Unready e code spans rest) refl };
+    gives = λ class limit code spans fit. refuses-in (access-inside-initializer l span nm) refl t₁ (ap (λ (x : List ℕ). word x l name-place) (res .unmarked refl))
+        (λ rest _. resolve-is nm span (view (mem t code spans) l rest) uninitialized _ (finds slot.Unready e code spans rest) refl);
   }
 
   module _ (e : s ≡ slot.Nothing) (t₂ : List ℕ) (u : Up) (cap₁ : Captured t₁ t₂ l nm u) where
@@ -92,30 +93,33 @@ module _ (l nm : ℕ) (span : Span) (t t₁ : List ℕ) (s : Slot) (res : Looked
           (stays nm span (mem t code spans) global-named fit (λ rest. outer up.Nothing q code spans rest));
     }
 
-    pub at-outer-unready : u ≡ up.Unready → Placed l nm span t t₂ (Nowhere (access-inside-initializer span nm))
-    unfolding resolved refuse refusal-of
-    at-outer-unready q = record { gives = λ class limit code spans fit. record { refuses = λ rest _. outer up.Unready q code spans rest } }
+    named : l < levels → word t₂ l name-place ≡ word t l name-place
+    named low = cap .rest l name-place (omega arith) (omega arith) (omega arith)
 
-    pub at-full : u ≡ up.Full → Placed l nm span t t₂ (Nowhere (too-many-upvalues span))
+    pub at-outer-unready : u ≡ up.Unready → Placed l nm span t t₂ (Nowhere (access-inside-initializer l span nm))
     unfolding resolved refuse refusal-of
-    at-full q = record { gives = λ class limit code spans fit. record { refuses = λ rest _. outer up.Full q code spans rest } }
+    at-outer-unready q = record { gives = λ class limit code spans fit. refuses-in (access-inside-initializer l span nm) refl t₂ (named (fit .low)) (λ rest _. outer up.Unready q code spans rest) }
+
+    pub at-full : u ≡ up.Full → Placed l nm span t t₂ (Nowhere (too-many-upvalues l span))
+    unfolding resolved refuse refusal-of
+    at-full q = record { gives = λ class limit code spans fit. refuses-in (too-many-upvalues l span) refl t₂ (named (fit .low)) (λ rest _. outer up.Full q code spans rest) }
 
 -- what is known of a name that was told apart
 module _ (l limit nm : ℕ) (span : Span) (t code spans t′ : List ℕ) (fit : Fit (mem t code spans) l limit) (r : Answer) (p : Placed l nm span t t′ r) where
-  told : (class : ℕ) (x : Answer) → r ≡ x → PlacedAs l nm span t t′ class limit code spans x
-  told class x q = subst (λ (x : Answer). PlacedAs l nm span t t′ class limit code spans x) q (p .gives class limit code spans fit)
+  placed-as : (class : ℕ) (x : Answer) → r ≡ x → PlacedAs l nm span t t′ class limit code spans x
+  placed-as class x q = subst (λ (x : Answer). PlacedAs l nm span t t′ class limit code spans x) q (p .gives class limit code spans fit)
 
   pub is-local : (class i : ℕ) → r ≡ Local i → Gave class limit l steady (resolve nm span) (local-at i) (mem t code spans) (mem t′ code spans)
-  is-local class i q = told class (Local i) q
+  is-local class i q = placed-as class (Local i) q
 
   pub is-upvalue : (class i : ℕ) → r ≡ Upvalue i → Gave class limit l steady (resolve nm span) (upvalue-at i) (mem t code spans) (mem t′ code spans)
-  is-upvalue class i q = told class (Upvalue i) q
+  is-upvalue class i q = placed-as class (Upvalue i) q
 
   pub is-global-name : (class : ℕ) → r ≡ Global → Gave class limit l steady (resolve nm span) global-named (mem t code spans) (mem t′ code spans)
-  is-global-name class q = told class Global q
+  is-global-name class q = placed-as class Global q
 
-  pub is-nowhere : (class : ℕ) (x : Why) → r ≡ Nowhere x → Refused class l (resolve nm span) (mem t code spans) x
-  is-nowhere class x q = told class (Nowhere x) q
+  pub is-nowhere : (class : ℕ) (x : Why) → r ≡ Nowhere x → Refused class l (resolve nm span) (mem t code spans) (told t′ x)
+  is-nowhere class x q = placed-as class (Nowhere x) q
 
 -- ## `this`, which a class must be around
 
@@ -132,9 +136,9 @@ module _ (limit name : ℕ) (span : Span) (class : ℕ) where
       ap (λ (b : Bool). go-on (need (not b) (ThisOutsideClass span) (view (mem t code spans) l rest)) (λ _. resolve name span >>= λ place. get-place limit place name span))
       (ap (λ (x : Bool). eqb name this-name && x) (no-class (rest .classes) ∙ ap (λ (k : ℕ). eqb k 0) (h .innermost)) ∙ e)
 
-  pub lost : (eqb name this-name && eqb class 0) ≡ true → {l : ℕ} (m : Mem) → Refused class l (get-variable limit name span) m (this-outside-class span)
+  pub lost : (eqb name this-name && eqb class 0) ≡ true → {l : ℕ} (m : Mem) → Refused class l (get-variable limit name span) m (told (t-of m) (this-outside-class l span))
   unfolding need go-on refusal-of
-  lost e {l} m = record { refuses = λ rest h. variable-is true e l m rest h }
+  lost e {l} m = refuses-in (this-outside-class l span) refl (t-of m) refl (λ rest h. variable-is true e l m rest h)
 
   module _ (e : (eqb name this-name && eqb class 0) ≡ false) where
     kept-as : {l n : ℕ} {before now : Mem} (r : Step) → Did class limit l n steady (resolve name span >>= λ place. get-place limit place name span) before now r

@@ -31,6 +31,7 @@ pub fn resolve(t: &mut [u64], level: usize, name: u16, span: Span) -> Place
             number: Why::ACCESS_INSIDE_INITIALIZER,
             span,
             name,
+            around: level,
         }),
         state::Slot::Nothing => {}
     }
@@ -42,11 +43,13 @@ pub fn resolve(t: &mut [u64], level: usize, name: u16, span: Span) -> Place
             number: Why::ACCESS_INSIDE_INITIALIZER,
             span,
             name,
+            around: level,
         }),
         state::Up::Full => Place::Nowhere(Why {
             number: Why::TOO_MANY_UPVALUES,
             span,
             name: 0,
+            around: level,
         }),
     }
 }
@@ -80,6 +83,7 @@ pub fn get_variable(
             number: Why::THIS_OUTSIDE_CLASS,
             span,
             name: 0,
+            around: level,
         });
     }
     let place = resolve(t, level, name, span);

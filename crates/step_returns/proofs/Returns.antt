@@ -12,15 +12,15 @@ use Rattle.rules.specs.Answer.{NO-SPAN}
 use Rattle.rules.specs.Op as op
 use Rattle.rules.specs.declared.Span.{Span}
 use Rattle.rules.specs.declared.Refusal.the-variants.{SuperOutsideClass, SuperWithoutSuperclass}
-use Rattle.rules.specs.Compiler.{Compiler, ok, err, go-on, _>>=_, _>>_, done, return, refuse, need, the, innermost-has-super, need-super, ends-in-return, emit-op, emit-op-u8, compile-value, return-value, compile-return, implicit-return}
+use Rattle.rules.specs.Compiler.{Compiler, ok, err, go-on, _>>=_, _>>_, done, return, refuse, need, the, stopped, innermost-has-super, need-super, ends-in-return, emit-op, emit-op-u8, compile-value, return-value, compile-return, implicit-return}
 use Rattle.state.specs.Layout.{row, type-of, codeFrom, codeEnd, chunkAt, ctxAt, type-place, level-words}
 use Rattle.state.proofs.Laws.{row-snoc}
-use Rattle.steps.specs.View.{Mem, mem, Rest, view, top-class, Fit, steady, Refused, DidAs, Did, Told, Judged, Ending}
+use Rattle.steps.specs.View.{Mem, mem, t-of, Rest, view, top-class, Fit, steady, Refused, DidAs, Did, Told, Judged, Ending}
 use Rattle.steps.specs.declared.Step.{Step}
 use Rattle.steps.specs.declared.Step.the-variants.{Next, Stop}
-use Rattle.steps.proofs.Steps.{next, stop}
+use Rattle.steps.proofs.Steps.{next, stop, refuses-in}
 use Rattle.steps.proofs.Jumps.{ahead-none}
-use Rattle.steps.specs.Why.{return-outside-function, super-outside-class, super-without-superclass, refusal-of}
+use Rattle.steps.specs.Why.{return-outside-function, super-outside-class, super-without-superclass, refusal-of, told}
 
 -- ## `super`
 
@@ -28,13 +28,13 @@ needs-is : (span : Span) (m : Mem) (l : ℕ) (rest : Rest) → need-super span (
 unfolding need-super _>>=_ the go-on view
 needs-is span (mem t code spans) l rest = refl
 
-has-none : (cs : List Bool) (span : Span) (x : Compiler) → top-class cs ≡ 0 → innermost-has-super cs span x ≡ err (SuperOutsideClass span)
+has-none : (cs : List Bool) (span : Span) (x : Compiler) → top-class cs ≡ 0 → innermost-has-super cs span x ≡ err (stopped (SuperOutsideClass span) x)
 unfolding innermost-has-super refuse
 has-none [] span x e = refl
 has-none (true ∷ cs) span x e = absurd (omega arith)
 has-none (false ∷ cs) span x e = absurd (omega arith)
 
-has-plain : (cs : List Bool) (span : Span) (x : Compiler) → top-class cs ≡ 1 → innermost-has-super cs span x ≡ err (SuperWithoutSuperclass span)
+has-plain : (cs : List Bool) (span : Span) (x : Compiler) → top-class cs ≡ 1 → innermost-has-super cs span x ≡ err (stopped (SuperWithoutSuperclass span) x)
 unfolding innermost-has-super need
 has-plain [] span x e = absurd (omega arith)
 has-plain (true ∷ cs) span x e = absurd (omega arith)
@@ -46,18 +46,22 @@ has-super [] span x e f = absurd (e refl)
 has-super (true ∷ cs) span x e f = refl
 has-super (false ∷ cs) span x e f = absurd (f refl)
 
-module _ (class n : ℕ) (span : Span) where
-  pub super-outside : class ≡ 0 → Judged class n (need-super span) (Stop (super-outside-class span))
+module _ (class l n : ℕ) (span : Span) where
+  pub super-outside : class ≡ 0 → Judged class l n (need-super span) (Stop (super-outside-class l span))
   unfolding refusal-of
-  super-outside e = record { gives = λ {limit} {l} m fit. stop _ (record { refuses = λ rest h. needs-is span m l rest ∙ has-none (rest .classes) span (view m l rest) (h .innermost ∙ e) }) }
+  super-outside e = record {
+    gives = λ m fit. stop _ (refuses-in (super-outside-class l span) refl (t-of m) refl (λ rest h. needs-is span m l rest ∙ has-none (rest .classes) span (view m l rest) (h .innermost ∙ e)));
+  }
 
-  pub super-without : class ≡ 1 → Judged class n (need-super span) (Stop (super-without-superclass span))
+  pub super-without : class ≡ 1 → Judged class l n (need-super span) (Stop (super-without-superclass l span))
   unfolding refusal-of
-  super-without e = record { gives = λ {limit} {l} m fit. stop _ (record { refuses = λ rest h. needs-is span m l rest ∙ has-plain (rest .classes) span (view m l rest) (h .innermost ∙ e) }) }
+  super-without e = record {
+    gives = λ m fit. stop _ (refuses-in (super-without-superclass l span) refl (t-of m) refl (λ rest h. needs-is span m l rest ∙ has-plain (rest .classes) span (view m l rest) (h .innermost ∙ e)));
+  }
 
-  pub super-there : (class ≡ 0 → ⊥) → (class ≡ 1 → ⊥) → Judged class n (need-super span) (Next n)
+  pub super-there : (class ≡ 0 → ⊥) → (class ≡ 1 → ⊥) → Judged class l n (need-super span) (Next n)
   super-there e f = record {
-    gives = λ {limit} {l} m fit. next (record {
+    gives = λ m fit. next (record {
       comes = λ rest h. needs-is span m l rest ∙ has-super (rest .classes) span (view m l rest) (λ z. e (sym (h .innermost) ∙ z)) (λ z. f (sym (h .innermost) ∙ z));
       agrees = λ rest h. h;
       ahead = ahead-none fit;
@@ -112,9 +116,10 @@ pub told-type : {class : ℕ} (t code spans : List ℕ) (l : ℕ) → Told class
 unfolding the view ctxAt
 told-type t code spans l = record { says = λ rest h. refl }
 
-pub no-return : {class l : ℕ} (kind limit : ℕ) (span : Span) {m : Mem} → kind ≡ 0 → Refused class l (return-value limit (type-of kind) none span) m (return-outside-function span)
+pub no-return : {class l : ℕ} (kind limit : ℕ) (span : Span) {m : Mem} → kind ≡ 0 → Refused class l (return-value limit (type-of kind) none span) m
+    (told (t-of m) (return-outside-function l span))
 unfolding type-of return-value refuse refusal-of
-no-return {l = l} kind limit span {m} e = record { refuses = λ rest h. ap (λ (k : ℕ). return-value limit (type-of k) none span (view m l rest)) e }
+no-return {l = l} kind limit span {m} e = refuses-in (return-outside-function l span) refl (t-of m) refl (λ rest h. ap (λ (k : ℕ). return-value limit (type-of k) none span (view m l rest)) e)
 
 -- the implicit one, by the last byte
 implicit-is : (limit : ℕ) (x : Compiler) (b : Bool) → ends-in-return (x .ctx .chunk .ops) ≡ b → implicit-return limit x ≡ (if b then done else compile-return limit none NO-SPAN) x

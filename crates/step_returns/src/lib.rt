@@ -25,14 +25,15 @@ const INITIALIZER: u64 = Kind::INITIALIZER as u64;
 const SCRIPT_NAME: u64 = Name::SCRIPT as u64;
 
 // `super`, which a class with a superclass must be around.
-pub fn need_super(class: u8, span: Span, next: usize) -> Step
-    ensures { λ r. ⌜ Judged class next (need-super span) r ⌝ }
+pub fn need_super(level: usize, class: u8, span: Span, next: usize) -> Step
+    ensures { λ r. ⌜ Judged class level next (need-super span) r ⌝ }
 {
     if class == Class::NONE {
         return Step::Stop(Why {
             number: Why::SUPER_OUTSIDE_CLASS,
             span,
             name: 0,
+            around: level,
         });
     }
     if class == Class::ALONE {
@@ -40,6 +41,7 @@ pub fn need_super(class: u8, span: Span, next: usize) -> Step
             number: Why::SUPER_WITHOUT_SUPERCLASS,
             span,
             name: 0,
+            around: level,
         });
     }
     Step::Next(next)
@@ -97,6 +99,7 @@ pub fn return_nothing(
             number: Why::RETURN_OUTSIDE_FUNCTION,
             span,
             name: 0,
+            around: level,
         });
     }
     let a = emit_nothing(t, code, spans, level, limit, kind, span, next);

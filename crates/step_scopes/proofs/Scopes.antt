@@ -13,22 +13,22 @@ use Rattle.rules.specs.declared.Span.{Span}
 use Rattle.rules.specs.Compiler.{Local, CompilerCtx, Compiler, with-ctx, with-locals, with-scope-depth, Outcome, ok, Compile, go-on, _>>=_, _>>_, done, return, the, update-ctx, declare-local, define-local, is-global, begin-scope, begin-ctx, emit-u8, emit-op, pop-locals, end-scope, end-ctx, back-to}
 use Rattle.rules.proofs.Slips as slips
 use Rattle.rules.proofs.Slips.{enough-locals, already-declared}
-use Rattle.state.specs.Layout.{levels, stack, localOf, localsOf, codeEnd, runsEnd, ctxAt, codeFrom, runsFrom, upvaluesOf, parentsOf, Wf, upvalues-place, depth-place, code-from-place, runs-from-place, level-words, local-count-place}
+use Rattle.state.specs.Layout.{levels, stack, localOf, localsOf, codeEnd, runsEnd, ctxAt, codeFrom, runsFrom, upvaluesOf, parentsOf, Wf, upvalues-place, depth-place, code-from-place, runs-from-place, name-place, level-words, local-count-place, word}
 use Rattle.state.specs.Contracts.{DeclaredAs, DeclaredAt, DefinedAt, Moved, Began, Wrote, Dropped, Closed}
 use Rattle.state.specs.declared.Declared.{Declared}
 use Rattle.state.specs.declared.Declared.the-variants as decl
 use Rattle.state.specs.declared.Emitted.{Emitted}
 use Rattle.state.specs.declared.Emitted.the-variants as emitted
 use Rattle.state.proofs.Laws.{kept-off, locals-same, ctx-same, parents-named}
-use Rattle.steps.specs.View.{Mem, mem, Rest, view, Agrees, Fit, depth-at, Turn, steady, deeper, shallower, Gave, Refused, Changed, Tried, Asked, pops, Passing, PoppedAt, Entered, Left, finished}
+use Rattle.steps.specs.View.{Mem, mem, t-of, Rest, view, Agrees, Fit, depth-at, Turn, steady, deeper, shallower, Gave, Refused, Changed, Tried, Asked, pops, Passing, PoppedAt, Entered, Left, finished}
 use Rattle.steps.specs.declared.Step.the-variants.{Next, Stop}
 use Rattle.steps.specs.declared.Popped.{Popped}
 use Rattle.steps.specs.declared.Popped.the-variants as popped
-use Rattle.steps.proofs.Steps.{next, stop, ahead-then, gave-seq, refused-seq, gave-refused-seq}
+use Rattle.steps.proofs.Steps.{next, stop, refuses-in, ahead-then, gave-seq, refused-seq, gave-refused-seq}
 use Rattle.steps.proofs.Views.{still-agrees, ahead-named, ahead-kept, view-locals, view-scope}
 use Rattle.step_bytes.proofs.Bytes.{byte-gave, byte-full}
 use Rattle.steps.proofs.Jumps.{ahead-none}
-use Rattle.steps.specs.Why.{already-defined, code-full, too-many-locals, refusal-of}
+use Rattle.steps.specs.Why.{already-defined, code-full, too-many-locals, refusal-of, told}
 
 -- ## The scope depth
 
@@ -72,15 +72,20 @@ module _ (l n name : ℕ) (span : Span) (t t′ : List ℕ) (r : Declared) (w : 
   does-as : (s : Declared) → r ≡ s → DeclaredAs t t′ l name s
   does-as s q = subst (λ (s : Declared). DeclaredAs t t′ l name s) q (w .does)
 
-  pub declared-again : r ≡ decl.Already → Tried l n steady (declare-local name span) t t′ (Stop (already-defined span name))
-  unfolding view ctxAt refusal-of
-  declared-again q = record { gives = λ code spans fit. stop _ (record { refuses = λ rest _. already-declared name span (view (mem t code spans) l rest) (does-as decl.Already q) }) }
+  named : word t′ l name-place ≡ word t l name-place
+  named = w .kept .above _ (omega arith)
 
-  pub declared-full : r ≡ decl.Full → Tried l n steady (declare-local name span) t t′ (Stop (too-many-locals span))
+  pub declared-again : r ≡ decl.Already → Tried l n steady (declare-local name span) t t′ (Stop (already-defined l span name))
+  unfolding view ctxAt refusal-of
+  declared-again q = record {
+    gives = λ code spans fit. stop _ (refuses-in (already-defined l span name) refl t′ named (λ rest _. already-declared name span (view (mem t code spans) l rest) (does-as decl.Already q)));
+  }
+
+  pub declared-full : r ≡ decl.Full → Tried l n steady (declare-local name span) t t′ (Stop (too-many-locals l span))
   unfolding view ctxAt refusal-of
   declared-full q = record {
-    gives = λ code spans fit. stop _
-        (record { refuses = λ rest _. slips.too-many-locals name span (view (mem t code spans) l rest) (does-as decl.Full q .0) (does-as decl.Full q .1) });
+    gives = λ code spans fit. stop _ (refuses-in (too-many-locals l span) refl t′ named
+        (λ rest _. slips.too-many-locals name span (view (mem t code spans) l rest) (does-as decl.Full q .0) (does-as decl.Full q .1)));
   }
 
   pub declared-new : r ≡ decl.Done → Tried l n steady (declare-local name span) t t′ (Next n)
@@ -169,9 +174,9 @@ module _ (l limit : ℕ) (span : Span) (t code spans : List ℕ) (fit : Fit (mem
 
     module _ (deep : getD t (l * level-words + depth-place) 0 < newest .depth) (byte : ℕ) (is : byte ≡ dropping newest) (t₁ code₁ spans₁ : List ℕ) (r : Emitted)
         (w : Wrote t code spans t₁ code₁ spans₁ l limit byte span r) where
-      pub popped-full : (now : Mem) → r ≡ emitted.Full → PoppedAt limit l span (mem t code spans) now popped.Full
+      pub popped-full : r ≡ emitted.Full → PoppedAt limit l span (mem t code spans) (mem t₁ code₁ spans₁) popped.Full
       unfolding view ctxAt emit-op
-      popped-full now q = record {
+      popped-full q = record {
         does = λ class. record {
           refuses = λ rest h. pop-more limit span (view (mem t code spans) l rest) newest _ peel deep
               ∙ ap (λ (b : ℕ). (emit-u8 limit b span >> (update-ctx
@@ -251,7 +256,7 @@ module _ (l limit d : ℕ) (span : Span) (t code spans t₁ : List ℕ) (fit : F
         ahead = ahead-then (p .ahead) (g .ahead);
       })
 
-  pub ended-full : (now : Mem) → PoppedAt limit l span mid now popped.Full → {class : ℕ} → Refused class l (end-scope limit span) (mem t code spans) code-full
+  pub ended-full : (now : Mem) → PoppedAt limit l span mid now popped.Full → {class : ℕ} → Refused class l (end-scope limit span) (mem t code spans) (told (t-of now) (code-full l))
   unfolding end-scope refusal-of
   ended-full now h {class} = gave-refused-seq (lowered l d t t₁ w q code spans fit) _ (record { refuses = λ rest a. p .same rest a ∙ h .does class .refuses rest (p .agrees rest a) })
 

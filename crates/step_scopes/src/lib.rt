@@ -40,11 +40,13 @@ pub fn declare_local(t: &mut [u64], level: usize, name: u16, span: Span, next: u
             number: Why::ALREADY_DEFINED,
             span,
             name,
+            around: level,
         }),
         state::Declared::Full => Step::Stop(Why {
             number: Why::TOO_MANY_LOCALS,
             span,
             name: 0,
+            around: level,
         }),
     }
 }
@@ -117,6 +119,7 @@ pub fn end_scope(
                 number: Why::CODE_FULL,
                 span: Span { start: 0, end: 0 },
                 name: 0,
+                around: level,
             }),
             Popped::More => {}
         }

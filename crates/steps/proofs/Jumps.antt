@@ -7,7 +7,7 @@ use native.Mathlib.Nat.{not-suc-le-zero, le-refl}
 use lib.ListN.{length, getD, set, length-set}
 use lib.Seq.{getD-set-same, getD-set-other}
 use Rattle.rules.specs.declared.Span.{Span}
-use Rattle.steps.specs.Why.{jump-too-large, refusal-of}
+use Rattle.steps.specs.Why.{jump-too-large, refusal-of, told}
 use Rattle.rules.specs.Compiler.{ok, go-on, _>>=_, the, return, code-length, set-u16, patch-jump}
 use Rattle.rules.proofs.Slips.{with-operand, near-ahead, too-far-ahead}
 use Rattle.state.specs.Layout.{row, constantsOf, codeFrom, codeEnd, runsEnd, chunkAt, ctxAt, parentsOf}
@@ -15,6 +15,7 @@ use Rattle.state.proofs.Laws.{row-cong, chunk-paths, ctx-paths, parents-same}
 use Rattle.steps.specs.View.{Mem, mem, Rest, view, Fit, code-len, depth-at, steady, Ahead, Gave, Refused, Opened, Told, Measured}
 use Rattle.steps.specs.declared.Step.the-variants.{Next}
 use Rattle.steps.proofs.Views.{view-len}
+use Rattle.steps.proofs.Steps.{refuses-in}
 
 -- ## How much code there is
 
@@ -124,6 +125,6 @@ module _ {limit : ℕ} (l place d : ℕ) (span : Span) (t code spans : List ℕ)
         };
       }
 
-  pub far : {class : ℕ} → 65535 < d → Refused class l (patch-jump place span) (mem t code spans) (jump-too-large span)
+  pub far : {class : ℕ} → 65535 < d → Refused class l (patch-jump place span) (mem t code spans) (told t (jump-too-large l span))
   unfolding refusal-of
-  far h = record { refuses = λ rest q. too-far-ahead place span (view (mem t code spans) l rest) (omega (arith, len rest)) }
+  far h = refuses-in (jump-too-large l span) refl t refl (λ rest _. too-far-ahead place span (view (mem t code spans) l rest) (omega (arith, len rest)))

@@ -5,14 +5,19 @@ use Prim.Native.Nat.{ℕ, _+_, _-_, _≤_}
 use native.Mathlib.Omega.{arith}
 use native.Mathlib.Nat.{le-trans}
 use Rattle.rules.specs.Base.{if_then_else_}
+use mathlib.Core.List.{List}
 use Rattle.rules.specs.declared.Refusal.{Refusal}
+use Rattle.rules.specs.declared.Stopped.{Stopped}
 use Rattle.steps.specs.declared.Why.{Why}
-use Rattle.steps.specs.Why.{refusal-of}
+use Rattle.steps.specs.Why.{refusal-of, told}
 use Rattle.rules.specs.Compiler.{Compiler, Outcome, ok, err, Compile, go-on, _>>=_, _>>_, need}
-use Rattle.steps.specs.View.{Mem, Rest, view, Agrees, code-len, depth-at, Turn, _⨾_, Ahead, Gave, Refused, DidAs, Did, OpenedAs, Opened, Told}
+use Rattle.rules.specs.Compiler.{stopped as in-state}
+use Rattle.steps.specs.View.{Mem, mem, t-of, Rest, view, Agrees, code-len, depth-at, Turn, _⨾_, Ahead, Gave, Refused, DidAs, Did, OpenedAs, Opened, Told}
 use Rattle.steps.specs.declared.Step.{Step}
 use Rattle.steps.specs.declared.Step.the-variants.{Next, Stop}
+use Rattle.state.specs.Layout.{word, name-place}
 use Rattle.state.proofs.Words.{and-left, and-right}
+use Rattle.steps.proofs.Views.{stopped-in}
 
 -- ## After a step
 
@@ -23,7 +28,7 @@ went {class} {limit} {l} {n} {v} {e} {m} {before} {now} d q = subst (λ (s : Ste
 pub valued : {class limit l n v : ℕ} {e : Turn} {m : Compile Unit} {before now : Mem} {r : Step} → Did class limit l n e m before now r → r ≡ Next v → v ≡ n
 valued {class} {limit} {l} {n} {v} {e} {m} {before} {now} d q = subst (λ (s : Step). DidAs class limit l n e m before now s) q (d .does) .1
 
-pub stuck : {class limit l n : ℕ} {e : Turn} {m : Compile Unit} {before now : Mem} {r : Step} {x : Why} → Did class limit l n e m before now r → r ≡ Stop x → Refused class l m before x
+pub stuck : {class limit l n : ℕ} {e : Turn} {m : Compile Unit} {before now : Mem} {r : Step} {x : Why} → Did class limit l n e m before now r → r ≡ Stop x → Refused class l m before (told (t-of now) x)
 stuck {class} {limit} {l} {n} {e} {m} {before} {now} d q = subst (λ (s : Step). DidAs class limit l n e m before now s) q (d .does)
 
 pub went-to : {class limit l v : ℕ} {e : Turn} {m : Compile ℕ} {before now : Mem} {r : Step} → Opened class limit l e m before now r → r ≡ Next v → Gave class limit l e m v before now
@@ -32,7 +37,7 @@ went-to {class} {limit} {l} {v} {e} {m} {before} {now} d q = subst (λ (s : Step
 pub placed : {class limit l v : ℕ} {e : Turn} {m : Compile ℕ} {before now : Mem} {r : Step} → Opened class limit l e m before now r → r ≡ Next v → v + 2 ≤ code-len now l
 placed {class} {limit} {l} {v} {e} {m} {before} {now} d q = subst (λ (s : Step). OpenedAs class limit l e m before now s) q (d .does) .1
 
-pub stuck-to : {class limit l : ℕ} {e : Turn} {m : Compile ℕ} {before now : Mem} {r : Step} {x : Why} → Opened class limit l e m before now r → r ≡ Stop x → Refused class l m before x
+pub stuck-to : {class limit l : ℕ} {e : Turn} {m : Compile ℕ} {before now : Mem} {r : Step} {x : Why} → Opened class limit l e m before now r → r ≡ Stop x → Refused class l m before (told (t-of now) x)
 stuck-to {class} {limit} {l} {e} {m} {before} {now} d q = subst (λ (s : Step). OpenedAs class limit l e m before now s) q (d .does)
 
 -- a place stays a place while the code grows
@@ -52,19 +57,19 @@ next-at g q = record { does = (g, q) }
 pub anew : {class limit l n v : ℕ} {e : Turn} {m : Compile Unit} {before now : Mem} {r : Step} → Did class limit l n e m before now r → r ≡ Next v → Did class limit l n e m before now (Next n)
 anew d q = next (went d q)
 
-pub stop : {class limit l n : ℕ} {e : Turn} {m : Compile Unit} {before : Mem} {x : Why} (now : Mem) → Refused class l m before x → Did class limit l n e m before now (Stop x)
+pub stop : {class limit l n : ℕ} {e : Turn} {m : Compile Unit} {before : Mem} {x : Why} (now : Mem) → Refused class l m before (told (t-of now) x) → Did class limit l n e m before now (Stop x)
 stop now h = record { does = h }
 
 -- a step that stopped, whatever its answer's value was to be
-stopped : {class limit l n : ℕ} {e : Turn} {m : Compile Unit} {before now : Mem} {r : Step} {x : Why} → r ≡ Stop x → Refused class l m before x → Did class limit l n e m before now r
+stopped : {class limit l n : ℕ} {e : Turn} {m : Compile Unit} {before now : Mem} {r : Step} {x : Why} → r ≡ Stop x → Refused class l m before (told (t-of now) x) → Did class limit l n e m before now r
 stopped {class} {limit} {l} {n} {e} {m} {before} {now} q h = record { does = subst (λ (s : Step). DidAs class limit l n e m before now s) (sym q) h }
 
-stopped-to : {class limit l : ℕ} {e : Turn} {m : Compile ℕ} {before now : Mem} {r : Step} {x : Why} → r ≡ Stop x → Refused class l m before x → Opened class limit l e m before now r
+stopped-to : {class limit l : ℕ} {e : Turn} {m : Compile ℕ} {before now : Mem} {r : Step} {x : Why} → r ≡ Stop x → Refused class l m before (told (t-of now) x) → Opened class limit l e m before now r
 stopped-to {class} {limit} {l} {e} {m} {before} {now} q h = record { does = subst (λ (s : Step). OpenedAs class limit l e m before now s) (sym q) h }
 
 -- ## One step and then another
 
-module _ {class l : ℕ} {A B : Type 0} {m : Compile A} {before : Mem} {x : Why} (h : Refused class l m before x) where
+module _ {class l : ℕ} {A B : Type 0} {m : Compile A} {before : Mem} {x : Stopped} (h : Refused class l m before x) where
   pub refused-bind : (f : A → Compile B) → Refused class l (m >>= f) before x
   unfolding _>>=_ go-on
   refused-bind f = record { refuses = λ rest q. ap (λ (o : Outcome A). go-on o f) (h .refuses rest q) }
@@ -101,11 +106,11 @@ module _ {class limit l : ℕ} {e : Turn} {A B : Type 0} {m : Compile A} {v : A}
     ahead = ahead-then (g .ahead) (h .ahead);
   }
 
-  pub gave-refused : (next : A → Compile B) {x : Why} → Refused (e .class class) l (next v) mid x → Refused class l (m >>= next) before x
+  pub gave-refused : (next : A → Compile B) {x : Stopped} → Refused (e .class class) l (next v) mid x → Refused class l (m >>= next) before x
   unfolding _>>=_ go-on
   gave-refused next h = record { refuses = λ rest q. ap (λ (o : Outcome A). go-on o next) (g .comes rest q) ∙ h .refuses (e .rest rest) (g .agrees rest q) }
 
-  pub gave-refused-seq : (next : Compile B) {x : Why} → Refused (e .class class) l next mid x → Refused class l (m >> next) before x
+  pub gave-refused-seq : (next : Compile B) {x : Stopped} → Refused (e .class class) l next mid x → Refused class l (m >> next) before x
   unfolding _>>_ go-on
   gave-refused-seq next h = record { refuses = λ rest q. ap (λ (o : Outcome A). go-on o (λ _. next)) (g .comes rest q) ∙ h .refuses (e .rest rest) (g .agrees rest q) }
 
@@ -177,7 +182,7 @@ module _ {class l : ℕ} {A : Type 0} {m : Compile A} {v : A} {before : Mem} (w 
   pub ask : {limit k : ℕ} {e : Turn} (next : A → Compile Unit) {now : Mem} {r : Step} → Did class limit l k e (next v) before now r → Did class limit l k e (m >>= next) before now r
   ask next {r = r} d = record { does = ask-as next r d }
 
-  pub ask-refused : {B : Type 0} (next : A → Compile B) {x : Why} → Refused class l (next v) before x → Refused class l (m >>= next) before x
+  pub ask-refused : {B : Type 0} (next : A → Compile B) {x : Stopped} → Refused class l (next v) before x → Refused class l (m >>= next) before x
   unfolding _>>=_ go-on
   ask-refused next h = record { refuses = λ rest q. ap (λ (o : Outcome A). go-on o next) (w .says rest q) ∙ h .refuses rest q }
 
@@ -204,9 +209,20 @@ pub passed : {class l : ℕ} (b : Bool) (x : Refusal) {m : Mem} → b ≡ true �
 unfolding need
 passed {l = l} b x {m = m} q = record { says = λ rest _. ap (λ (b : Bool). need b x (view m l rest)) q }
 
-pub failed : {class l : ℕ} (b : Bool) {x : Why} {m : Mem} → b ≡ false → Refused class l (need b (refusal-of x)) m x
+-- a refusal as the code names it, by a table that has the function's name still
+pub refuses-in : {A : Type 0} {class l : ℕ} {m : Compile A} {before : Mem} (x : Why) → x .around ≡ l → (t′ : List ℕ) →
+    word t′ l name-place ≡ word (t-of before) l name-place →
+    ((rest : Rest) → Agrees class before rest → m (view before l rest) ≡ err (in-state (refusal-of x) (view before l rest))) →
+    Refused class l m before (told t′ x)
+refuses-in {before = mem t code spans} x q t′ e h = record {
+  refuses = λ rest a.
+      h rest a ∙ ap err (stopped-in t code spans rest (refusal-of x) e)
+      ∙ λ i. err (record { what = refusal-of x; function = word t′ (sym q i) name-place; around = sym q i });
+}
+
+pub failed : {class l : ℕ} (b : Bool) (x : Why) → x .around ≡ l → {m : Mem} → b ≡ false → Refused class l (need b (refusal-of x)) m (told (t-of m) x)
 unfolding need
-failed {l = l} b {x = x} {m = m} q = record { refuses = λ rest _. ap (λ (b : Bool). need b (refusal-of x) (view m l rest)) q }
+failed {l = l} b x a {m = m} q = refuses-in x a (t-of m) refl (λ rest _. ap (λ (b : Bool). need b (refusal-of x) (view m l rest)) q)
 
 -- ## The same as equations, where the level or the classes change within a block
 
@@ -219,7 +235,7 @@ module _ {A B : Type 0} (m : Compile A) (x : Compiler) where
   unfolding _>>=_ go-on
   bind-ok next e = ap (λ (o : Outcome A). go-on o next) e
 
-  pub seq-err : {r : Refusal} (next : Compile B) → m x ≡ err r → (m >> next) x ≡ err r
+  pub seq-err : {r : Stopped} (next : Compile B) → m x ≡ err r → (m >> next) x ≡ err r
   unfolding _>>_ go-on
   seq-err next e = ap (λ (o : Outcome A). go-on o (λ _. next)) e
 

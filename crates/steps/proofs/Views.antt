@@ -1,14 +1,16 @@
 -- What a change of the areas is to the rules' state: which context it is, what stays, and how much code there is.
-use mathlib.Core.Path.{_≡_, refl, sym, ap₂, subst, _∙_}
+use mathlib.Core.Path.{_≡_, refl, sym, ap, ap₂, subst, _∙_}
 use mathlib.Core.List.{List, [], _∷_}
 use Prim.Native.Nat.{ℕ, zero, suc, _+_, _*_, _-_, _≤_, _<_}
 use native.Mathlib.Omega.{arith}
 use native.Mathlib.Nat.{eq-or-lt-of-le}
 use mathlib.Core.Logic.{⊎-elim}
 use lib.ListN.{length, getD}
+use Rattle.rules.specs.declared.Refusal.{Refusal}
+use Rattle.rules.specs.declared.Stopped.{Stopped}
 use Rattle.rules.specs.Chunk.{Chunk}
-use Rattle.rules.specs.Compiler.{Local, CompilerCtx, Compiler, with-ctx, with-chunk, with-locals, with-scope-depth, open-code}
-use Rattle.state.specs.Layout.{levels, code-end-at, runs-end-at, image-at, localsOf, codeFrom, runsFrom, codeEnd, runsEnd, chunkAt, ctxAt, parentsOf, Wf, Coded, upvalues-place, constants-place, depth-place, code-from-place, runs-from-place, type-place, level-words}
+use Rattle.rules.specs.Compiler.{Local, CompilerCtx, Compiler, with-ctx, with-chunk, with-locals, with-scope-depth, open-code, stopped}
+use Rattle.state.specs.Layout.{levels, code-end-at, runs-end-at, image-at, localsOf, codeFrom, runsFrom, codeEnd, runsEnd, chunkAt, ctxAt, parentsOf, Wf, Coded, upvalues-place, constants-place, depth-place, code-from-place, runs-from-place, name-place, type-place, level-words, word}
 use Rattle.state.specs.Contracts.{Kept}
 use Rattle.state.proofs.Laws.{length-row, kept-off, ctx-paths, chunk-same, upvalues-same, locals-same, parents-named}
 use Rattle.steps.specs.View.{Mem, mem, t-of, Rest, view, Agrees, Fit, code-len, depth-at, Turn, steady, Ahead}
@@ -50,6 +52,19 @@ open-is t code spans l limit rest ok = open-at t code spans rest l (codeEnd t) (
 pub view-len : (m : Mem) (l : ℕ) (rest : Rest) → length (view m l rest .ctx .chunk .ops) ≡ code-len m l
 unfolding view code-len
 view-len (mem t code spans) l rest = ops-length t code spans l (codeEnd t) (runsEnd t)
+
+-- ## Which function is open
+
+parents-length : (t code spans : List ℕ) (l : ℕ) → length (parentsOf t code spans l) ≡ l
+unfolding parentsOf
+parents-length t code spans zero = refl
+parents-length t code spans (suc l) = ap suc (parents-length t code spans l)
+
+-- a refusal names it, by any table that has its name
+pub stopped-in : (t code spans : List ℕ) {l name : ℕ} (rest : Rest) (r : Refusal) → name ≡ word t l name-place →
+    stopped r (view (mem t code spans) l rest) ≡ record { what = r; function = name; around = l }
+unfolding view ctxAt
+stopped-in t code spans {l} {name} rest r e = λ i. record { what = r; function = sym e i; around = parents-length t code spans l i }
 
 -- ## What a step leaves alone
 

@@ -5,12 +5,13 @@ use mathlib.Core.List.{List, [], _∷_, _++_}
 use Prim.Native.Nat.{ℕ, suc, _+_, _*_, _-_, _≤_, _<_}
 use lib.ListN.{length, getD}
 use Rattle.rules.specs.declared.Span.{Span}
+use Rattle.rules.specs.declared.Stopped.{Stopped}
 use Rattle.rules.specs.Chunk.{ObjectFunction}
 use Rattle.rules.specs.Compiler.{Upvalue as Captured}
 use Rattle.rules.specs.Compiler.{emit-upvalues, Compiler, new, new-ctx, finish, end-ctx, ends-in-return, ok, err, Compile, _>>=_, the, local-at, upvalue-at, global-named, resolve, code-length, begin-ctx, pop-locals}
 use Rattle.state.specs.Layout.{levels, image-at, codeFrom, codeEnd, runsEnd, ctxAt, parentsOf, type-of, Wf, Coded, code-end-at, upvalueOf, upvaluesOf, depth-place, code-from-place, type-place, level-words, local-count-place}
 use Rattle.state.specs.Contracts.{Kept}
-use Rattle.steps.specs.Why.{code-full, refusal-of}
+use Rattle.steps.specs.Why.{code-full, told}
 use Rattle.steps.specs.declared.Why.{Why}
 use Rattle.steps.specs.declared.Step.{Step}
 use Rattle.steps.specs.declared.Step.the-variants.{Next, Stop}
@@ -115,15 +116,15 @@ pub record Gave {A : Type 0} (class limit l : ℕ) (e : Turn) (m : Compile A) (v
   pub ahead : Ahead l limit e before now
 
 -- m refused
-pub record Refused {A : Type 0} (class l : ℕ) (m : Compile A) (before : Mem) (x : Why) : Type 0 where
-  pub refuses : (rest : Rest) → Agrees class before rest → m (view before l rest) ≡ err (refusal-of x)
+pub record Refused {A : Type 0} (class l : ℕ) (m : Compile A) (before : Mem) (x : Stopped) : Type 0 where
+  pub refuses : (rest : Rest) → Agrees class before rest → m (view before l rest) ≡ err x
 
 -- ## The contracts
 
--- a step did what m does. Where it went on its answer's value is n; of a refusal nothing more is said
+-- a step did what m does. Where it went on its answer's value is n; where it stopped the table that it leaves has the function's name
 abbrev pub DidAs : (class limit l n : ℕ) → Turn → Compile Unit → (before now : Mem) → Step → Type 0
 DidAs class limit l n e m before now (Next v) = Gave class limit l e m tt before now × (v ≡ n)
-DidAs class limit l n e m before now (Stop x) = Refused class l m before x
+DidAs class limit l n e m before now (Stop x) = Refused class l m before (told (t-of now) x)
 
 pub record Did (class limit l n : ℕ) (e : Turn) (m : Compile Unit) (before now : Mem) (r : Step) : Type 0 where
   pub does : DidAs class limit l n e m before now r
@@ -131,7 +132,7 @@ pub record Did (class limit l n : ℕ) (e : Turn) (m : Compile Unit) (before now
 -- the same of a step whose value is the place of an operand that is left open
 abbrev pub OpenedAs : (class limit l : ℕ) → Turn → Compile ℕ → (before now : Mem) → Step → Type 0
 OpenedAs class limit l e m before now (Next v) = Gave class limit l e m v before now × (v + 2 ≤ code-len now l)
-OpenedAs class limit l e m before now (Stop x) = Refused class l m before x
+OpenedAs class limit l e m before now (Stop x) = Refused class l m before (told (t-of now) x)
 
 pub record Opened (class limit l : ℕ) (e : Turn) (m : Compile ℕ) (before now : Mem) (r : Step) : Type 0 where
   pub does : OpenedAs class limit l e m before now r
@@ -161,7 +162,7 @@ abbrev pub PlacedAs : (l nm : ℕ) → Span → (t t′ : List ℕ) → (class l
 PlacedAs l nm span t t′ class limit code spans (Local i) = Gave class limit l steady (resolve nm span) (local-at i) (mem t code spans) (mem t′ code spans)
 PlacedAs l nm span t t′ class limit code spans (Upvalue i) = Gave class limit l steady (resolve nm span) (upvalue-at i) (mem t code spans) (mem t′ code spans)
 PlacedAs l nm span t t′ class limit code spans Global = Gave class limit l steady (resolve nm span) global-named (mem t code spans) (mem t′ code spans)
-PlacedAs l nm span t t′ class limit code spans (Nowhere x) = Refused class l (resolve nm span) (mem t code spans) x
+PlacedAs l nm span t t′ class limit code spans (Nowhere x) = Refused class l (resolve nm span) (mem t code spans) (told t′ x)
 
 pub record Placed (l nm : ℕ) (span : Span) (t t′ : List ℕ) (r : Place) : Type 0 where
   pub gives : (class limit : ℕ) (code spans : List ℕ) → Fit (mem t code spans) l limit → PlacedAs l nm span t t′ class limit code spans r
@@ -180,7 +181,7 @@ pub record Passing (limit l : ℕ) (p : Compile Unit) (before now : Mem) : Type 
 
 abbrev pub PoppedAs : (limit l : ℕ) → Span → (before now : Mem) → Popped → Type 0
 PoppedAs limit l span before now popped.Stop = (class : ℕ) → Gave class limit l steady (pops limit span) tt before now
-PoppedAs limit l span before now popped.Full = (class : ℕ) → Refused class l (pops limit span) before code-full
+PoppedAs limit l span before now popped.Full = (class : ℕ) → Refused class l (pops limit span) before (told (t-of now) (code-full l))
 PoppedAs limit l span before now popped.More = Passing limit l (pops limit span) before now ×
     (getD (t-of now) (l * level-words + local-count-place) 0 < getD (t-of before) (l * level-words + local-count-place) 0)
 
@@ -200,8 +201,8 @@ pub record Entered (l name arity kind : ℕ) (t t′ : List ℕ) : Type 0 where
 -- ## What asks for no area
 
 -- a test of the class alone
-pub record Judged (class n : ℕ) (m : Compile Unit) (r : Step) : Type 0 where
-  pub gives : {limit l : ℕ} (now : Mem) → Fit now l limit → Did class limit l n steady m now now r
+pub record Judged (class l n : ℕ) (m : Compile Unit) (r : Step) : Type 0 where
+  pub gives : {limit : ℕ} (now : Mem) → Fit now l limit → Did class limit l n steady m now now r
 
 -- whether the code ends in the byte of RETURN, whatever the runs are
 pub record Ending (t code : List ℕ) (l : ℕ) (r : Bool) : Type 0 where
@@ -237,7 +238,7 @@ pub record Turning (limit l : ℕ) (p q : Compile Unit) (before now : Mem) : Typ
 
 abbrev pub PairedAs : (limit l w : ℕ) → Span → (before now : Mem) → Step → Type 0
 PairedAs limit l w span before now (Next v) = (us : List Captured) → Turning limit l (emit-upvalues limit (upvalueOf w ∷ us) span) (emit-upvalues limit us span) before now
-PairedAs limit l w span before now (Stop x) = (us : List Captured) (class : ℕ) → Refused class l (emit-upvalues limit (upvalueOf w ∷ us) span) before x
+PairedAs limit l w span before now (Stop x) = (us : List Captured) (class : ℕ) → Refused class l (emit-upvalues limit (upvalueOf w ∷ us) span) before (told (t-of now) x)
 
 -- the first of the upvalues that are left is emitted
 pub record PairedAt (limit l w : ℕ) (span : Span) (before now : Mem) (r : Step) : Type 0 where

@@ -1,59 +1,65 @@
--- Why the compiler stops, as the code hands it on: which refusal three numbers are.
+-- Why the compiler stops, as the code hands it on: which refusal its numbers are, and in which function.
 use mathlib.Core.Path.{_≡_, refl}
 use mathlib.Core.Bool.{Bool, true, false}
+use mathlib.Core.List.{List}
 use Prim.Native.Nat.{ℕ}
 use lib.Dec.{eqb}
 use Rattle.rules.specs.Base.{if_then_else_}
 use Rattle.rules.specs.Answer.{NO-SPAN}
 use Rattle.rules.specs.declared.Span.{Span}
 use Rattle.rules.specs.declared.Refusal.{Refusal}
+use Rattle.rules.specs.declared.Stopped.{Stopped}
 use Rattle.rules.specs.declared.Refusal.the-variants as refusal
+use Rattle.state.specs.Layout.{word, name-place}
 use Rattle.steps.specs.declared.Why.{Why}
 
-abbrev pub already-defined : Span → (name : ℕ) → Why
-already-defined span name = record { number = 10; span = span; name = name }
+abbrev pub why-in : (level number : ℕ) → Span → (name : ℕ) → Why
+why-in l number span name = record { number = number; span = span; name = name; around = l }
 
-abbrev pub access-inside-initializer : Span → (name : ℕ) → Why
-access-inside-initializer span name = record { number = 11; span = span; name = name }
+abbrev pub already-defined : (level : ℕ) → Span → (name : ℕ) → Why
+already-defined l span name = why-in l 10 span name
 
-abbrev pub class-inherit-from-self : Span → (name : ℕ) → Why
-class-inherit-from-self span name = record { number = 12; span = span; name = name }
+abbrev pub access-inside-initializer : (level : ℕ) → Span → (name : ℕ) → Why
+access-inside-initializer l span name = why-in l 11 span name
 
-abbrev pub jump-too-large : Span → Why
-jump-too-large span = record { number = 13; span = span; name = 0 }
+abbrev pub class-inherit-from-self : (level : ℕ) → Span → (name : ℕ) → Why
+class-inherit-from-self l span name = why-in l 12 span name
 
-abbrev pub too-many-args : Span → Why
-too-many-args span = record { number = 14; span = span; name = 0 }
+abbrev pub jump-too-large : (level : ℕ) → Span → Why
+jump-too-large l span = why-in l 13 span 0
 
-abbrev pub too-many-constants : Span → Why
-too-many-constants span = record { number = 15; span = span; name = 0 }
+abbrev pub too-many-args : (level : ℕ) → Span → Why
+too-many-args l span = why-in l 14 span 0
 
-abbrev pub too-many-locals : Span → Why
-too-many-locals span = record { number = 16; span = span; name = 0 }
+abbrev pub too-many-constants : (level : ℕ) → Span → Why
+too-many-constants l span = why-in l 15 span 0
 
-abbrev pub too-many-params : Span → Why
-too-many-params span = record { number = 17; span = span; name = 0 }
+abbrev pub too-many-locals : (level : ℕ) → Span → Why
+too-many-locals l span = why-in l 16 span 0
 
-abbrev pub too-many-upvalues : Span → Why
-too-many-upvalues span = record { number = 18; span = span; name = 0 }
+abbrev pub too-many-params : (level : ℕ) → Span → Why
+too-many-params l span = why-in l 17 span 0
 
-abbrev pub return-in-initializer : Span → Why
-return-in-initializer span = record { number = 19; span = span; name = 0 }
+abbrev pub too-many-upvalues : (level : ℕ) → Span → Why
+too-many-upvalues l span = why-in l 18 span 0
 
-abbrev pub return-outside-function : Span → Why
-return-outside-function span = record { number = 20; span = span; name = 0 }
+abbrev pub return-in-initializer : (level : ℕ) → Span → Why
+return-in-initializer l span = why-in l 19 span 0
 
-abbrev pub super-outside-class : Span → Why
-super-outside-class span = record { number = 21; span = span; name = 0 }
+abbrev pub return-outside-function : (level : ℕ) → Span → Why
+return-outside-function l span = why-in l 20 span 0
 
-abbrev pub super-without-superclass : Span → Why
-super-without-superclass span = record { number = 22; span = span; name = 0 }
+abbrev pub super-outside-class : (level : ℕ) → Span → Why
+super-outside-class l span = why-in l 21 span 0
 
-abbrev pub this-outside-class : Span → Why
-this-outside-class span = record { number = 23; span = span; name = 0 }
+abbrev pub super-without-superclass : (level : ℕ) → Span → Why
+super-without-superclass l span = why-in l 22 span 0
 
-abbrev pub code-full : Why
-code-full = record { number = 30; span = NO-SPAN; name = 0 }
+abbrev pub this-outside-class : (level : ℕ) → Span → Why
+this-outside-class l span = why-in l 23 span 0
+
+abbrev pub code-full : (level : ℕ) → Why
+code-full l = why-in l 30 NO-SPAN 0
 
 -- no other number is given
 unfoldable pub refusal-of : Why → Refusal
@@ -73,3 +79,7 @@ refusal-of w =
     if eqb (w .number) 22 then refusal.SuperWithoutSuperclass (w .span) else
     if eqb (w .number) 23 then refusal.ThisOutsideClass (w .span) else
     refusal.CodeFull
+
+-- with the name that the table has for its level
+abbrev pub told : (t : List ℕ) → Why → Stopped
+told t w = record { what = refusal-of w; function = word t (w .around) name-place; around = w .around }

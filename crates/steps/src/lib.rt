@@ -17,12 +17,14 @@ impl Class {
     pub const WITH_SUPER: u8 = 2;
 }
 
-// Why the compiler stops, as three numbers: a refusal by its number, with what it carries. specs/Why.antt says which refusal it is. A refusal has
-// many forms, and each form would stand in every line that is proved of a function with such an answer.
+// Why the compiler stops, as numbers: a refusal by its number, with what it carries, and the level of the function it is in. specs/Why.antt says which
+// refusal it is. A refusal has many forms, and each form would stand in every line that is proved of a function with such an answer. The function's
+// name is in the table, which nobody changes once the compiler stops: it is read in the end.
 pub struct Why {
     pub number: u8,
     pub span: Span,
     pub name: u16,
+    pub around: usize,
 }
 
 impl Why {

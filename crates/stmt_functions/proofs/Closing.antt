@@ -22,13 +22,13 @@ use Rattle.stmt_output_laws.specs.Parts.{close-function}
 use Rattle.stmt_output_laws.specs.Output.{more}
 use Rattle.stmt_functions.specs.Functions.{function-at, Filed, Finished, FunctionClosedAs, FunctionClosed}
 use Rattle.stmt_functions.proofs.Records.{fit-same, view-same}
-use Rattle.rules.specs.declared.Refusal.{Refusal}
+use Rattle.rules.specs.declared.Stopped.{Stopped}
 use Rattle.steps.specs.declared.Why.{Why}
 
 -- ## The end of a function
 
 module _ (limit : ℕ) (span : Span) (x : Compiler) where
-  close-first : {r : Refusal} → implicit-return limit x ≡ err r → close-function limit span x ≡ err r
+  close-first : {r : Stopped} → implicit-return limit x ≡ err r → close-function limit span x ≡ err r
   unfolding close-function
   close-first e = seq-err (implicit-return limit) x _ e
 

@@ -16,7 +16,7 @@ use Rattle.steps.specs.declared.Step.{Step}
 use Rattle.steps.specs.declared.Step.the-variants.{Next, Stop}
 use Rattle.stmt_output_laws.specs.Parts.{close-function}
 use Rattle.stmt_output_laws.specs.Output.{largest, Holds, more}
-use Rattle.steps.specs.Why.{refusal-of}
+use Rattle.steps.specs.Why.{told}
 
 pub record Finished (class limit l : ℕ) (span : Span) (before : Mem) (out : List ℕ) (now : Mem) (out′ : List ℕ) : Type 0 where
   pub function : ObjectFunction
@@ -31,7 +31,7 @@ pub record Finished (class limit l : ℕ) (span : Span) (before : Mem) (out : Li
 
 abbrev pub FunctionClosedAs : (class limit l n : ℕ) → Span → (before : Mem) → (out : List ℕ) → (now : Mem) → (out′ : List ℕ) → Step → Type 0
 FunctionClosedAs class limit l n span before out now out′ (Next v) = Finished class limit l span before out now out′ × (v ≡ n)
-FunctionClosedAs class limit l n span before out now out′ (Stop x) = (rest : Rest) → Agrees class before rest → close-function limit span (view before (suc l) rest) ≡ err (refusal-of x)
+FunctionClosedAs class limit l n span before out now out′ (Stop x) = (rest : Rest) → Agrees class before rest → close-function limit span (view before (suc l) rest) ≡ err (told (t-of now) x)
 
 pub record FunctionClosed (class limit l n : ℕ) (span : Span) (before : Mem) (out : List ℕ) (now : Mem) (out′ : List ℕ) (r : Step) : Type 0 where
   pub does : FunctionClosedAs class limit l n span before out now out′ r

@@ -5,16 +5,17 @@ use native.Mathlib.Nat.{le-trans}
 use Rattle.rules.specs.declared.Span.{Span}
 use Rattle.rules.specs.Op as op
 use Rattle.rules.specs.Compiler.{Compiler, Compile, _>>=_, _>>_, return, emit-op, emit-jump, patch-jump}
-use Rattle.steps.specs.View.{Mem, code-len, steady, Gave, Refused, Did, OpenedAs, Opened}
+use Rattle.steps.specs.View.{Mem, t-of, code-len, steady, Gave, Refused, Did, OpenedAs, Opened}
 use Rattle.steps.proofs.Steps.{went, went-to, placed, stuck, stuck-to, still, gave-seq, refused-bind, refused-seq, opened-bind, opened-seq}
 use Rattle.steps.specs.declared.Step.{Step}
 use Rattle.steps.specs.declared.Step.the-variants.{Next, Stop}
 use Rattle.stmt_jumps.specs.Jumps.{open-jump, turn-jump}
 use Rattle.steps.proofs.Monad.{returned, cut-and, cut-later}
+use Rattle.steps.specs.Why.{told}
 use Rattle.steps.specs.declared.Why.{Why}
 
 module _ {class limit l : ℕ} where
-  stopped-to : {m : Compile ℕ} {before now : Mem} {r : Step} {x : Why} → r ≡ Stop x → Refused class l m before x → Opened class limit l steady m before now r
+  stopped-to : {m : Compile ℕ} {before now : Mem} {r : Step} {x : Why} → r ≡ Stop x → Refused class l m before (told (t-of now) x) → Opened class limit l steady m before now r
   stopped-to {m} {before} {now} q h = record { does = subst (λ (s : Step). OpenedAs class limit l steady m before now s) (sym q) h }
 
   -- the last step, and then the place

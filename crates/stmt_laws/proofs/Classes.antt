@@ -15,7 +15,7 @@ use Rattle.rules.specs.Compiler.{Compiler, _>>_, is-some, some-methods, compile
 use Rattle.fields.specs.Words.{word8, word16, letters, span-of}
 use Rattle.tree_laws.proofs.Statements.{ClassAt, class-at, MethodRowAt, no-methods, more-methods, superclass-at, maybe-yes, maybe-no, flag-on}
 use Rattle.state.specs.Layout.{deepest}
-use Rattle.steps.specs.View.{Mem, depth-at, steady, Refused, Did}
+use Rattle.steps.specs.View.{Mem, t-of, depth-at, steady, Refused, Did}
 use Rattle.steps.specs.declared.Step.{Step}
 use Rattle.steps.specs.declared.Step.the-variants.{Next, Stop}
 use Rattle.steps.proofs.Steps.{went, valued, stuck, refused-seq}
@@ -31,7 +31,9 @@ use Rattle.stmt_laws.proofs.Calls.{same-on}
 use Rattle.stmt_laws.proofs.Cuts.{no-methods-cut, methods-cut}
 use Rattle.stmt_laws.proofs.Blocks.{by-parts}
 use Rattle.fields.specs.Marks as marks
+use Rattle.steps.specs.Why.{told}
 use Rattle.steps.specs.declared.Why.{Why}
+use Rattle.rules.specs.declared.Stopped.{Stopped}
 
 -- ## The walk over the methods
 
@@ -68,12 +70,12 @@ module _ {class limit l count left from : ℕ} {tree : List ℕ} {before : Mem} 
       → compile-methods limit (w .to methods n r .others) s ≡ (compile-method limit (head-of r h .thing) >> compile-methods limit (head-of r h .others)) s
   cut-here r h s = ap (λ (z : Methods). compile-methods limit z s) (head-of r h .is) ∙ methods-cut limit (head-of r h .thing .0) (head-of r h .thing .1) (head-of r h .others) s
 
-  like-refused : {methods : Methods} {n : ℕ} (r : methods-at tree count left l from ≡ got methods n) (h : 0 < more) {x : Why} → Refused class l (compile-method limit (head-of r h .thing)) now x
+  like-refused : {methods : Methods} {n : ℕ} (r : methods-at tree count left l from ≡ got methods n) (h : 0 < more) {x : Stopped} → Refused class l (compile-method limit (head-of r h .thing)) now x
       → Refused class l (compile-methods limit (w .to methods n r .others)) now x
   like-refused r h f = let g = refused-seq f (compile-methods limit (head-of r h .others)) in record { refuses = λ rest q. cut-here r h _ ∙ g .refuses rest q }
 
   module _ {now′ : Mem} {out″ : List ℕ} {a : Step} (b : Walked class limit l next (method-at tree left l next) (compile-method limit) now out′ now′ out″ a) where
-    pub row-stop : 0 < more → {x : Why} → a ≡ Stop x → (methods : Methods) (n : ℕ) → methods-at tree count left l from ≡ got methods n → Refused class l (compile-methods limit methods) before x
+    pub row-stop : 0 < more → {x : Why} → a ≡ Stop x → (methods : Methods) (n : ℕ) → methods-at tree count left l from ≡ got methods n → Refused class l (compile-methods limit methods) before (told (t-of now′) x)
     row-stop h q methods n r = let i = head-of r h in onward-refused (w .to methods n r .onward) (like-refused r h (refused (b .did (i .thing) (i .mid) (i .head)) q))
 
     module _ {v : ℕ} (h : 0 < more) (q : a ≡ Next v) where
@@ -198,12 +200,12 @@ module _ (tree : List ℕ) (l at left : ℕ) (mark : letters tree at ≡ marks.S
         pub class-stop-2 : 0 < more → {m3 : Mem} {out3 : List ℕ} {rb : Step} {x : Why}
             → Walked inner-class limit l next (method-at tree (left - 1) l next) (compile-method limit) m2 out2 m3 out3 rb → rb ≡ Stop x
             → Walked class limit l at (stmt-at tree left l at) (compile-stmt limit) before out m3 out3 rb
-        class-stop-2 g {rb = rb} {x = x} b q = record {
+        class-stop-2 g {m3 = m3} {rb = rb} {x = x} b q = record {
           did = λ s n h. by-parts (whole h) (class-then-pop limit span (word16 tree (at + 10)) (parts h .super) (parts h .methods))
               (stopped q
               (refused-seq
               (run-refused-seq (begins out h) _
-              (refused-seq (subst (λ (c : ℕ). Refused c l (compile-methods limit (parts h .methods)) m1 x) (inner-is h) (row-stop w b g q (parts h .methods) n (rows h))) _)) _));
+              (refused-seq (subst (λ (c : ℕ). Refused c l (compile-methods limit (parts h .methods)) m1 (told (t-of m3) x)) (inner-is h) (row-stop w b g q (parts h .methods) n (rows h))) _)) _));
         }
 
         -- the scope of `super` is open where there is one

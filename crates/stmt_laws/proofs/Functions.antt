@@ -34,8 +34,8 @@ use Rattle.stmt_functions.proofs.Cut.{function-cut}
 use Rattle.stmt_laws.proofs.Cuts.{fun-cut}
 use Rattle.stmt_laws.proofs.Blocks.{by-parts}
 use Rattle.fields.specs.Marks as marks
-use Rattle.steps.specs.Why.{refusal-of}
 use Rattle.steps.specs.declared.Why.{Why}
+use Rattle.rules.specs.declared.Stopped.{Stopped}
 
 -- ## Numbers
 
@@ -236,7 +236,7 @@ module _ (tree : List ℕ) (l at left kind : ℕ) (span : Span) where
                   added = added-function h d;
                 }
 
-            refuses : {f : Fun} {n : ℕ} (h : fun-at tree left l at ≡ got f n) {x : Why} → ((rest : Rest) → Agrees class m2 rest → close-function limit span (view m2 (suc l) rest) ≡ err (refusal-of x))
+            refuses : {f : Fun} {n : ℕ} (h : fun-at tree left l at ≡ got f n) {x : Stopped} → ((rest : Rest) → Agrees class m2 rest → close-function limit span (view m2 (suc l) rest) ≡ err x)
                 → Refused class l (open-function (type-of kind) (word16 tree (at + 10)) (parts h .params) span >> (compile-stmts limit (parts h .body) >> close-function limit span))
                 (mem t code spans) x
             refuses h z = record {

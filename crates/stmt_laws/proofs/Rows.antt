@@ -19,6 +19,7 @@ use Rattle.stmt_output_laws.specs.Output.{funs-left, stmt-at, stmts-at, Grew, W
 use Rattle.stmt_output_laws.proofs.Growing.{of-grew, ready-after, grown, reached, refused, worked, stopped, Onward, onward-start, onward-step, onward-refused, onward-done}
 use Rattle.stmt_laws.proofs.Cuts.{none-cut, row-cut}
 use Rattle.steps.specs.declared.Why.{Why}
+use Rattle.rules.specs.declared.Stopped.{Stopped}
 
 -- what is left of a row from `from` on, of which `stmts` is the whole
 pub record Remains (class limit l : ℕ) (tree : List ℕ) (left from : ℕ) (stmts : Stmts) (n : ℕ) (before : Mem) (out : List ℕ) (now : Mem) (out′ : List ℕ) (next more : ℕ) : Type 0 where
@@ -49,7 +50,7 @@ module _ {class limit l count left from : ℕ} {tree : List ℕ} {before : Mem} 
       → compile-stmts limit (w .to stmts n r .others) s ≡ (compile-stmt limit (head-of r h .one) >> compile-stmts limit (head-of r h .others)) s
   cut-here r h s = ap (λ (z : Stmts). compile-stmts limit z s) (head-of r h .is) ∙ row-cut limit (head-of r h .one) (head-of r h .others) s
 
-  like-refused : {stmts : Stmts} {n : ℕ} (r : stmts-at tree count left l from ≡ got stmts n) (h : 0 < more) {x : Why} → Refused class l (compile-stmt limit (head-of r h .one)) now x
+  like-refused : {stmts : Stmts} {n : ℕ} (r : stmts-at tree count left l from ≡ got stmts n) (h : 0 < more) {x : Stopped} → Refused class l (compile-stmt limit (head-of r h .one)) now x
       → Refused class l (compile-stmts limit (w .to stmts n r .others)) now x
   like-refused r h f = let g = refused-seq f (compile-stmts limit (head-of r h .others)) in record { refuses = λ rest q. cut-here r h _ ∙ g .refuses rest q }
 

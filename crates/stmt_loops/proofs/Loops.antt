@@ -14,7 +14,7 @@ use Rattle.rules.specs.TreeFile.{maybe}
 use Rattle.rules.specs.Op as op
 use Rattle.rules.specs.Compiler.{Compiler, _>>=_, _>>_, return, emit-op, emit-jump, for-cond, for-incr}
 use Rattle.tree_laws.proofs.Statements.{SomeAt, maybe-yes, maybe-no}
-use Rattle.steps.specs.View.{Mem, Fit, steady, Gave, Refused, Did, Opened}
+use Rattle.steps.specs.View.{Mem, t-of, Fit, steady, Gave, Refused, Did, Opened}
 use Rattle.steps.specs.declared.Step.{Step}
 use Rattle.steps.specs.declared.Step.the-variants.{Next, Stop}
 use Rattle.steps.proofs.Steps.{went, valued, stuck, went-to, placed, stuck-to, next-at, halt, then-on, refused-bind, refused-seq, gave-bind, gave-seq, gave-refused-seq}
@@ -23,6 +23,7 @@ use Rattle.stmt_jumps.specs.Jumps.{open-jump}
 use Rattle.steps.proofs.Monad.{on-to, returned, nothing}
 use Rattle.stmt_jumps.proofs.Jumps.{open-cut}
 use Rattle.stmt_loops.specs.Loops.{cond-at, incr-at, CondThere, IncrThere, ConditionedAs, Conditioned, Incremented}
+use Rattle.steps.specs.Why.{told}
 use Rattle.steps.specs.declared.Why.{Why}
 
 -- ## What the flag k announces
@@ -57,7 +58,7 @@ module _ {class limit l : ℕ} (span : Span) {before now : Mem} {b : Step} (d : 
       let h = gave-bind g (λ j. return (some j)) (returned (some place) (g .ahead .fit)) in
       record { comes = λ rest q. jump-cut limit span _ ∙ h .comes rest q; agrees = h .agrees; ahead = h .ahead }
 
-  jump-refused : {x : Why} → b ≡ Stop x → Refused class l (emit-jump limit op.JUMP-IF-FALSE span >>= λ j. emit-op limit op.POP span >> return (some j)) before x
+  jump-refused : {x : Why} → b ≡ Stop x → Refused class l (emit-jump limit op.JUMP-IF-FALSE span >>= λ j. emit-op limit op.POP span >> return (some j)) before (told (t-of now) x)
   jump-refused z = record { refuses = λ rest q. jump-cut limit span _ ∙ refused-bind (stuck-to d z) (λ j. return (some j)) .refuses rest q }
 
 -- ## The condition
@@ -79,13 +80,13 @@ module _ {class limit l : ℕ} {span : Span} (tree : List ℕ) (parts left at : 
 
   module _ (q : parts / 2 % 2 ≡ 1) where
     -- a refusal on the way
-    stopped : {now : Mem} {b : Step} {y : Why} → b ≡ Stop y → ((e : Expr) (n : ℕ) → expr-at tree left at ≡ got e n → Refused class l (for-cond limit (some e) span) before y)
+    stopped : {now : Mem} {b : Step} {y : Why} → b ≡ Stop y → ((e : Expr) (n : ℕ) → expr-at tree left at ≡ got e n → Refused class l (for-cond limit (some e) span) before (told (t-of now) y))
         → Conditioned class limit l (cond-at tree parts left at) span before now (record { step = b; some = false; place = 0 })
     stopped {now} {y = y} z f = record {
       did = λ cond n r.
           let i = there _ at _ r q in
           subst (λ (s : Step). ConditionedAs class limit l n cond span before now false 0 s) (sym z)
-          (subst (λ (o : Option Expr). Refused class l (for-cond limit o span) before y) (sym (i .is)) (f (i .thing) n (i .one-is)));
+          (subst (λ (o : Option Expr). Refused class l (for-cond limit o span) before (told (t-of now) y)) (sym (i .is)) (f (i .thing) n (i .one-is)));
     }
 
     module _ {mid : Mem} {a : Step} (x : Ran class limit l (expr-at tree left at) before mid a) where

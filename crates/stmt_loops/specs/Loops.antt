@@ -13,7 +13,8 @@ use Rattle.rules.specs.Reader.{Read, got}
 use Rattle.rules.specs.TreeFile.{maybe, read-expr}
 use Rattle.rules.specs.Compiler.{for-cond, for-incr}
 use Rattle.fields.specs.Words.{word16}
-use Rattle.steps.specs.View.{Mem, code-len, steady, Gave, Refused, Did}
+use Rattle.steps.specs.Why.{told}
+use Rattle.steps.specs.View.{Mem, t-of, code-len, steady, Gave, Refused, Did}
 use Rattle.steps.specs.declared.Step.{Step}
 use Rattle.steps.specs.declared.Step.the-variants.{Next, Stop}
 use Rattle.expr_laws.specs.Exprs.{There}
@@ -46,7 +47,7 @@ place-of there place = if there then some place else none
 abbrev pub ConditionedAs : (class limit l n : ℕ) → Option Expr → Span → (before now : Mem) → (there : Bool) → (place : ℕ) → Step → Type 0
 ConditionedAs class limit l n cond span before now there place (Next v) = Gave class limit l steady (for-cond limit cond span) (place-of there place) before now × (v ≡ n) ×
     (there ≡ true → place + 2 ≤ code-len now l)
-ConditionedAs class limit l n cond span before now there place (Stop x) = Refused class l (for-cond limit cond span) before x
+ConditionedAs class limit l n cond span before now there place (Stop x) = Refused class l (for-cond limit cond span) before (told (t-of now) x)
 
 pub record Conditioned (class limit l : ℕ) (read : Read (Option Expr)) (span : Span) (before now : Mem) (r : Cond) : Type 0 where
   pub did : (cond : Option Expr) (n : ℕ) → read ≡ got cond n → ConditionedAs class limit l n cond span before now (r .some) (r .place) (r .step)

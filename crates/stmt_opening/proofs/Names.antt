@@ -8,7 +8,7 @@ use Rattle.rules.specs.declared.Span.{Span}
 use Rattle.rules.specs.Reader.{got}
 use Rattle.rules.specs.Compiler.{Compiler, ok, err, Compile, _>>_, done, return, update-ctx, slot-zero, declare-local, define-local, declare-params}
 use Rattle.fields.specs.Words.{word16}
-use Rattle.state.specs.Layout.{levels, ctxAt, type-of, Wf, upvalues-place, level-words, local-count-place}
+use Rattle.state.specs.Layout.{levels, ctxAt, type-of, Wf, upvalues-place, name-place, level-words, local-count-place, word}
 use Rattle.state.specs.Contracts.{Kept, DeclaredAs, DeclaredAt, DefinedAt}
 use Rattle.state.specs.declared.Declared.{Declared}
 use Rattle.state.specs.declared.Declared.the-variants as decl
@@ -18,14 +18,14 @@ use Rattle.steps.specs.View.{mem, Rest, view}
 use Rattle.steps.specs.declared.Step.{Step}
 use Rattle.steps.specs.declared.Step.the-variants.{Next, Stop}
 use Rattle.steps.proofs.Steps.{seq-ok, seq-err}
-use Rattle.steps.proofs.Views.{view-locals}
+use Rattle.steps.proofs.Views.{view-locals, stopped-in}
 use Rattle.rules.proofs.Slips as slips
 use Rattle.rules.proofs.Slips.{enough-locals, already-declared}
 use Rattle.steps.proofs.Monad.{regroup}
 use Rattle.stmt_opening.specs.Opening.{names-at, NamesThere, declare-named, Locally, NamedAs, Named, ParamsDeclared}
 use Rattle.rules.specs.declared.Refusal.{Refusal}
 use Rattle.steps.specs.declared.Why.{Why}
-use Rattle.steps.specs.Why.{already-defined, too-many-locals, refusal-of}
+use Rattle.steps.specs.Why.{already-defined, too-many-locals, refusal-of, told}
 
 -- ## Slot zero
 
@@ -60,18 +60,24 @@ module _ (l n name : ℕ) (span : Span) (t t₁ : List ℕ) (r : Declared) (w : 
   does-as : (s : Declared) → r ≡ s → DeclaredAs t t₁ l name s
   does-as s q = subst (λ (s : Declared). DeclaredAs t t₁ l name s) q (w .does)
 
-  pub named-again : r ≡ decl.Already → Named l n (declare-named name span) t t₁ (Stop (already-defined span name))
+  own-name : word t₁ l name-place ≡ word t l name-place
+  own-name = w .kept .above _ (omega arith)
+
+  pub named-again : r ≡ decl.Already → Named l n (declare-named name span) t t₁ (Stop (already-defined l span name))
   unfolding view ctxAt refusal-of
   named-again q = record {
-    does = λ code spans rest. seq-err (declare-local name span) (view (mem t code spans) l rest) define-local (already-declared name span (view (mem t code spans) l rest) (does-as decl.Already q));
+    does = λ code spans rest.
+        seq-err (declare-local name span) (view (mem t code spans) l rest) define-local (already-declared name span (view (mem t code spans) l rest) (does-as decl.Already q))
+        ∙ ap err (stopped-in t code spans rest _ own-name);
   }
 
-  pub named-full : r ≡ decl.Full → Named l n (declare-named name span) t t₁ (Stop (too-many-locals span))
+  pub named-full : r ≡ decl.Full → Named l n (declare-named name span) t t₁ (Stop (too-many-locals l span))
   unfolding view ctxAt refusal-of
   named-full q = record {
     does = λ code spans rest.
         seq-err (declare-local name span) (view (mem t code spans) l rest) define-local
-        (slips.too-many-locals name span (view (mem t code spans) l rest) (does-as decl.Full q .0) (does-as decl.Full q .1));
+        (slips.too-many-locals name span (view (mem t code spans) l rest) (does-as decl.Full q .0) (does-as decl.Full q .1))
+        ∙ ap err (stopped-in t code spans rest _ own-name);
   }
 
   declare-is : l < levels → Wf t → r ≡ decl.Done → (code spans : List ℕ) (rest : Rest) → declare-local name span (view (mem t code spans) l rest) ≡ ok tt (view (mem t₁ code spans) l rest)
@@ -99,12 +105,12 @@ module _ {l n : ℕ} {m : Compile Unit} {t t′ : List ℕ} {r : Step} (d : Name
   pub named-on : {v : ℕ} → r ≡ Next v → Locally l m t t′
   named-on q = subst (λ (s : Step). NamedAs l n m t t′ s) q (d .does) .0
 
-  pub named-stop : {x : Why} → r ≡ Stop x → (code spans : List ℕ) (rest : Rest) → m (view (mem t code spans) l rest) ≡ err (refusal-of x)
+  pub named-stop : {x : Why} → r ≡ Stop x → (code spans : List ℕ) (rest : Rest) → m (view (mem t code spans) l rest) ≡ err (told t′ x)
   named-stop q = subst (λ (s : Step). NamedAs l n m t t′ s) q (d .does)
 
 -- an answer that stopped
 pub named-stopped : {l n : ℕ} {m : Compile Unit} {t t′ : List ℕ} {r : Step} {x : Why} → r ≡ Stop x →
-    ((code spans : List ℕ) (rest : Rest) → m (view (mem t code spans) l rest) ≡ err (refusal-of x)) → Named l n m t t′ r
+    ((code spans : List ℕ) (rest : Rest) → m (view (mem t code spans) l rest) ≡ err (told t′ x)) → Named l n m t t′ r
 named-stopped {l} {n} {m} {t} {t′} q h = record { does = subst (λ (s : Step). NamedAs l n m t t′ s) (sym q) h }
 
 -- ## One parameter after the other

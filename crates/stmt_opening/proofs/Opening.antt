@@ -10,7 +10,7 @@ use borrow.Author.Tests.{le-leb, lt-leb}
 use Rattle.rules.specs.declared.Span.{Span}
 use Rattle.rules.specs.declared.Refusal.the-variants.{TreeForm, TooManyParams}
 use Rattle.rules.specs.Reader.{got}
-use Rattle.rules.specs.Compiler.{FunctionType, Compiler, CompilerCtx, new-ctx, ok, err, Compile, _>>=_, _>>_, go-on, need, the, slot-zero, begin-ctx, declare-local, define-local, declare-params}
+use Rattle.rules.specs.Compiler.{FunctionType, Compiler, CompilerCtx, new-ctx, ok, err, stopped, Compile, _>>=_, _>>_, go-on, need, the, slot-zero, begin-ctx, declare-local, define-local, declare-params}
 use Rattle.fields.specs.Words.{word16}
 use Rattle.state.specs.Layout.{levels, code-end-at, runs-end-at, codeFrom, runsFrom, codeEnd, runsEnd, chunkAt, ctxAt, type-of, Wf, upvalues-place, depth-place, code-from-place, runs-from-place, level-words}
 use Rattle.state.specs.Contracts.{Kept, Began}
@@ -20,7 +20,7 @@ use Rattle.steps.specs.View.{mem, Rest, view, depth-at, Entered}
 use Rattle.steps.specs.declared.Step.{Step}
 use Rattle.steps.specs.declared.Step.the-variants.{Next, Stop}
 use Rattle.steps.proofs.Steps.{seq-ok, seq-err}
-use Rattle.steps.proofs.Views.{ahead-kept}
+use Rattle.steps.proofs.Views.{ahead-kept, stopped-in}
 use Rattle.step_scopes.proofs.Scopes.{entered}
 use Rattle.steps.proofs.Monad.{regroup}
 use Rattle.stmt_output_laws.specs.Parts.{open-function}
@@ -32,7 +32,7 @@ use Rattle.steps.specs.Why.{too-many-params, refusal-of}
 -- ## The rules' step
 
 module _ (type : FunctionType) (name : ℕ) (params : List ℕ) (span : Span) (x : Compiler) where
-  open-many : 255 < length params → open-function type name params span x ≡ err (TooManyParams span)
+  open-many : 255 < length params → open-function type name params span x ≡ err (stopped (TooManyParams span) x)
   unfolding open-function need _>>_ go-on
   open-many h = rw (lt-leb (length params) 255 h)
 
@@ -124,10 +124,12 @@ module _ (l kind : ℕ) (tree : List ℕ) (at : ℕ) (span : Span) (t : List ℕ
     count-is : {params : List ℕ} {mid : ℕ} → read params mid → length params ≡ count
     count-is r = names-length tree (word16 tree 2) (TreeForm at) (word16 tree (at + 12)) (at + 14) r ∙ sym is
 
-    pub too-many : (t′ : List ℕ) → 255 < count → FunctionOpened l kind tree at span t t′ (Stop (too-many-params span))
+    pub too-many : 255 < count → FunctionOpened l kind tree at span t t (Stop (too-many-params l span))
     unfolding refusal-of
-    too-many t′ h = record {
-      did = λ params mid r code spans rest. open-many (type-of kind) (word16 tree (at + 10)) params span (view (mem t code spans) l rest) (let e = count-is r in omega arith);
+    too-many h = record {
+      did = λ params mid r code spans rest.
+          open-many (type-of kind) (word16 tree (at + 10)) params span (view (mem t code spans) l rest) (let e = count-is r in omega arith)
+          ∙ ap err (stopped-in t code spans rest _ refl);
     }
 
     module _ (name : ℕ) (named : name ≡ word16 tree (at + 10)) (t₁ : List ℕ) (low : l + 1 < levels) (few : count ≤ 255) (b : Began t t₁ l name (count % 256) kind) where

@@ -16,7 +16,7 @@ use Rattle.steps.specs.View.{mem, Rest, view, Fit, depth-at}
 use Rattle.steps.specs.declared.Step.{Step}
 use Rattle.steps.specs.declared.Step.the-variants.{Next, Stop}
 use Rattle.stmt_output_laws.specs.Parts.{open-function}
-use Rattle.steps.specs.Why.{refusal-of}
+use Rattle.steps.specs.Why.{told}
 
 -- ## What was read
 
@@ -51,7 +51,7 @@ pub record Locally (l : ℕ) (m : Compile Unit) (t t′ : List ℕ) : Type 0 whe
 
 abbrev pub NamedAs : (l n : ℕ) → Compile Unit → (t t′ : List ℕ) → Step → Type 0
 NamedAs l n m t t′ (Next v) = Locally l m t t′ × (v ≡ n)
-NamedAs l n m t t′ (Stop x) = (code spans : List ℕ) (rest : Rest) → m (view (mem t code spans) l rest) ≡ err (refusal-of x)
+NamedAs l n m t t′ (Stop x) = (code spans : List ℕ) (rest : Rest) → m (view (mem t code spans) l rest) ≡ err (told t′ x)
 
 pub record Named (l n : ℕ) (m : Compile Unit) (t t′ : List ℕ) (r : Step) : Type 0 where
   pub does : NamedAs l n m t t′ r
@@ -73,7 +73,7 @@ pub record Inside (l : ℕ) (m : Compile Unit) (t t′ : List ℕ) : Type 0 wher
 
 abbrev pub FunctionOpenedAs : (l n : ℕ) → Compile Unit → (t t′ : List ℕ) → Step → Type 0
 FunctionOpenedAs l n m t t′ (Next v) = Inside l m t t′ × (v ≡ n)
-FunctionOpenedAs l n m t t′ (Stop x) = (code spans : List ℕ) (rest : Rest) → m (view (mem t code spans) l rest) ≡ err (refusal-of x)
+FunctionOpenedAs l n m t t′ (Stop x) = (code spans : List ℕ) (rest : Rest) → m (view (mem t code spans) l rest) ≡ err (told t′ x)
 
 pub record FunctionOpened (l kind : ℕ) (tree : List ℕ) (at : ℕ) (span : Span) (t t′ : List ℕ) (r : Step) : Type 0 where
   pub did : (params : List ℕ) (mid : ℕ) → many (word16 tree (at + 12)) (name tree (word16 tree 2) (TreeForm at)) (at + 14) ≡ got params mid

@@ -36,11 +36,13 @@ fn declare_named(t: &mut [u64], level: usize, name: u16, span: Span, next: usize
             number: Why::ALREADY_DEFINED,
             span,
             name,
+            around: level,
         }),
         state::Declared::Full => return Step::Stop(Why {
             number: Why::TOO_MANY_LOCALS,
             span,
             name: 0,
+            around: level,
         }),
     }
     state_names::define_local(t, level);
@@ -92,6 +94,7 @@ pub fn open_function(
             number: Why::TOO_MANY_PARAMS,
             span,
             name: 0,
+            around: level,
         });
     }
     state_levels::begin_ctx(t, level, name, (count % 256) as u8, kind);

@@ -15,7 +15,9 @@ use Rattle.steps.specs.declared.Step.the-variants.{Next, Stop}
 use Rattle.steps.proofs.Steps.{gave-bind, gave-seq, gave-refused, gave-refused-seq, ahead-then}
 use Rattle.steps.proofs.Jumps.{ahead-none}
 use Rattle.stmt_output_laws.specs.Output.{largest, Holds, Added, more, grow, Grew, WorkedAs, Worked, Ready}
+use Rattle.steps.specs.Why.{told}
 use Rattle.steps.specs.declared.Why.{Why}
+use Rattle.rules.specs.declared.Stopped.{Stopped}
 
 -- ## Another turn
 
@@ -134,10 +136,10 @@ module _ {class limit l at mid n : ℕ} {e f : Turn} (free : Free f) {A B : Type
 -- a refusal after a run
 module _ {class limit l at n : ℕ} {e : Turn} {A B : Type 0} {m : Compile A} {v : A} {before : Mem} {out : List ℕ} {now : Mem} {out′ : List ℕ}
     (r : Run class limit l at n e m v before out now out′) where
-  pub run-refused : (next : A → Compile B) {x : Why} → Refused (e .class class) l (next v) now x → Refused class l (m >>= next) before x
+  pub run-refused : (next : A → Compile B) {x : Stopped} → Refused (e .class class) l (next v) now x → Refused class l (m >>= next) before x
   run-refused next h = gave-refused (r .gave) next h
 
-  pub run-refused-seq : (next : Compile B) {x : Why} → Refused (e .class class) l next now x → Refused class l (m >> next) before x
+  pub run-refused-seq : (next : Compile B) {x : Stopped} → Refused (e .class class) l next now x → Refused class l (m >> next) before x
   run-refused-seq next h = gave-refused-seq (r .gave) next h
 
 -- ## Answers
@@ -149,13 +151,13 @@ module _ {class limit l at n : ℕ} {m : Compile Unit} {before : Mem} {out : Lis
   pub reached : {v : ℕ} → Worked class limit l at n m before out now out′ r → r ≡ Next v → v ≡ n
   reached d q = subst (λ (s : Step). WorkedAs class limit l at n m before out now out′ s) q (d .does) .1
 
-  pub refused : {x : Why} → Worked class limit l at n m before out now out′ r → r ≡ Stop x → Refused class l m before x
+  pub refused : {x : Why} → Worked class limit l at n m before out now out′ r → r ≡ Stop x → Refused class l m before (told (t-of now) x)
   refused d q = subst (λ (s : Step). WorkedAs class limit l at n m before out now out′ s) q (d .does)
 
   pub worked : {v : ℕ} → r ≡ Next v → v ≡ n → Grew class limit l at n m before out now out′ → Worked class limit l at n m before out now out′ r
   worked q h g = record { does = subst (λ (s : Step). WorkedAs class limit l at n m before out now out′ s) (sym q) (g, h) }
 
-  pub stopped : {x : Why} → r ≡ Stop x → Refused class l m before x → Worked class limit l at n m before out now out′ r
+  pub stopped : {x : Why} → r ≡ Stop x → Refused class l m before (told (t-of now) x) → Worked class limit l at n m before out now out′ r
   stopped q h = record { does = subst (λ (s : Step). WorkedAs class limit l at n m before out now out′ s) (sym q) h }
 
 -- a statement that finishes no function
@@ -185,10 +187,10 @@ ready-after {l = l} {left′ = left′} y r h =
 
 module _ {class limit l at n : ℕ} {m : Compile Unit} {before : Mem} {out : List ℕ} {now : Mem} {out′ : List ℕ} where
   module _ {inner k : ℕ} {f : Turn} {last : Compile Unit} {mid : Mem} (g : Gave inner limit k f last tt mid now → Grew class limit l at n m before out now out′)
-      (h : (x : Why) → Refused inner k last mid x → Refused class l m before x) where
+      (h : (x : Stopped) → Refused inner k last mid x → Refused class l m before x) where
     conclude-as : (r : Step) → Did inner limit k n f last mid now r → WorkedAs class limit l at n m before out now out′ r
     conclude-as (Next v) d = (g (d .does .0), d .does .1)
-    conclude-as (Stop x) d = h x (d .does)
+    conclude-as (Stop x) d = h (told (t-of now) x) (d .does)
 
     pub conclude : {r : Step} → Did inner limit k n f last mid now r → Worked class limit l at n m before out now out′ r
     conclude {r} d = record { does = conclude-as r d }
@@ -236,7 +238,7 @@ module _ {class limit l at : ℕ} {p : Compile Unit} {before : Mem} {out : List 
       }
 
   module _ {next : ℕ} {q : Compile Unit} {now : Mem} {out′ : List ℕ} (w : Onward class limit l at next p q before out now out′) where
-    pub onward-refused : {x : Why} → Refused class l q now x → Refused class l p before x
+    pub onward-refused : {x : Stopped} → Refused class l q now x → Refused class l p before x
     onward-refused h = record { refuses = λ rest g. w .same rest g ∙ h .refuses (more (w .made) rest) (w .agrees rest g) }
 
     -- one more is done, and q′ is left

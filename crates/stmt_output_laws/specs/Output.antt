@@ -16,6 +16,7 @@ use Rattle.rules.specs.Image.{join, function-bytes}
 use Rattle.rules.specs.Compiler.{Compile}
 use Rattle.fields.specs.Words.{word16}
 use Rattle.state.specs.Layout.{levels, deepest, image-at}
+use Rattle.steps.specs.Why.{told}
 use Rattle.steps.specs.View.{Mem, t-of, Rest, depth-at, Fit, Turn, Gave, Refused}
 use Rattle.steps.specs.declared.Step.{Step}
 use Rattle.steps.specs.declared.Step.the-variants.{Next, Stop}
@@ -77,7 +78,7 @@ pub record Grew (class limit l at n : ℕ) (m : Compile Unit) (before : Mem) (ou
 
 abbrev pub WorkedAs : (class limit l at n : ℕ) → Compile Unit → (before : Mem) → (out : List ℕ) → (now : Mem) → (out′ : List ℕ) → Step → Type 0
 WorkedAs class limit l at n m before out now out′ (Next v) = Grew class limit l at n m before out now out′ × (v ≡ n)
-WorkedAs class limit l at n m before out now out′ (Stop x) = Refused class l m before x
+WorkedAs class limit l at n m before out now out′ (Stop x) = Refused class l m before (told (t-of now) x)
 
 -- what m does, the tree being read from `at` to n
 pub record Worked (class limit l at n : ℕ) (m : Compile Unit) (before : Mem) (out : List ℕ) (now : Mem) (out′ : List ℕ) (r : Step) : Type 0 where

@@ -18,7 +18,7 @@ use Rattle.fields.specs.Words.{word8, word16, letters, span-of}
 use Rattle.tree_laws.proofs.Statements.{SomeAt, return-at}
 use Rattle.state.specs.Layout.{type-of, type-place, level-words}
 use Rattle.steps.specs.View.{Mem, steady, Did, Tried}
-use Rattle.steps.proofs.Steps.{valued, next, stop, halt, then-on, ask, ask-refused}
+use Rattle.steps.proofs.Steps.{valued, next, stop, refuses-in, halt, then-on, ask, ask-refused}
 use Rattle.step_returns.proofs.Returns.{told-type}
 use Rattle.steps.specs.declared.Step.{Step}
 use Rattle.steps.specs.declared.Step.the-variants.{Next, Stop}
@@ -56,13 +56,13 @@ module _ (l n : ℕ) (span : Span) (t : List ℕ) where
   abbrev kind : ℕ
   kind = getD t (l * level-words + type-place) 0
 
-  pub kind-outside : kind ≡ 0 → Tried l n steady (may-return span) t t (Stop (return-outside-function span))
+  pub kind-outside : kind ≡ 0 → Tried l n steady (may-return span) t t (Stop (return-outside-function l span))
   unfolding may-return refuse refusal-of
-  kind-outside e = record { gives = λ code spans fit. stop _ (ask-refused (told-type t code spans l) _ (record { refuses = λ rest h. outside span _ kind e })) }
+  kind-outside e = record { gives = λ code spans fit. stop _ (ask-refused (told-type t code spans l) _ (refuses-in (return-outside-function l span) refl t refl (λ rest h. outside span _ kind e))) }
 
-  pub kind-initializer : 3 ≤ kind → Tried l n steady (may-return span) t t (Stop (return-in-initializer span))
+  pub kind-initializer : 3 ≤ kind → Tried l n steady (may-return span) t t (Stop (return-in-initializer l span))
   unfolding may-return refuse refusal-of
-  kind-initializer e = record { gives = λ code spans fit. stop _ (ask-refused (told-type t code spans l) _ (record { refuses = λ rest h. initializer span _ kind e })) }
+  kind-initializer e = record { gives = λ code spans fit. stop _ (ask-refused (told-type t code spans l) _ (refuses-in (return-in-initializer l span) refl t refl (λ rest h. initializer span _ kind e))) }
 
   pub kind-returns : (kind ≡ 0 → ⊥) → kind < 3 → Tried l n steady (may-return span) t t (Next n)
   unfolding may-return

@@ -36,6 +36,7 @@ fn return_kind(t: &[u64], level: usize, span: Span, next: usize) -> Step
             number: Why::RETURN_OUTSIDE_FUNCTION,
             span,
             name: 0,
+            around: level,
         });
     }
     if INITIALIZER <= kind {
@@ -43,6 +44,7 @@ fn return_kind(t: &[u64], level: usize, span: Span, next: usize) -> Step
             number: Why::RETURN_IN_INITIALIZER,
             span,
             name: 0,
+            around: level,
         });
     }
     Step::Next(next)

@@ -1,5 +1,5 @@
 -- The superclass of a class: a law for each way out of the functions that open it.
-use mathlib.Core.Path.{_≡_, sym, ap, ap₂, subst, _∙_}
+use mathlib.Core.Path.{_≡_, refl, sym, ap, ap₂, subst, _∙_}
 use mathlib.Core.Bool.{not}
 use mathlib.Core.Option.{Option, some}
 use mathlib.Core.List.{List}
@@ -41,10 +41,11 @@ module _ {limit l : ℕ} {t t₁ : List ℕ} (code spans : List ℕ) (fit : Fit 
   defined-fit d q g = g .gives {class = 2} code spans (declared-fit d q) .ahead .fit
 
 module _ {limit l : ℕ} (tree : List ℕ) (at name : ℕ) (span : Span) where
-  pub inherit-self : {k parent : ℕ} {before now : Mem} → parent ≡ word16 tree (at + 25) → parent ≡ name
-      → Did 2 limit l k deeper (compile-superclass limit name (some (superclass-of tree at)) span) before now (Stop (class-inherit-from-self span name))
+  pub inherit-self : {k parent : ℕ} {before : Mem} → parent ≡ word16 tree (at + 25) → parent ≡ name
+      → Did 2 limit l k deeper (compile-superclass limit name (some (superclass-of tree at)) span) before before (Stop (class-inherit-from-self l span name))
   unfolding compile-superclass refusal-of
-  inherit-self {now = now} p q = stop now (refused-seq (failed (not (eqb (word16 tree (at + 25)) name)) (ap not (eq-eqb _ _ (sym p ∙ q)))) _)
+  inherit-self {before = before} p q =
+      stop before (refused-seq (failed (not (eqb (word16 tree (at + 25)) name)) (class-inherit-from-self l span name) refl (ap not (eq-eqb _ _ (sym p ∙ q)))) _)
 
   module _ {k parent : ℕ} {place : Span} (p : parent ≡ word16 tree (at + 25)) (s : place ≡ span-of tree (at + 17)) (q : parent ≡ name → ⊥)
       {t t₁ : List ℕ} (code spans : List ℕ) (fit : Fit (mem t code spans) l limit) (b : Changed l deeper begin-scope t t₁) where

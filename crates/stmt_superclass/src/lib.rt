@@ -46,6 +46,7 @@ fn inherit(
             number: Why::CLASS_INHERIT_FROM_SELF,
             span,
             name,
+            around: level,
         });
     }
     begin_scope(t, level);

@@ -14,6 +14,7 @@ use Rattle.rules.specs.declared.Refusal.the-variants.{TreeForm, TreeTooLong}
 use Rattle.rules.specs.Tree.{Stmts}
 use Rattle.rules.specs.Reader.{Read, got, bad, go-on, _>>=_, _>>_, return, here, need}
 use Rattle.rules.specs.Compiler.{compile-functions}
+use Rattle.rules.specs.Answer.{outside}
 use Rattle.rules.specs.Entry.{refused, from-outcome, from-read, compile-tree}
 use Rattle.rules.specs.TreeFile.{read-stmts, read-stmt, read-names, read-tree}
 use Rattle.fields.specs.Words.{word16, letters}
@@ -104,21 +105,21 @@ sound-file tree q = file-if tree _ refl q
 
 -- ## What the whole comes to, by the answer
 
-refused-by : (tree : List ℕ) (r : Read Stmts) (limit : ℕ) {x : Refusal} → checked tree r ≡ Checked.Bad x → from-read r limit ≡ refused x
+refused-by : (tree : List ℕ) (r : Read Stmts) (limit : ℕ) {x : Refusal} → checked tree r ≡ Checked.Bad x → from-read r limit ≡ refused (outside x)
 unfolding checked from-read
 refused-by tree (got s n) limit q = let z : _≡_ {A = ℕ} 0 1 = cc in absurd (omega arith)
-refused-by tree (bad y) limit {x} q = let z : y ≡ x = cc in ap refused z
+refused-by tree (bad y) limit {x} q = let z : y ≡ x = cc in ap (λ (r : Refusal). refused (outside r)) z
 
-refused-if : (tree : List ℕ) (limit : ℕ) (t : Bool) → leb (length tree) max-tree ≡ t → {x : Refusal} → checked-file tree ≡ Checked.Bad x → compile-tree first-limits tree limit ≡ refused x
+refused-if : (tree : List ℕ) (limit : ℕ) (t : Bool) → leb (length tree) max-tree ≡ t → {x : Refusal} → checked-file tree ≡ Checked.Bad x → compile-tree first-limits tree limit ≡ refused (outside x)
 unfolding checked-file compile-tree
 refused-if tree limit true e {x} q = rw e (refused-by tree (read-tree tree (first-limits .depth) (first-limits .funs)) limit (rw e at q))
 refused-if tree limit false e {x} q =
     let y : Checked.Bad TreeTooLong ≡ Checked.Bad x = rw e at q in
     let z : TreeTooLong ≡ x = cc in
-    rw e (ap refused z)
+    rw e (ap (λ (r : Refusal). refused (outside r)) z)
 
 -- a refusal of the reader is the compiler's
-pub refused-file : (tree : List ℕ) (limit : ℕ) {x : Refusal} → checked-file tree ≡ Checked.Bad x → compile-tree first-limits tree limit ≡ refused x
+pub refused-file : (tree : List ℕ) (limit : ℕ) {x : Refusal} → checked-file tree ≡ Checked.Bad x → compile-tree first-limits tree limit ≡ refused (outside x)
 refused-file tree limit q = refused-if tree limit _ refl q
 
 compiled-if : (tree : List ℕ) (limit : ℕ) (t : Bool) → leb (length tree) max-tree ≡ t → length tree ≤ max-tree → {stmts : Stmts} {n : ℕ}

@@ -1,6 +1,7 @@
 //! The published compiler and what it needs around it, as one crate that is built twice: `plain`, and `counted` with
 //! a `Vec` that counts code bytes. The files of `published/` are copied there at build time and are not edited; only
-//! `types`, `vm::vecmap` and `syntax::parse` are ours, and the reader and the image writer at the end.
+//! `types`, `vm::vecmap` and `syntax::parse` are ours, what looks into a chunk and into the compiler from beside them,
+//! and the reader and the image writer at the end.
 
 mod image;
 mod names;
@@ -14,6 +15,24 @@ mod counting {
     /// Counts nothing and has no limit.
     pub fn within<T>(_limit: usize, compile: impl FnOnce() -> T) -> (Option<T>, usize) {
         (Some(compile()), 0)
+    }
+}
+
+/// The function that was open when the last compiler's work ended.
+mod open {
+    use std::cell::Cell;
+
+    thread_local! {
+        static LAST: Cell<(&'static str, usize)> = const { Cell::new(("", 0)) };
+    }
+
+    /// Its name, which lives as long as the collector does, and how many are open around it.
+    pub fn note(name: &'static str, around: usize) {
+        LAST.set((name, around));
+    }
+
+    pub fn last() -> (&'static str, usize) {
+        LAST.get()
     }
 }
 
@@ -69,6 +88,15 @@ mod vm {
 
     pub mod compiler {
         include!("published/vm/compiler.rs");
+
+        /// A compiler is dropped where its work ends, also by an error and while unwinding: then its context is still the one
+        /// that stood there. Only this module sees it.
+        impl Drop for Compiler {
+            fn drop(&mut self) {
+                let around = std::iter::successors(self.ctx.parent.as_deref(), |ctx| ctx.parent.as_deref()).count();
+                crate::open::note(unsafe { (*(*self.ctx.function).name).value }, around);
+            }
+        }
     }
 
     pub mod gc {
@@ -106,8 +134,8 @@ use names::Names;
 use vm::compiler::Compiler;
 use vm::gc::Gc;
 
-/// A refusal: number, at, end, name.
-pub type Refusal = [u32; 4];
+/// A refusal: number, at, end, name, function, around.
+pub type Refusal = [u32; 6];
 
 /// What one run gives, and the most code bytes that were open at once (0 in the crate that does not count).
 pub struct Run {
@@ -152,14 +180,20 @@ pub fn run_kept(tree: &[u8], limit: usize) -> Kept {
     let (result, peak) = counting::within(limit, || Compiler::compile("", 0, &mut gc));
     let image = match result {
         Some(Ok(script)) => Ok(image::write(script, &file.names)),
-        Some(Err(errors)) => Err(refusal(&errors[0], &file.names)),
-        None => Err([30, 0, 0, 0]),
+        Some(Err(errors)) => Err(within(refusal(&errors[0], &file.names), &file.names)),
+        None => Err(within([30, 0, 0, 0], &file.names)),
     };
     Kept { run: Run { image, peak }, owned: Some((gc, file.names)) }
 }
 
+/// A refusal of the compiler, with the function that was open when it ended. The collector must still be alive.
+fn within([number, at, end, name]: [u32; 4], names: &Names) -> Refusal {
+    let (function, around) = open::last();
+    [number, at, end, name, names.number(function).into(), around as u32]
+}
+
 /// The number, span and name of one of the Rust's errors.
-fn refusal((error, span): &ErrorS, names: &Names) -> Refusal {
+fn refusal((error, span): &ErrorS, names: &Names) -> [u32; 4] {
     let (number, name) = match error {
         Error::NameError(NameError::AlreadyDefined { name }) => (10, names.number(name)),
         Error::NameError(NameError::AccessInsideInitializer { name }) => (11, names.number(name)),

@@ -47,7 +47,7 @@ type Read<T> = Result<T, Refusal>;
 /// Reads a file; with `MARKS`, keeps the marks too.
 pub fn read<const MARKS: bool>(bytes: &[u8]) -> Read<File> {
     if bytes.len() > MOST_BYTES {
-        return Err([2, 0, 0, 0]);
+        return refused(2, 0);
     }
     let mut reader: Reader<MARKS> = Reader { bytes, at: 0, names: Names::new(&[]), marks: vec![] };
     let count = reader.header()?;
@@ -59,7 +59,12 @@ pub fn read<const MARKS: bool>(bytes: &[u8]) -> Read<File> {
 }
 
 fn form<T>(at: usize) -> Read<T> {
-    Err([3, at as u32, 0, 0])
+    refused(3, at)
+}
+
+/// A refusal at a place of the file. It is in no function: nothing is compiled yet.
+fn refused<T>(number: u32, at: usize) -> Read<T> {
+    Err([number, at as u32, 0, 0, 0, 0])
 }
 
 /// How deep a record stands, and in how many `SF` records.
@@ -178,10 +183,10 @@ impl<const MARKS: bool> Reader<'_, MARKS> {
             return form(start);
         }
         if place.depth > MOST_DEPTH {
-            return Err([4, start as u32, 0, 0]);
+            return refused(4, start);
         }
         if &mark == b"SF" && place.open == MOST_OPEN {
-            return Err([5, start as u32, 0, 0]);
+            return refused(5, start);
         }
         if MARKS {
             self.marks.push(mark);

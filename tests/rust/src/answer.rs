@@ -28,6 +28,11 @@ pub fn answer(case: &Case) -> Answer {
     }
 }
 
+/// The same, with the fields alone that every form of answers has.
+pub fn without_function(case: &Case) -> Answer {
+    Answer { function: 0, around: 0, ..answer(case) }
+}
+
 /// The reader's answer alone: 2 to 5, or 0.
 pub fn read(case: &Case) -> Answer {
     plain::read(&case.tree).map_or_else(refused, |_| Answer::default())
@@ -38,6 +43,6 @@ pub fn peak(tree: &[u8]) -> usize {
     counted::run(tree, MOST_CODE as usize).peak
 }
 
-fn refused([number, at, end, name]: [u32; 4]) -> Answer {
-    Answer { number, at, end, name, ..Answer::default() }
+fn refused([number, at, end, name, function, around]: [u32; 6]) -> Answer {
+    Answer { number, at, end, name, function, around, ..Answer::default() }
 }

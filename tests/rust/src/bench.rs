@@ -16,6 +16,8 @@ pub struct Answer {
     pub end: u64,
     pub name: u64,
     pub length: u64,
+    pub function: u64,
+    pub around: u64,
 }
 
 #[link(name = "puffbramble", kind = "static")]

@@ -311,3 +311,27 @@ pub fn peak(image: &[u8]) -> Option<usize> {
     }
     peaks.last().copied()
 }
+
+/// The name of the function whose byte was the first to go past so many open ones while a compiler made this image, and how many
+/// functions were open around it, read off the image; none where all fit.
+pub fn first_past(image: &[u8], limit: usize) -> Option<(u16, u32)> {
+    let functions = read(image)?;
+    past(&functions, functions.len().checked_sub(1)?, limit, 0)
+}
+
+fn past(functions: &[Function], number: usize, limit: usize, around: u32) -> Option<(u16, u32)> {
+    let function = &functions[number];
+    let own = (function.name, around);
+    let division = function.division(&functions[..number])?;
+    for instruction in division.iter().filter(|instruction| form(instruction.opcode) == Some(Form::Closure)) {
+        if instruction.at > limit {
+            return Some(own);
+        }
+        let named = function.closed(instruction.operands[0])? as usize;
+        let inner = past(functions, named, limit - instruction.at, around + 1);
+        if inner.is_some() {
+            return inner;
+        }
+    }
+    (function.code.len() > limit).then_some(own)
+}

@@ -6,7 +6,7 @@ use std::io;
 use std::path::PathBuf;
 use std::process::Command;
 
-use crate::answer::{answer, read};
+use crate::answer::{answer, read, without_function};
 use crate::check;
 use crate::directory;
 use crate::files::{self, Answer, Ask, Case, Lookup};
@@ -77,7 +77,7 @@ pub fn trees(path: &str, batch: &str) -> io::Result<()> {
 }
 
 pub fn cases(path: &str, batch: &str) -> io::Result<()> {
-    compare(&cases_kind(None, answer), &files::read_cases(path)?, batch)
+    compare(&cases_kind(None, without_function), &files::read_cases(path)?, batch)
 }
 
 fn cases_kind(flag: Option<&'static str>, rust: fn(&Case) -> Answer) -> Kind<Case> {

@@ -155,6 +155,17 @@ pub fn read_full_answers(path: &str) -> io::Result<Vec<Answer>> {
     })
 }
 
+pub fn write_full_answers(path: &str, answers: &[Answer]) -> io::Result<()> {
+    let mut out = vec![];
+    for a in answers {
+        put(&mut out, &[a.number, a.at, a.end, a.name, a.length, a.function, a.around]);
+        put_counted(&mut out, &a.image);
+        put(&mut out, &[a.counts.len() as u32]);
+        put(&mut out, &a.counts);
+    }
+    fs::write(path, out)
+}
+
 pub fn write_cases(path: &str, cases: &[Case]) -> io::Result<()> {
     let mut out = vec![];
     for case in cases {

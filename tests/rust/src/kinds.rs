@@ -4,10 +4,31 @@ use crate::answer::{answer, peak};
 use crate::examples;
 use crate::files::{Case, DIRECTORY, PLENTY};
 use crate::limits;
-use crate::random::{nested, random_tree, Rng};
+use crate::random::{nested, random_tree, refused_tree, Rng};
 use crate::small::Small;
 
-pub const KINDS: &str = "random damaged small truncated flipped budget limits edges";
+pub const KINDS: &str = "random damaged small truncated flipped budget refused limits edges";
+
+/// Of so many refused trees, how many for each number. 13 takes some 200,000 bytes; one for 30 gives as many cases as it has code bytes.
+const REFUSED: [(u32, usize); 15] = [
+    (10, 80),
+    (11, 60),
+    (12, 60),
+    (13, 3),
+    (14, 40),
+    (15, 50),
+    (16, 50),
+    (17, 50),
+    (18, 40),
+    (19, 60),
+    (20, 60),
+    (21, 60),
+    (22, 60),
+    (23, 60),
+    (30, 8),
+];
+/// Where a tree for 30 has more code bytes, so many of its budgets are taken.
+const BUDGETS: usize = 200;
 
 /// So many cases of a kind, none with a tree longer than `most`; fewer where the kind has no more.
 pub fn generate(kind: &str, seed: u64, count: usize, most: usize) -> Option<Vec<Case>> {
@@ -19,6 +40,7 @@ pub fn generate(kind: &str, seed: u64, count: usize, most: usize) -> Option<Vec<
         "random" => many(count, fits, || vec![random(&mut rng, most)]),
         "damaged" => many(count, fits, || vec![Case::plenty(damaged(&mut rng, most))]),
         "budget" => many(count, fits, || budget(&mut rng, most)),
+        "refused" => many(count, fits, || refused(&mut rng, most)),
         "small" => Small::new().map(Case::plenty).step_by(stride).filter(fits).take(count).collect(),
         "truncated" => truncated().step_by(stride).filter(fits).take(count).collect(),
         "flipped" => flipped().step_by(stride).filter(fits).take(count).collect(),
@@ -152,6 +174,59 @@ fn flipped() -> impl Iterator<Item = Case> {
 fn budget(rng: &mut Rng, most: usize) -> Vec<Case> {
     let Case { tree, .. } = random(rng, most);
     budgets(rng, tree)
+}
+
+/// A tree that is refused on purpose, with the room that it needs until then and more; or one with every budget of code that
+/// is too small.
+fn refused(rng: &mut Rng, most: usize) -> Vec<Case> {
+    let number = one_of(rng, &REFUSED);
+    if number == 30 {
+        return short_budgets(rng, most);
+    }
+    let tree = refused_tree(rng, number).bytes();
+    let need = peak(&tree) as u32;
+    let (code, spans) = match rng.below(4) {
+        0 => (PLENTY, PLENTY),
+        1 => (need, 3 * need + rng.below(3) as u32),
+        2 => (need + rng.below(9) as u32, PLENTY),
+        _ => (PLENTY, 3 * need + rng.below(9) as u32),
+    };
+    let output = rng.pick(&[0, 9, PLENTY]);
+    vec![Case { options: rng.pick(&[0, DIRECTORY]), ..Case::lent(code, spans, output, tree) }]
+}
+
+/// One item, each as often as its weight says.
+fn one_of(rng: &mut Rng, items: &[(u32, usize)]) -> u32 {
+    let mut at = rng.below(items.iter().map(|(_, weight)| weight).sum());
+    let taken = items.iter().find(|(_, weight)| {
+        let is_here = at < *weight;
+        at = at.saturating_sub(*weight);
+        is_here
+    });
+    taken.expect("a place below the sum").0
+}
+
+/// A tree with each budget of code from none to more than it needs, in code bytes or in span words.
+fn short_budgets(rng: &mut Rng, most: usize) -> Vec<Case> {
+    let tree = match rng.below(4) {
+        0 => random(rng, most.min(600)).tree,
+        1 => {
+            let number = rng.pick(&[10, 11, 12, 19, 20, 21, 22, 23]);
+            refused_tree(rng, number).bytes()
+        }
+        _ => refused_tree(rng, 30).bytes(),
+    };
+    let need = peak(&tree);
+    let stride = (need / BUDGETS).max(1);
+    let first = rng.below(stride);
+    (first..need + 2)
+        .step_by(stride)
+        .map(|code| match rng.below(3) {
+            0 => Case::lent(PLENTY, 3 * code as u32 + rng.below(3) as u32, PLENTY, tree.clone()),
+            1 => Case::lent(code as u32, 3 * code as u32 + rng.below(9) as u32, 0, tree.clone()),
+            _ => Case::lent(code as u32, PLENTY, PLENTY, tree.clone()),
+        })
+        .collect()
 }
 
 /// The limits' trees with room just below, at and above each of their needs.

@@ -50,16 +50,11 @@ impl List {
     }
 }
 
-/// Two-byte names in rising order.
-fn many_names(count: usize) -> Vec<Vec<u8>> {
-    (0..count).map(|n| vec![b'0' + (n / 64) as u8, b'0' + (n % 64) as u8]).collect()
-}
-
-fn nil() -> Node {
+pub fn nil() -> Node {
     word(S, 2)
 }
 
-fn nils(count: usize) -> Vec<Node> {
+pub fn nils(count: usize) -> Vec<Node> {
     vec![nil(); count]
 }
 
@@ -303,7 +298,7 @@ fn depth(list: &mut List) {
 }
 
 /// So many functions in one another around some statements. The names take turns: a function may not declare its own.
-fn in_functions(count: usize, stmts: Vec<Node>) -> Vec<Node> {
+pub fn in_functions(count: usize, stmts: Vec<Node>) -> Vec<Node> {
     (0..count).fold(stmts, |inner, level| vec![fun(S, A + (level % 2) as u16, &[], inner)])
 }
 

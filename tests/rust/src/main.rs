@@ -24,6 +24,7 @@ mod small;
 mod smaller;
 mod touch;
 mod vectors;
+mod within;
 
 use std::collections::BTreeMap;
 use std::env;
@@ -34,11 +35,11 @@ use std::process::ExitCode;
 use files::{Answer, Ask, Case, Lookup};
 
 const USAGE: &str = "\
-beside answer CASES ANSWERS           the compiler's answers
+beside answer [--full] CASES ANSWERS  the compiler's answers; with all their fields
 beside read CASES ANSWERS             the reader's alone: 2 to 5, or 0
 beside check IMAGES ANSWERS           the image checker's answers: 0 with the count, or 40
-beside generate KIND SEED COUNT CASES [MOST]
-                                      cases of a kind, with trees of at most MOST bytes
+beside generate [--full] KIND SEED COUNT CASES [MOST]
+                                      cases of a kind, with trees of at most MOST bytes; with all their fields
 beside images SEED COUNT CASES ANSWERS IMAGES [MOST]
                                       images for the checker, from the accepted ones
 beside large IMAGES                   a few large images
@@ -48,7 +49,8 @@ beside asks IMAGES ASKS               the globals that each image is asked about
 beside compare [--full | --images | --lookup | --read | --touch] FILE BATCH
                                       the port's answers, by a program like tools/batch, beside these; the first
                                       difference in full, and made small
-beside pack CASES ANSWERS OUT, beside unpack IN CASES ANSWERS
+beside pack FULL ANSWERS OUT, beside unpack IN FULL ANSWERS
+                                      between a pack and cases and answers with all their fields
 beside vectors DIR                    writes the committed vectors and a table of what they cover
 beside example DIR                    writes the rules of examples/: text, tree file and, where it is accepted, image
 beside selftest";
@@ -72,15 +74,12 @@ fn main() -> ExitCode {
 /// Runs a command; false where there is no such command.
 fn run(args: &[&str]) -> io::Result<bool> {
     match args {
-        ["answer", cases, answers] => answer_all(cases, answers, answer::answer)?,
+        ["answer", "--full", full, answers] => answer_full(full, answers)?,
+        ["answer", cases, answers] => answer_all(cases, answers, answer::without_function)?,
         ["read", cases, answers] => answer_all(cases, answers, answer::read)?,
         ["check", images, answers] => check_all(images, answers)?,
-        ["generate", kind, seed, count, cases, most @ ..] if most.len() < 2 => {
-            match kinds::generate(kind, number(seed)?, number(count)? as usize, most_of(most)?) {
-                Some(made) => files::write_cases(cases, &made)?,
-                None => return Ok(false),
-            }
-        }
+        ["generate", "--full", rest @ ..] => return generate(rest, files::write_full),
+        ["generate", rest @ ..] => return generate(rest, files::write_cases),
         ["images", seed, count, cases, answers, images, most @ ..] if most.len() < 2 => {
             let accepted = accepted(cases, answers)?;
             let made = images::images(number(seed)?, number(count)? as usize, most_of(most)?, &accepted);
@@ -107,15 +106,15 @@ fn run(args: &[&str]) -> io::Result<bool> {
             let made: Vec<Ask> = files::read_images(images)?.into_iter().flat_map(named).collect();
             files::write_asks(asks, &made)?;
         }
-        ["pack", cases, answers, out] => {
-            let both = read_both(cases, answers)?;
+        ["pack", full, answers, out] => {
+            let both = paired(files::read_full(full)?, files::read_full_answers(answers)?)?;
             fs::write(out, pack::pack_cases(&both))?;
         }
-        ["unpack", packed, cases, answers] => {
+        ["unpack", packed, full, answers] => {
             let both = pack::unpack_cases(&fs::read(packed)?)?;
             let (made, told): (Vec<Case>, Vec<Answer>) = both.into_iter().unzip();
-            files::write_cases(cases, &made)?;
-            files::write_answers(answers, &told)?;
+            files::write_full(full, &made)?;
+            files::write_full_answers(answers, &told)?;
         }
         ["compare", cases, batch] => compare::cases(cases, batch)?,
         ["compare", "--read", cases, batch] => compare::trees(cases, batch)?,
@@ -143,6 +142,26 @@ fn number(text: &str) -> io::Result<u64> {
 
 fn most_of(args: &[&str]) -> io::Result<usize> {
     args.first().map_or(Ok(usize::MAX), |text| number(text).map(|most| most as usize))
+}
+
+/// Cases of a kind into a file; false where there is no such kind.
+fn generate(args: &[&str], write: fn(&str, &[Case]) -> io::Result<()>) -> io::Result<bool> {
+    let [kind, seed, count, cases, most @ ..] = args else { return Ok(false) };
+    if most.len() > 1 {
+        return Ok(false);
+    }
+    let Some(made) = kinds::generate(kind, number(seed)?, number(count)? as usize, most_of(most)?) else {
+        return Ok(false);
+    };
+    write(cases, &made)?;
+    Ok(true)
+}
+
+fn answer_full(full: &str, answers: &str) -> io::Result<()> {
+    let made: Vec<Answer> = files::read_full(full)?.iter().map(answer::answer).collect();
+    files::write_full_answers(answers, &made)?;
+    print_counts(&made);
+    Ok(())
 }
 
 fn answer_all(cases: &str, answers: &str, answer: fn(&Case) -> Answer) -> io::Result<()> {
@@ -174,7 +193,8 @@ fn example(folder: &str) -> io::Result<()> {
         fs::write(format!("{folder}/{name}.lox"), text)?;
         fs::write(format!("{folder}/{name}.tree"), &case.tree)?;
         let told = answer::answer(&case);
-        println!("{name}: number {}, at {}, end {}, name {}", told.number, told.at, told.end, told.name);
+        let Answer { number, at, end, name: named, function, around, .. } = &told;
+        println!("{name}: number {number}, at {at}, end {end}, name {named}, function {function}, around {around}");
         if told.number == 0 {
             fs::write(format!("{folder}/{name}.image"), &told.image)?;
         }
@@ -182,9 +202,7 @@ fn example(folder: &str) -> io::Result<()> {
     Ok(())
 }
 
-fn read_both(cases: &str, answers: &str) -> io::Result<Vec<(Case, Answer)>> {
-    let cases = files::read_cases(cases)?;
-    let answers = files::read_answers(answers)?;
+fn paired(cases: Vec<Case>, answers: Vec<Answer>) -> io::Result<Vec<(Case, Answer)>> {
     if cases.len() != answers.len() {
         return Err(io::Error::other("as many answers as cases are needed"));
     }
@@ -193,7 +211,7 @@ fn read_both(cases: &str, answers: &str) -> io::Result<Vec<(Case, Answer)>> {
 
 /// The images of a case file's answers.
 fn accepted(cases: &str, answers: &str) -> io::Result<Vec<Vec<u8>>> {
-    let both = read_both(cases, answers)?;
+    let both = paired(files::read_cases(cases)?, files::read_answers(answers)?)?;
     Ok(both.into_iter().filter(|(_, answer)| answer.number == 0).map(|(_, answer)| answer.image).collect())
 }
 
@@ -204,4 +222,18 @@ fn print_counts(answers: &[Answer]) {
     }
     let counts: Vec<String> = counts.iter().map(|(number, count)| format!("{number}: {count}")).collect();
     println!("{} answers; {}", answers.len(), counts.join(", "));
+    print_places(answers);
+}
+
+/// For each number that says which function it is in: how many are in the script, how many one deep, two deep and deeper.
+fn print_places(answers: &[Answer]) {
+    let mut places: BTreeMap<u32, [usize; 4]> = BTreeMap::new();
+    for answer in answers.iter().filter(|answer| answer.function > 0 || answer.around > 0) {
+        places.entry(answer.number).or_default()[answer.around.min(3) as usize] += 1;
+    }
+    if !places.is_empty() {
+        let places: Vec<String> =
+            places.iter().map(|(number, [a, b, c, d])| format!("{number}: {a}/{b}/{c}/{d}")).collect();
+        println!("in the script / 1 / 2 / more deep; {}", places.join(", "));
+    }
 }

@@ -66,6 +66,11 @@ pub fn tree(names: usize, stmts: Vec<Node>) -> Tree {
     Tree { names: (0..names).map(|n| vec![b'a' + n as u8]).collect(), stmts }
 }
 
+/// Two-byte names in rising order.
+pub fn many_names(count: usize) -> Vec<Vec<u8>> {
+    (0..count).map(|n| vec![b'0' + (n / 64) as u8, b'0' + (n % 64) as u8]).collect()
+}
+
 fn two(number: usize) -> [u8; 2] {
     u16::try_from(number).expect("a count of two bytes").to_le_bytes()
 }

@@ -1,6 +1,9 @@
 //! Random numbers and random trees.
 
+mod refused;
+
 use crate::node::*;
+pub use refused::refused_tree;
 
 /// A small generator (splitmix64): the same seed gives the same numbers everywhere.
 pub struct Rng(u64);
@@ -118,35 +121,34 @@ pub struct Maker<'a> {
 
 /// A random tree of about so many records.
 pub fn random_tree(rng: &mut Rng, records: usize) -> Tree {
+    let names = some_names(rng);
+    let spans = some_spans(rng);
+    let wild = rng.pick(&[0, 0, 0, 2, 5, 10, 20, 50]);
+    let mut maker = Maker::new(rng, names.len(), spans, wild, records);
+    let mut stmts = vec![];
+    while maker.left > 0 {
+        stmts.push(maker.stmt(1));
+    }
+    Tree { names, stmts }
+}
+
+fn some_names(rng: &mut Rng) -> Vec<Vec<u8>> {
     let count = rng.pick(&[0, 1, 2, 3, 4, 6, 8, 12]);
     let utf8 = !rng.chance(5);
     let most = if utf8 { TEXTS.len() - 2 } else { TEXTS.len() };
     let mut names: Vec<Vec<u8>> = (0..count).map(|_| TEXTS[rng.below(most)].to_vec()).collect();
     names.sort();
     names.dedup();
-    let spans = match rng.below(8) {
+    names
+}
+
+fn some_spans(rng: &mut Rng) -> Spans {
+    match rng.below(8) {
         0 => Spans::Zero,
         1 => Spans::Equal((rng.below(9) as u32, rng.next() as u32)),
         2..=4 => Spans::Rising,
         _ => Spans::Mixed,
-    };
-    let mut maker = Maker {
-        names: FIXED + names.len() as u16,
-        wild: rng.pick(&[0, 0, 0, 2, 5, 10, 20, 50]),
-        left: records as i32,
-        spans,
-        last: (0, 0),
-        serial: 0,
-        open: vec![Open { kind: Kind::Script, scopes: vec![vec![]] }],
-        classes: vec![],
-        unready: vec![],
-        rng,
-    };
-    let mut stmts = vec![];
-    while maker.left > 0 {
-        stmts.push(maker.stmt(1));
     }
-    Tree { names, stmts }
 }
 
 /// Wraps a tree's statements in many records of one kind, to about the limits of depth and of open functions.
@@ -170,7 +172,23 @@ pub fn nested(rng: &mut Rng, mut tree: Tree) -> Tree {
     tree
 }
 
-impl Maker<'_> {
+impl<'a> Maker<'a> {
+    /// A maker of about so many records, with so many written names.
+    fn new(rng: &'a mut Rng, names: usize, spans: Spans, wild: usize, records: usize) -> Self {
+        Self {
+            names: FIXED + names as u16,
+            wild,
+            left: records as i32,
+            spans,
+            last: (0, 0),
+            serial: 0,
+            open: vec![Open { kind: Kind::Script, scopes: vec![vec![]] }],
+            classes: vec![],
+            unready: vec![],
+            rng,
+        }
+    }
+
     fn wild(&mut self) -> bool {
         self.wild > 0 && self.rng.chance(self.wild)
     }
@@ -402,6 +420,17 @@ impl Maker<'_> {
     }
 
     fn function_of(&mut self, span: Span, kind: Kind, name: u16, slot: u16, depth: usize) -> Node {
+        self.function_with(span, kind, name, slot, |maker| maker.stmts(depth + 1))
+    }
+
+    fn function_with(
+        &mut self,
+        span: Span,
+        kind: Kind,
+        name: u16,
+        slot: u16,
+        body: impl FnOnce(&mut Self) -> Vec<Node>,
+    ) -> Node {
         self.left -= 1;
         self.open.push(Open { kind, scopes: vec![vec![slot]] });
         let count = self.rng.pick(&[0, 0, 1, 1, 2, 3]);
@@ -414,7 +443,7 @@ impl Maker<'_> {
             self.declare(param);
             params.push(param);
         }
-        let body = self.stmts(depth + 1);
+        let body = body(self);
         self.open.pop();
         fun(span, name, &params, body)
     }

@@ -11,7 +11,7 @@ use crate::directory;
 use crate::examples::{every_kind, examples};
 use crate::files::{put, put_counted, Answer, Ask, Case, Lookup};
 use crate::images;
-use crate::pack::{pack_cases, pack_full, pack_images, Checked};
+use crate::pack::{pack_full, pack_images, pack_trees, Checked};
 use crate::touch;
 
 /// What a program is run on: small files to vary, each with its length before it, then 0, then the packed vectors.
@@ -35,7 +35,7 @@ fn replay(files: &[Vec<u8>], packed: &[u8], vectors: usize, answer: impl Fn(Vec<
 pub fn tree_replay(folder: &Path, cases: &[(Case, Answer)]) -> io::Result<()> {
     let p2 = examples().swap_remove(1).tree.bytes();
     let read_tree = |tree| read(&Case::plenty(tree));
-    let both = replay(&[p2, every_kind().bytes()], &pack_cases(cases), cases.len(), read_tree);
+    let both = replay(&[p2, every_kind().bytes()], &pack_trees(cases), cases.len(), read_tree);
     write(folder, "tree_replay", both)
 }
 

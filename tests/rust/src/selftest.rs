@@ -13,6 +13,7 @@ use crate::pack::{pack, pack_cases, pack_images, unpack, unpack_cases, unpack_im
 use crate::random::Rng;
 use crate::scripts::SCRIPTS;
 use crate::vectors::checked;
+use crate::within::within;
 
 const RANDOM: usize = 20_000;
 
@@ -36,6 +37,8 @@ pub fn run() {
     images_hold(&all);
     packing_holds(&all);
     directories_hold(&all);
+    functions_hold(&all);
+    budgets_hold(&all);
     compare::selftest();
     scripts_hold();
 }
@@ -96,6 +99,45 @@ fn images_hold(all: &[(Case, Answer)]) {
         count += 1;
     }
     println!("checker: accepts {count} images of the compiler");
+}
+
+/// A refusal of 10 to 30 says the function that it is in, as the request's table has it; no other answer does.
+fn functions_hold(all: &[(Case, Answer)]) {
+    const SCRIPT: u32 = 3;
+    const MOST_OPEN: u32 = 16;
+    let rows = within();
+    for row in &rows {
+        let told = answer(&row.case);
+        let expected = (row.number, u32::from(row.function), row.around);
+        assert_eq!((told.number, told.function, told.around), expected, "{}", row.label);
+    }
+    let mut count = 0;
+    let refused = generate("refused", 5, RANDOM, 3_000).unwrap().into_iter().map(|case| answer(&case));
+    for told in all.iter().map(|(_, told)| told.clone()).chain(refused) {
+        let Answer { number, function, around, .. } = told;
+        if (10..=30).contains(&number) {
+            assert!(around <= MOST_OPEN && (around > 0 || function == SCRIPT));
+            count += 1;
+        } else {
+            assert_eq!((function, around), (0, 0));
+        }
+    }
+    println!("functions: {} rows are as the table has them, {count} refusals name one", rows.len());
+}
+
+/// The function that a 30 is in is the one that the image has for that byte.
+fn budgets_hold(all: &[(Case, Answer)]) {
+    let mut count = 0;
+    for (case, answered) in all.iter().filter(|(_, answer)| answer.number == 0).step_by(5) {
+        let need = peak(&case.tree);
+        for code in (0..need).step_by(need / 9 + 1) {
+            let told = answer(&Case { code: code as u32, ..Case::plenty(case.tree.clone()) });
+            let (function, around) = checker::first_past(&answered.image, code).expect("a budget that is too small");
+            assert_eq!((told.number, told.function, told.around), (30, function.into(), around), "{:02X?}", case.tree);
+            count += 1;
+        }
+    }
+    println!("budgets: {count} are passed in the function that the image has there");
 }
 
 /// What is packed comes back.

@@ -13,7 +13,9 @@ use crate::images;
 use crate::kinds::{full, generate};
 use crate::limits::{limits, Limit};
 use crate::pack::{pack_cases, pack_full, pack_images, Checked};
+use crate::print_places;
 use crate::replay;
+use crate::within::{within, Within};
 
 const SEED: u64 = 20_301;
 const NUMBERS: [u32; 21] = [0, 2, 3, 4, 5, 10, 11, 12, 13, 14, 15, 16, 17, 18, 19, 20, 21, 22, 23, 30, 31];
@@ -77,6 +79,15 @@ fn full_cases() -> Vec<Answered> {
     answered(cases.iter().flat_map(|(case, _)| full(case)).collect())
 }
 
+/// Refusals of 10 to 30, which say the function that they are in: each row of the request's table, and random ones.
+fn refused_cases(rows: &[(Within, Answer)]) -> Vec<Answered> {
+    let mut cases: Vec<Answered> = rows.iter().map(|(row, answer)| (row.case.clone(), answer.clone())).collect();
+    let random =
+        made("refused", SEED + 9, 3_000, 700).into_iter().filter(|(_, answer)| (10..=30).contains(&answer.number));
+    cases.extend(first_of_each(random.collect(), |number| if number == 30 { 40 } else { 6 }));
+    cases
+}
+
 /// The first few limit cases of each answer number.
 fn of_limits(limits: &[(Limit, Answer)], wanted: impl Fn(u32) -> bool, count: usize) -> Vec<Answered> {
     let cases = limits.iter().map(|(limit, answer)| (limit.case.clone(), answer.clone())).collect();
@@ -109,7 +120,7 @@ pub fn checked(image: Vec<u8>) -> Checked {
     }
 }
 
-/// Writes the five files and prints what they cover; an error where something is not covered.
+/// Writes the six files and prints what they cover; an error where something is not covered.
 pub fn write(folder: &str) -> io::Result<()> {
     let limits: Vec<(Limit, Answer)> = limits()
         .into_iter()
@@ -123,6 +134,14 @@ pub fn write(folder: &str) -> io::Result<()> {
     let limit = limits.iter().map(|(limit, answer)| (limit.case.clone(), answer.clone())).collect::<Vec<_>>();
     let images = image_cases(&limits);
     let full = full_cases();
+    let rows: Vec<(Within, Answer)> = within()
+        .into_iter()
+        .map(|row| {
+            let answer = answer(&row.case);
+            (row, answer)
+        })
+        .collect();
+    let refused = refused_cases(&rows);
 
     fs::create_dir_all(folder)?;
     let files = [
@@ -131,6 +150,7 @@ pub fn write(folder: &str) -> io::Result<()> {
         ("limits", pack_cases(&limit)),
         ("images", pack_images(&images)),
         ("full", pack_full(&full)),
+        ("refused", pack_cases(&refused)),
     ];
     for (name, bytes) in &files {
         fs::write(Path::new(folder).join(format!("{name}.pack")), bytes)?;
@@ -138,7 +158,7 @@ pub fn write(folder: &str) -> io::Result<()> {
     let for_reader: Vec<Answered> = tree.iter().chain(&limit).cloned().collect();
     replay::tree_replay(Path::new(folder), &for_reader)?;
     let for_compiler: Vec<Answered> = compile.iter().chain(&limit).cloned().collect();
-    let with_options: Vec<Answered> = for_compiler.iter().chain(&full).cloned().collect();
+    let with_options: Vec<Answered> = for_compiler.iter().chain(&full).chain(&refused).cloned().collect();
     replay::compile_replay(Path::new(folder), &with_options)?;
     replay::program(Path::new(folder), &for_compiler)?;
     replay::image_replay(Path::new(folder), &images)?;
@@ -152,8 +172,11 @@ pub fn write(folder: &str) -> io::Result<()> {
     print_numbers("limits.pack", limit.iter().map(|(_, answer)| answer.number));
     print_numbers("images.pack", images.iter().map(|(_, number, _)| *number));
     print_numbers("full.pack", full.iter().map(|(_, answer)| answer.number));
+    print_numbers("refused.pack", refused.iter().map(|(_, answer)| answer.number));
+    print_places(&refused.iter().map(|(_, answer)| answer.clone()).collect::<Vec<_>>());
     let all: Vec<&Answered> = tree.iter().chain(&compile).chain(&limit).collect();
-    let complete = [covers_numbers(&all), covers_opcodes(&all), covers_marks(&all), covers_limits(&limits)];
+    let complete =
+        [covers_numbers(&all), covers_opcodes(&all), covers_marks(&all), covers_limits(&limits), covers_rows(&rows)];
     if complete.contains(&false) {
         return Err(io::Error::other("the vectors do not cover everything"));
     }
@@ -210,4 +233,24 @@ fn covers_limits(limits: &[(Limit, Answer)]) -> bool {
     }
     let labels: BTreeSet<&str> = limits.iter().map(|(limit, _)| limit.label.as_str()).collect();
     complete && labels.len() == limits.len()
+}
+
+/// Each row's case has the number, the function and the functions around it that it must have, and no case comes twice.
+fn covers_rows(rows: &[(Within, Answer)]) -> bool {
+    let mut complete = true;
+    for (row, answer) in rows {
+        let expected = (row.number, u32::from(row.function), row.around);
+        let told = (answer.number, answer.function, answer.around);
+        if told != expected {
+            println!("{}: {told:?}, expected {expected:?}", row.label);
+            complete = false;
+        }
+    }
+    let labels: BTreeSet<&str> = rows.iter().map(|(row, _)| row.label.as_str()).collect();
+    println!(
+        "functions of refusals, {} cases: {}",
+        rows.len(),
+        if complete { "as the table has them" } else { "not all" }
+    );
+    complete && labels.len() == rows.len()
 }

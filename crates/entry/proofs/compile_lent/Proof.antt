@@ -2,7 +2,7 @@
 use mathlib.Core.Path.{refl, sym, _∙_}
 use lib.Seq.{length-take-le}
 use Rattle.tree.proofs.SoundFile.{refused-file}
-use Rattle.entry.proofs.Answers.{written-refused, written-as, table-short, table-enough}
+use Rattle.entry.proofs.Answers.{refused-as, written-as, table-short, table-enough}
 use borrow.Author.Needs.{needs}
 use Rattle.entry.proofs.compile_lent.Statement.{statement}
 use Rattle.entry.proofs.compile_lent.Tie as tie
@@ -88,7 +88,10 @@ else1-of-slice-known8 c = else1-of-compile-sound (compile-sound-of-slice-known8 
 -- ## Needs
 
 returns : tie.Need-returns
-returns c = let a = start-of-then1 c .args in written-refused _ refl (table-short (a .tree .now) (a .options) (a .table .now) (a .code .now) (a .spans .now) (a .out .now) (c .if1 .taken))
+returns c =
+    let d = c .before in
+    let a = start-of-then1 d .args in
+    refused-as (c .outside .ensures) (table-short (a .tree .now) (a .options) (a .table .now) (a .code .now) (a .spans .now) (a .out .now) (d .if1 .taken))
 
 read-requires : tie.Need-read-requires
 read-requires c κs = search needs
@@ -114,8 +117,10 @@ compile-sound-requires c κs = (
 
 returns-2 : tie.Need-returns-2
 returns-2 c =
-    let a = start-of-known-told c .args in written-as (table-enough (a .tree .now) (a .options) (a .table .now) (a .code .now) (a .spans .now) (a .out .now)
-    (else1-of-known-told c .if1 .left)) (written-refused _ refl (refused-file _ _ (sym (c .before .before .before .read .ensures) ∙ c .before .x .given .1)))
+    let d = c .before in
+    let a = start-of-known-told d .args in
+    written-as (table-enough (a .tree .now) (a .options) (a .table .now) (a .code .now) (a .spans .now) (a .out .now) (else1-of-known-told d .if1 .left))
+    (refused-as (c .outside2 .ensures) (refused-file _ _ (sym (d .before .before .before .read .ensures) ∙ d .before .x .given .1)))
 
 same-length : tie.Need-same-length
 same-length c = search needs
@@ -134,13 +139,21 @@ returns-3 c =
     let a = start-of-slice-known8 c .args in written-as (table-enough (a .tree .now) (a .options) (a .table .now) (a .code .now) (a .spans .now) (a .out .now)
     (else1-of-slice-known8 c .if1 .left)) (compile-sound-of-slice-known8 c .compile-sound .ensures)
 
+outside-requires : tie.Need-outside-requires
+outside-requires c κs = search needs
+
+outside-requires-2 : tie.Need-outside-requires-2
+outside-requires-2 c κs = search needs
+
 pub compile-lent-spec : {M : Type 1} → statement M
 compile-lent-spec =
     tie.close
     (tie.spec
+    outside-requires
     returns
     read-requires
     enum-known-x
+    outside-requires-2
     enum-known-script
     slice-relend-prefix-compile-sound
     slice-aggregate-compile-sound

@@ -124,14 +124,17 @@ compile-script-of-slice-known9 c = compile-script-of-code (c .before .before .be
 abbrev compile-script-of-at-match-keys2 : tie.At-match-keys2 → tie.After-compile-script
 compile-script-of-at-match-keys2 c = compile-script-of-slice-known9 (c .before .before .before)
 
-abbrev compile-script-of-refusal-of : tie.After-refusal-of → tie.After-compile-script
-compile-script-of-refusal-of c = compile-script-of-at-match-keys2 (c .before .before .before)
+abbrev r2-of-stopped-of : tie.After-stopped-of → tie.After-r2
+r2-of-stopped-of c = c .before .before .before
 
-abbrev code-limit-of-refusal-of : tie.After-refusal-of → tie.After-code-limit
-code-limit-of-refusal-of c = code-limit-of-compile-script (compile-script-of-refusal-of c)
+abbrev compile-script-of-stopped-of : tie.After-stopped-of → tie.After-compile-script
+compile-script-of-stopped-of c = compile-script-of-at-match-keys2 (r2-of-stopped-of c .before)
 
-abbrev start-of-refusal-of : tie.After-refusal-of → tie.Start
-start-of-refusal-of c = start-of-compile-script (compile-script-of-refusal-of c)
+abbrev code-limit-of-stopped-of : tie.After-stopped-of → tie.After-code-limit
+code-limit-of-stopped-of c = code-limit-of-compile-script (compile-script-of-stopped-of c)
+
+abbrev start-of-stopped-of : tie.After-stopped-of → tie.Start
+start-of-stopped-of c = start-of-compile-script (compile-script-of-stopped-of c)
 
 -- ## Needs
 
@@ -156,8 +159,11 @@ finish-image-requires c κs =
 enum-known-r-2 : tie.Need-enum-known-r-2
 enum-known-r-2 c = search needs
 
-refusal-of-requires : tie.Need-refusal-of-requires
-refusal-of-requires c κs = search needs
+stopped-of-requires : tie.Need-stopped-of-requires
+stopped-of-requires c κs =
+    let cs = compile-script-of-at-match-keys2 (c .before .before .before) in
+    let bs = begin-script-of-compile-script cs in
+    omega (arith, cs .compile-script .kept .1 .1 .1 .0, bs .begin-script .kept .0, start-of-compile-script cs .pre .1)
 
 same-length : tie.Need-same-length
 same-length c = search needs
@@ -178,7 +184,10 @@ returns c =
     (r-of-slice-known12 c .r .given .1)) (c .before .before .finish-image .ensures))
 
 same-length-5 : tie.Need-same-length-5
-same-length-5 c = search needs
+same-length-5 c =
+    let cs = compile-script-of-stopped-of c in
+    let bs = begin-script-of-compile-script cs in
+    omega (arith, cs .compile-script .kept .1 .1 .1 .1 .1 .1 .0, clear8-of-begin-script bs .clear8 .kept .0)
 
 same-length-6 : tie.Need-same-length-6
 same-length-6 c = search needs
@@ -191,8 +200,8 @@ same-length-8 c = search needs
 
 returns-2 : tie.Need-returns-2
 returns-2 c =
-    written-limit _ (code-limit-of-refusal-of c .code-limit .ensures)
-    (refused-as (c .refusal-of .ensures) (sound-refused _ (start-of-refusal-of c .pre .0) (compile-script-of-refusal-of c .compile-script .ensures) (c .before .before .r2 .given .1)))
+    written-limit _ (code-limit-of-stopped-of c .code-limit .ensures)
+    (refused-as (c .stopped-of .ensures) (sound-refused _ (start-of-stopped-of c .pre .0) (compile-script-of-stopped-of c .compile-script .ensures) (r2-of-stopped-of c .r2 .given .1)))
 
 pub compile-sound-spec : {M : Type 1} → statement M
 compile-sound-spec =
@@ -207,7 +216,7 @@ compile-sound-spec =
     slice-read-finish-image
     finish-image-requires
     enum-known-r-2
-    refusal-of-requires
+    stopped-of-requires
     same-length
     same-length-2
     same-length-3

@@ -27,8 +27,8 @@ enum-known-made-2 c = search needs
 clear8-requires-2 : tie.Need-clear8-requires-2
 clear8-requires-2 c κs = search needs
 
-refused-requires : tie.Need-refused-requires
-refused-requires c κs = search needs
+refused-in-requires : tie.Need-refused-in-requires
+refused-in-requires c κs = search needs
 
 same-length : tie.Need-same-length
 same-length c = search needs
@@ -86,8 +86,8 @@ clear8-of-accepted c = clear8-of-clear32 (clear32-of-accepted c)
 abbrev made2-of-clear82 : tie.After-clear82 → tie.After-made2
 made2-of-clear82 c = c .before .before .before
 
-abbrev made2-of-refused : tie.After-refused → tie.After-made2
-made2-of-refused c = made2-of-clear82 (c .before .before .before)
+abbrev made2-of-refused-in : tie.After-refused-in → tie.After-made2
+made2-of-refused-in c = made2-of-clear82 (c .before .before .before)
 
 abbrev clear32-of-spans : tie.After-spans → tie.After-clear32
 clear32-of-spans c = c .before
@@ -98,23 +98,23 @@ clear32-of-made2 c = clear32-of-spans (c .before .before .before)
 abbrev start-of-made2 : tie.After-made2 → tie.Start
 start-of-made2 c = start-of-clear32 (clear32-of-made2 c)
 
-abbrev start-of-refused : tie.After-refused → tie.Start
-start-of-refused c = start-of-made2 (made2-of-refused c)
+abbrev start-of-refused-in : tie.After-refused-in → tie.Start
+start-of-refused-in c = start-of-made2 (made2-of-refused-in c)
 
 abbrev clear64-of-made2 : tie.After-made2 → tie.After-clear64
 clear64-of-made2 c = clear64-of-clear32 (clear32-of-made2 c)
 
-abbrev clear64-of-refused : tie.After-refused → tie.After-clear64
-clear64-of-refused c = clear64-of-made2 (made2-of-refused c)
+abbrev clear64-of-refused-in : tie.After-refused-in → tie.After-clear64
+clear64-of-refused-in c = clear64-of-made2 (made2-of-refused-in c)
 
 abbrev clear8-of-made2 : tie.After-made2 → tie.After-clear8
 clear8-of-made2 c = clear8-of-clear32 (clear32-of-made2 c)
 
-abbrev clear8-of-refused : tie.After-refused → tie.After-clear8
-clear8-of-refused c = clear8-of-made2 (made2-of-refused c)
+abbrev clear8-of-refused-in : tie.After-refused-in → tie.After-clear8
+clear8-of-refused-in c = clear8-of-made2 (made2-of-refused-in c)
 
-abbrev clear32-of-refused : tie.After-refused → tie.After-clear32
-clear32-of-refused c = clear32-of-made2 (made2-of-refused c)
+abbrev clear32-of-refused-in : tie.After-refused-in → tie.After-clear32
+clear32-of-refused-in c = clear32-of-made2 (made2-of-refused-in c)
 
 -- ## Needs
 
@@ -138,10 +138,10 @@ same-length-7 c = search needs
 
 returns-2 : tie.Need-returns-2
 returns-2 c =
-    let a = start-of-refused c .args in left (lent-of 0 (a .table .now) (a .code .now) (a .spans .now) (a .out .now))
-    (c .refused .ensures ∙ ap answer-of (sym (made2-of-refused c .made2 .given .1)))
-    (c .before .before .before .clear82 .ensures ∙ ap (output-of _) (sym (made2-of-refused c .made2 .given .1)))
-    (clear64-of-refused c .clear64 .ensures) (clear8-of-refused c .clear8 .ensures) (clear32-of-refused c .clear32 .ensures)
+    let a = start-of-refused-in c .args in left (lent-of 0 (a .table .now) (a .code .now) (a .spans .now) (a .out .now))
+    (c .refused-in .ensures ∙ ap answer-of (sym (made2-of-refused-in c .made2 .given .1)))
+    (c .before .before .before .clear82 .ensures ∙ ap (output-of _) (sym (made2-of-refused-in c .made2 .given .1)))
+    (clear64-of-refused-in c .clear64 .ensures) (clear8-of-refused-in c .clear8 .ensures) (clear32-of-refused-in c .clear32 .ensures)
 
 pub end-call-spec : {M : Type 1} → statement M
 end-call-spec =
@@ -154,7 +154,7 @@ end-call-spec =
     accepted-requires
     enum-known-made-2
     clear8-requires-2
-    refused-requires
+    refused-in-requires
     same-length
     same-length-2
     same-length-3

@@ -13,11 +13,22 @@ asks-directory-requires c κs = search needs
 whole-bytes-requires : tie.Need-whole-bytes-requires
 whole-bytes-requires c κs = search needs
 
+-- ## Places
+
+abbrev start-of-slice-known : tie.After-slice-known → tie.Start
+start-of-slice-known c = c .before
+
+abbrev start-of-then1 : tie.Then1 → tie.Start
+start-of-then1 c = start-of-slice-known (c .before .before .before)
+
+-- ## Needs
+
 returns : tie.Need-returns
 returns c =
-    let a = c .before .before .before .before .args in
-    finished-full (a .options) (a .functions) (a .n) (c .before .before .asks-directory .ensures) (c .before .whole-bytes .ensures)
-    (omega (arith, c .if1 .taken))
+    let d = c .before in
+    let a = start-of-then1 d .args in
+    finished-full (a .options) (a .functions) (a .n) (d .before .before .asks-directory .ensures) (d .before .whole-bytes .ensures) (c .outside .ensures)
+    (omega (arith, d .if1 .taken))
 
 put-directory-requires : tie.Need-put-directory-requires
 put-directory-requires c κs =
@@ -64,12 +75,16 @@ returns-2 c =
     finished-whole (a .options) (a .functions) (a .n) (joined .before .before .before .asks-directory .ensures) (joined .before .before .whole-bytes .ensures)
     (omega (arith, joined .before .if1 .left)) (behind-of joined) (c .before .before .put-header .ensures)
 
+outside-requires : tie.Need-outside-requires
+outside-requires c κs = search needs
+
 pub finish-image-spec : {M : Type 1} → statement M
 finish-image-spec =
     tie.close
     (tie.spec
     asks-directory-requires
     whole-bytes-requires
+    outside-requires
     returns
     put-directory-requires
     put-header-requires

@@ -98,10 +98,12 @@ module _ {M : Type 1} (𝓤 : URA M) (H : Heap 𝓤) (A : Atoms 𝓤) (W : Given
 
   -- each field of an answer fits
   abbrev Small : Answer → Type 0
-  Small r = (r .number < 2 ^ 64) × ((r .at < 2 ^ 64) × ((r .end < 2 ^ 64) × ((r .name < 2 ^ 64) × (r .length < 2 ^ 64))))
+  Small r = (r .number < 2 ^ 64) × ((r .at < 2 ^ 64) × ((r .end < 2 ^ 64) × ((r .name < 2 ^ 64) × ((r .length < 2 ^ 64) × ((r .function < 2 ^ 64) × (r .around < 2 ^ 64))))))
 
   made : (r : Answer) → Small r → Is S.the-row r (S′.lowered r ∷ [])
-  made r g = LL.owes S.the-type S′.the-laws r ((refl, g .0), ((refl, g .1 .0), ((refl, g .1 .1 .0), ((refl, g .1 .1 .1 .0), ((refl, g .1 .1 .1 .1), tt)))))
+  made r g =
+      LL.owes S.the-type S′.the-laws r
+      ((refl, g .0), ((refl, g .1 .0), ((refl, g .1 .1 .0), ((refl, g .1 .1 .1 .0), ((refl, g .1 .1 .1 .1 .0), ((refl, g .1 .1 .1 .1 .1 .0), ((refl, g .1 .1 .1 .1 .1 .1), tt)))))))
 
   exits : (r : Answer) → Small r → r ≡ spanAt ys k → ent 𝓤 (⋆ 𝓤 H A (‵ (flft κ q) ∷ ‵ Own ∷ ‵ Offset ∷ [])) (Post (S′.lowered r))
   exits r g e =
@@ -180,7 +182,8 @@ module _ {M : Type 1} (𝓤 : URA M) (H : Heap 𝓤) (A : Atoms 𝓤) (W : Given
         -- the run holds the byte: the slice is shut, and the locals are freed
         (λ here. shuts-slice ! tt T.the-row q′ ys b o $
         assigns ! (agg ! (and-then ! (lit ! tt) (and-then ! (load ! (from ! (stop !)) (look ! 13 refl))
-        (and-then ! (load ! (from ! (stop !)) (look ! 11 refl)) (and-then ! (lit ! tt) (and-then ! (lit ! tt) (no-more !)))))))
+        (and-then ! (load ! (from ! (stop !)) (look ! 11 refl)) (and-then ! (lit ! tt) (and-then ! (lit ! tt)
+        (and-then ! (lit ! tt) (and-then ! (lit ! tt) (no-more !)))))))))
         (from ! (stop !)) (init ! 27 refl (fits (found e) (small g))) $
         returns-within ! Post refl (look ! 27 refl) $ forget ! 3 refl $ forget ! 5 refl $ forget ! 7 refl $ forget ! 9 refl $ forget ! 11 refl $ forget ! 13
         refl $ forget ! 15 refl $ forget ! 17 refl $ forget ! 19 refl $ forget ! 21 refl $ forget ! 23 refl $ forget ! 25 refl $ forget ! 27 refl $
@@ -194,7 +197,8 @@ module _ {M : Type 1} (𝓤 : URA M) (H : Heap 𝓤) (A : Atoms 𝓤) (W : Given
         again ! Nearer At u (next less past) (add-one-dec (length ys) (u .0) (inside less)))))
         -- the runs are passed
         (λ over. jumps ! $ exec ! C Λ En mirs.t-4 (atRet En Post) $ shuts-slice ! tt T.the-row q′ ys b o $
-        assigns ! (agg ! (and-then ! (lit ! tt) (and-then ! (lit ! tt) (and-then ! (lit ! tt) (and-then ! (lit ! tt) (and-then ! (lit ! tt) (no-more !)))))))
+        assigns ! (agg ! (and-then ! (lit ! tt) (and-then ! (lit ! tt) (and-then ! (lit ! tt) (and-then ! (lit ! tt) (and-then ! (lit ! tt)
+        (and-then ! (lit ! tt) (and-then ! (lit ! tt) (no-more !)))))))))
         (from ! (stop !)) (init ! 27 refl (fits noSuchByte nothing-small)) $
         returns ! (look ! 27 refl) $ forget ! 7 refl $ forget ! 9 refl $ forget ! 19 refl $ forget ! 21 refl $ forget ! 23 refl $ forget ! 25 refl $ forget ! 27 refl $
         freed noSuchByte nothing-small (sym (ended-at ys (u .0) (u .1 .0) (nltb→le (u .0) (length ys) over)) ∙ u .1 .1 .1 .1))
@@ -218,13 +222,13 @@ module _ {M : Type 1} (𝓤 : URA M) (H : Heap 𝓤) (A : Atoms 𝓤) (W : Given
         wide-end g = omega (arith, g .1 .1 .1 .0 .1)
 
         small : Is T.the-row e (T′.lowered e ∷ []) → Small (found e)
-        small g = (lit< tt, (wide-start g, (wide-end g, (lit< tt, lit< tt))))
+        small g = (lit< tt, (wide-start g, (wide-end g, (lit< tt, (lit< tt, (lit< tt, lit< tt))))))
 
         nothing-small : Small noSuchByte
-        nothing-small = (lit< tt, (lit< tt, (lit< tt, (lit< tt, lit< tt))))
+        nothing-small = (lit< tt, (lit< tt, (lit< tt, (lit< tt, (lit< tt, (lit< tt, lit< tt))))))
 
         fits : (r : Answer) → Small r → T (hasTy S′.mir (S′.lowered r)) × WT (S′.lowered r)
-        fits r g = (tt, (record { fits = g .0 }, (record { fits = g .1 .0 }, (record { fits = g .1 .1 .0 }, (record { fits = g .1 .1 .1 .0 }, (record { fits = g .1 .1 .1 .1 }, tt))))))
+        fits r g = (tt, (record { fits = g .0 }, (record { fits = g .1 .0 }, (record { fits = g .1 .1 .0 }, (record { fits = g .1 .1 .1 .0 }, (record { fits = g .1 .1 .1 .1 .0 }, (record { fits = g .1 .1 .1 .1 .1 .0 }, (record { fits = g .1 .1 .1 .1 .1 .1 }, tt))))))))
 
         less-left : u .1 .0 - e .count < 2 ^ 64
         less-left = omega (arith, u .1 .1 .1 .0)

@@ -1,10 +1,11 @@
 -- `emit_loop` meets its contract. Assumes nothing.
 use native.Mathlib.Omega.{arith}
+use mathlib.Core.Path.{refl}
 use mathlib.Core.List.{[]}
 use borrow.Author.Tests.{le-leb, lt-leb}
 use borrow.Author.Needs.{needs}
 use Rattle.rules.specs.Compiler.{emit-op, emit-loop}
-use Rattle.steps.specs.Why.{refusal-of}
+use Rattle.steps.specs.Why.{jump-too-large, refusal-of}
 use Rattle.steps.proofs.Steps.{went, halt, then-on, stop, ask, ask-seq, ask-refused, refused-seq, passed, failed}
 use Rattle.steps.specs.View.{code-len}
 use Rattle.step_jumps.proofs.emit_loop.Statement.{statement}
@@ -203,7 +204,7 @@ returns : tie.Need-returns
 unfolding emit-loop emit-op refusal-of
 returns c =
     λ class. let a = start-of-then1 c .args in stop _ (ask-refused (c .before .code-length .ensures .says class (a .code .now) (a .spans .now)) _
-    (refused-seq (failed _ (lt-leb _ _ (c .if1 .taken))) _))
+    (refused-seq (failed _ (jump-too-large (a .level) (a .span)) refl (lt-leb _ _ (c .if1 .taken))) _))
 
 emit-op-requires : tie.Need-emit-op-requires
 emit-op-requires c κs = search needs

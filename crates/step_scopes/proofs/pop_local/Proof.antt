@@ -192,7 +192,7 @@ returns-3 : tie.Need-returns-3
 returns-3 c =
     let a = start-of-enum-told2 c .args in ways.popped-full (a .level) (a .limit) (a .span) (a .t .now) (a .code .now) (a .spans .now)
     (start-of-enum-told2 c .pre) (else1-of-enum-told2 c .if1 .left) (else2-of-enum-told2 c .if2 .left) _ (drop-op-of-enum-told2 c .drop-op .ensures) _ _ _ _
-    (emit-u8-of-enum-told2 c .emit-u8 .ensures) _ (c .enum-told2 .given .1)
+    (emit-u8-of-enum-told2 c .emit-u8 .ensures) (c .enum-told2 .given .1)
 
 drop-local-requires : tie.Need-drop-local-requires
 drop-local-requires c κs =

@@ -168,7 +168,7 @@ declare-named-of-slice-known4 c = declare-named-of-enum-told (enum-told-of-slice
 -- ## Needs
 
 returns : tie.Need-returns
-returns c = let a = start-of-then1 c .args in too-many (a .level) (a .kind) (a .tree .now) (a .at) (a .span) (a .t .now) _ (c .before .u16-at2 .ensures) (a .t .now) (c .if1 .taken)
+returns c = let a = start-of-then1 c .args in too-many (a .level) (a .kind) (a .tree .now) (a .at) (a .span) (a .t .now) _ (c .before .u16-at2 .ensures) (c .if1 .taken)
 
 cast-begin-ctx : tie.Need-cast-begin-ctx
 cast-begin-ctx c = search needs
