@@ -1,6 +1,7 @@
 // Replays the vectors for the compiler (tests/vectors/README.md has their form): each tree is compiled with what its vector asks for and lends, and
 // the answer's seven numbers and every byte of the output are compared with the vector's. Written is how many agree; tests/rust has made what is
 // expected.
+#![tactic(auto)]
 ghost use Rattle.io.specs.Counts.{IsPrefixLen};
 
 use rules::Answer;

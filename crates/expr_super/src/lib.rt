@@ -1,4 +1,5 @@
 // A method of the superclass.
+#![tactic(auto)]
 ghost use Rattle.rules.specs.Compiler.{compile_super};
 ghost use Rattle.steps.specs.View.{mem, Fit, steady, Did};
 

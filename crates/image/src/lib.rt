@@ -1,4 +1,5 @@
 // The image checker, the lookup of a function's code, and where the directory stands.
+#![tactic(auto)]
 
 ghost use Rattle.std.specs.Prelude.{◌≡◌, ◌+◌};
 ghost use Rattle.rules.specs.Checker.{image_of, code_place, code_answer, code_part, directory_of};

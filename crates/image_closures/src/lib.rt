@@ -1,4 +1,5 @@
 // Whether each function of the constants is named by one CLOSURE, in a code that divides.
+#![tactic(auto)]
 
 ghost use Rattle.std.specs.Prelude.{◌≡◌, true, eqb, ℕ, get_or};
 ghost use Rattle.rules.specs.Base.{if◌then◌else◌, all_below};

@@ -1,4 +1,5 @@
 // What the code of one function of an image is made of: a constant and what follows an opcode as numbers, and how many bytes an instruction has.
+#![tactic(auto)]
 
 ghost use Rattle.std.specs.Prelude.{◌≡◌, ◌+◌, ◌<◌, length, get_or, drop};
 ghost use Rattle.image_code.specs.Forms.{form_of};

@@ -1,4 +1,5 @@
 // The constants of one function of an image: that no two are equal, that each function among them is an earlier one, and what kind each is.
+#![tactic(auto)]
 
 ghost use Rattle.std.specs.Prelude.{◌≡◌, ℕ, ◌+◌, ◌*◌, ◌%◌, ◌<◌, ◌≤◌, length, get_or, true};
 ghost use Rattle.rules.specs.Reader.{got, many};

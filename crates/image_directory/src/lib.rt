@@ -1,4 +1,5 @@
 // The directory behind the functions of an image: whether it is theirs, and the lookup of one function through it.
+#![tactic(auto)]
 
 ghost use Rattle.std.specs.Prelude.{◌≡◌, ◌+◌, ◌*◌, length};
 ghost use Rattle.rules.specs.Reader.{many};

@@ -1,4 +1,5 @@
 // Whether a code divides into instructions whose operands are as they should.
+#![tactic(auto)]
 
 ghost use Rattle.std.specs.Prelude.{◌≡◌, ◌+◌, ◌*◌, ◌<◌, ◌≤◌, length, get_or, take, drop};
 ghost use Rattle.rules.specs.Division.{pairs_fit, operands_fit};

@@ -1,4 +1,5 @@
 // The functions of an image, one after the other: the constants, runs and code of each are judged by the functions before it.
+#![tactic(auto)]
 
 ghost use Rattle.std.specs.Prelude.{◌≡◌, [], ℕ, ◌+◌, ◌<◌, ◌≤◌, length, get_or};
 ghost use Rattle.rules.specs.Reader.{many};

@@ -1,5 +1,6 @@
 // The code of one function of an image: whether it divides into instructions whose operands are as they should, whose jumps land on
 // instructions, and among which each function of the constants is named by one CLOSURE.
+#![tactic(auto)]
 
 ghost use Rattle.std.specs.Prelude.{◌≡◌, length};
 ghost use Rattle.image_code.specs.Table.{kinds_in, division, Wide, judged_code};

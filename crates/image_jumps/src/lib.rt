@@ -1,4 +1,5 @@
 // Whether the jumps of a code that divides land on instructions: a ring, filled ahead, holds where they start.
+#![tactic(auto)]
 
 ghost use Rattle.std.specs.Prelude.{◌≡◌, true, ◌+◌, ◌<◌, ◌≤◌, length, get_or, drop};
 ghost use Rattle.rules.specs.Division as Division;

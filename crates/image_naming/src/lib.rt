@@ -1,5 +1,6 @@
 // How often each function of an image is named by a constant. Counts stop at two, and stand in a table of up to 65,536: more functions are
 // taken in blocks of as many.
+#![tactic(auto)]
 
 ghost use Rattle.std.specs.Prelude.{◌≡◌, Bool, true, ℕ, ◌+◌, ◌<◌, ◌≤◌, length, get_or, eqb};
 ghost use Rattle.rules.specs.Base.{all_below};

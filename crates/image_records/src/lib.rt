@@ -1,4 +1,5 @@
 // The records of an image: a constant, a function's header, its runs, and where each ends.
+#![tactic(auto)]
 
 ghost use Rattle.std.specs.Prelude.{◌≡◌, ◌+◌, ◌*◌, ◌<◌, eqb, true};
 ghost use Rattle.rules.specs.Base.{if◌then◌else◌};

@@ -1,4 +1,5 @@
 // Whether an image names a global: after the check, one walk over its instructions that leaves at the first that does.
+#![tactic(auto)]
 
 ghost use Rattle.std.specs.Prelude.{◌≡◌, true, ℕ, ◌+◌, ◌<◌, ◌≤◌, length, get_or, drop};
 ghost use Rattle.rules.specs.Touch.{names_global};

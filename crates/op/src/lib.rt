@@ -1,4 +1,5 @@
 // The opcodes (src/vm/op.rs): their numbers, in its order, and how many bytes an instruction has.
+#![tactic(auto)]
 
 ghost use Rattle.std.specs.Prelude.{◌≡◌, eqb};
 ghost use Rattle.rules.specs.Base.{if◌then◌else◌};
@@ -11,7 +12,7 @@ const OPCODES: usize = 40;
 const NEEDS_FUNCTION: usize = 255;
 
 // An opcode, and how many bytes its instruction has.
-#[derive(Drop)]
+#[derive(Clone, Copy)]
 struct Row(u8, usize);
 
 // How many bytes an instruction has, its opcode among them: a row for each opcode, in the order of op.rs.
@@ -76,7 +77,7 @@ fn entry(op: u8) -> usize
     bytes
 }
 
-#[derive(Drop)]
+#[derive(Clone, Copy)]
 pub struct Op {
     pub byte: u8,
 }

@@ -1,5 +1,6 @@
 // What comes back, as types: a refusal by its name, the function it is in, and the answer's numbers; and the numbers that mean something in all crates, by name. specs/ computes with these same types, so that code and
 // rules cannot mean two things by one name; specs/Answer.antt gives each refusal its number and fields.
+#![tactic(auto)]
 
 // The limits, for the code. specs/ has them where they belong: Limits.antt, and the steps that refuse what passes one.
 #[derive(Drop)]

@@ -1,4 +1,5 @@
 // The span of one code byte, from a list of runs: 0 with the span of the run that holds the byte, or 42.
+#![tactic(auto)]
 
 ghost use Rattle.std.specs.Prelude.{◌≡◌};
 ghost use Rattle.rules.specs.Checker.{span_of};

@@ -1,4 +1,5 @@
 // A byte behind the code with its run, and a constant behind a level's constants.
+#![tactic(auto)]
 ghost use Rattle.std.specs.Prelude.{◌≡◌, ◌*◌, ◌≤◌, ◌<◌, length};
 ghost use Rattle.state.specs.Layout.{levels, Wf, Coded};
 ghost use Rattle.state.specs.Contracts.{last_grows, Wrote, Constants};

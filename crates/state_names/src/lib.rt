@@ -1,4 +1,5 @@
 // Locals and upvalues of a level: found, captured, declared, defined, dropped.
+#![tactic(auto)]
 ghost use Rattle.std.specs.Prelude.{◌≡◌, ◌+◌, ◌*◌, ◌-◌, ◌≤◌, ◌<◌, ltb, eqb, length, get_or};
 ghost use Rattle.rules.specs.Compiler.{declared_here};
 ghost use Rattle.state.specs.Layout.{levels, localOf, stack, Wf, level_words, local_count_place};

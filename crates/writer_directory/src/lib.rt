@@ -1,6 +1,7 @@
 // The directory, put behind an image's records: where each of them stands is found by walking them in the output, so that no other memory is used.
 // The walk goes by marks and counts alone: crate image_records refuses the bits of numbers that no tree has, and of the output it is not known here
 // that it holds none.
+#![tactic(auto)]
 ghost use Rattle.std.specs.Prelude.{◌≡◌, ◌+◌, ◌*◌, ◌≤◌, length};
 ghost use Rattle.writer_directory.specs.Walk.{constant_end, constants_end, record_end, Directed};
 

@@ -1,4 +1,5 @@
 // The header, before all records.
+#![tactic(auto)]
 ghost use Rattle.std.specs.Prelude.{◌≤◌, length};
 ghost use Rattle.writer_header.specs.Header.{Headed};
 
