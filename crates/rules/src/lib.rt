@@ -56,7 +56,7 @@ impl Name {
 }
 
 // Where a statement or expression stands in the text: any two numbers.
-#[derive(Drop)]
+#[derive(Clone, Copy)]
 pub struct Span {
     pub start: u32,
     pub end: u32,
@@ -100,7 +100,7 @@ pub struct Stopped {
 }
 
 #[repr(C)]
-#[derive(Drop)]
+#[derive(Clone, Copy)]
 pub struct Answer {
     pub number: u64,
     pub at: u64,

@@ -37,7 +37,7 @@ pub fn span_of_words(words: &[u32], offset: usize) -> Answer
 
 // Neighbouring code bytes of one span.
 #[repr(C)]
-#[derive(Drop)]
+#[derive(Clone, Copy)]
 pub struct Run {
     pub start: u32,
     pub end: u32,
