@@ -12,7 +12,7 @@ use Rattle.rules.specs.Chunk.{ObjectFunction}
 use Rattle.rules.specs.Image.{join}
 use Rattle.rules.specs.Compiler.{Compiler, new, Outcome, ok, Compile, the, compile_stmts, compile_script, compile_functions}
 use Rattle.rules.specs.Entry.{functions_are, refused, from_outcome}
-use Rattle.state.specs.Layout.{image_at, ctxAt}
+use Rattle.state.specs.Layout.{image_at, ctx_at}
 use Rattle.steps.specs.View.{mem, Rest, view, Agrees, Fit, depth_at, Turn, steady, ◌⨾◌, Gave, Refused, Did, Started}
 use Rattle.rules.specs.declared.Stopped.{Stopped}
 use Rattle.steps.specs.Why.{told}
@@ -56,7 +56,7 @@ module _ {t code spans out : List ℕ} {limit : ℕ} (clean : Clean t code spans
   first_holds = record { bytes = clean.clear ∙ zeros_padded (length out) 6; long = clean.started.image (image_at + 1) (omega arith); counted = tt }
 
   no_depth : depth_at (mem t code spans) 0 ≡ 0
-  unfolding depth_at view ctxAt
+  unfolding depth_at view ctx_at
   no_depth = ap (λ (s : Compiler). s.ctx.scope_depth) (clean.started.is code spans)
 
   pub ready : (tree : List ℕ) (at : ℕ) → length tree ≤ max_tree → Ready tree (mem t code spans) at 128 0 limit

@@ -93,14 +93,14 @@ none_by (some fs) e = absurd (let y : ◌≡◌ {A = ℕ} 0 1 = cc in omega arit
 
 -- ## A function's code, behind its record's other parts
 
-pub record Code_at (s : List ℕ) (f : ObjectFunction) (next : ℕ) : Type 0 where
+pub record CodeAt (s : List ℕ) (f : ObjectFunction) (next : ℕ) : Type 0 where
   pub start : ℕ
   pub within : start + length f.chunk.ops ≤ length s
   pub ends : next ≡ start + length f.chunk.ops
   pub content : take (length f.chunk.ops) (drop start s) ≡ f.chunk.ops
 
 module _ (s : List ℕ) (at next : ℕ) (f : ObjectFunction) (e : read_function s at ≡ got f next) where
-  code_in_part : (start size : ℕ) → start + size ≤ length s → next ≡ start + size → f.chunk.ops ≡ take size (drop start s) → Code_at s f next
+  code_in_part : (start size : ℕ) → start + size ≤ length s → next ≡ start + size → f.chunk.ops ≡ take size (drop start s) → CodeAt s f next
   code_in_part start size w n o =
       let l : length f.chunk.ops ≡ size = ap length o ∙ simp (length-take, length-drop) (omega arith) in
       record { start = start; within = omega arith; ends = omega arith; content = rw l (sym o) }
@@ -112,7 +112,7 @@ module _ (s : List ℕ) (at next : ℕ) (f : ObjectFunction) (e : read_function 
     abbrev o : Body s b.name b.arity h.upvalues h.constants h.runs h.code (at + 17) f next
     o = body_of s b.name b.arity h.upvalues h.constants h.runs h.code (at + 17) f next (sym b.is ∙ e)
 
-    code_by : (p : Place) → p ≡ code_told s h.code o.code_at → Code_at s f next
+    code_by : (p : Place) → p ≡ code_told s h.code o.code_at → CodeAt s f next
     code_by place.Bad c = absurd (got_bad (at_code s at h b o.cs o.runs_at o.constants_are o.rs o.code_at o.runs_are c) e)
     code_by (place.At start) c =
         let d = coded s h.code o.code_at start c in
@@ -120,11 +120,11 @@ module _ (s : List ℕ) (at next : ℕ) (f : ObjectFunction) (e : read_function 
         let q = same_got e w in
         code_in_part start h.code d.within q.1 (ap (λ (g : ObjectFunction). g.chunk.ops) q.0)
 
-  head_by : (hd : Head) → hd ≡ head_at s at → Code_at s f next
+  head_by : (hd : Head) → hd ≡ head_at s at → CodeAt s f next
   head_by head.Bad c = absurd (got_bad (head_fails s at c) e)
   head_by (head.Is h) c = code_by h c (code_told s h.code (o h c).code_at) refl
 
-  pub code_stands : Code_at s f next
+  pub code_stands : CodeAt s f next
   code_stands = head_by (head_at s at) refl
 
 module _ (s : List ℕ) (k : ℕ) where

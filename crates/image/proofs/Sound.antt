@@ -117,7 +117,7 @@ missing_at functions cs p h = rw (elem_none cs p h) refl
 
 -- ## One function
 
-pub record One_of (functions : List ObjectFunction) (k : ℕ) (f : ObjectFunction) : Type 0 where
+pub record OneOf (functions : List ObjectFunction) (k : ℕ) (f : ObjectFunction) : Type 0 where
   pub fits_it : function_fits functions f ≡ true
   pub apart : runs_apart f.chunk.spans ≡ true
   pub different : distinct f.chunk.constants ≡ true
@@ -195,14 +195,14 @@ module _ (before rest : List ObjectFunction) (f : ObjectFunction) (bytes : (i : 
       late_plain c = all_made no_function (drop 256 cs) (λ i v e. late_by c (256 + i) v (sym (drop_at 256 cs i) ∙ e) (omega arith))
 
   -- the code's part, both ways
-  pub record Code_of (d : Option (List Instruction)) : Type 0 where
+  pub record CodeOf (d : Option (List Instruction)) : Type 0 where
     pub is : List Instruction
     pub divides : d ≡ some is
     pub fit : all (operands_fit (kind_at before cs) f.upvalue_count) is ≡ true
     pub land : all (lands is (length f.chunk.ops)) is ≡ true
     pub close : all_below 256 (closed_by (kind_at before cs) is) ≡ true
 
-  code_of : (d : Option (List Instruction)) → code_fine (kind_at before cs) f.upvalue_count (length f.chunk.ops) d ≡ true → Code_of d
+  code_of : (d : Option (List Instruction)) → code_fine (kind_at before cs) f.upvalue_count (length f.chunk.ops) d ≡ true → CodeOf d
   unfolding code_fine code_right
   code_of none e = absurd (no_true e)
   code_of (some is) e =
@@ -210,22 +210,22 @@ module _ (before rest : List ObjectFunction) (f : ObjectFunction) (bytes : (i : 
       let b = and_of _ _ a.0 in
       record { is = is; divides = refl; fit = b.0; land = b.1; close = a.1 }
 
-  code_to : (d : Option (List Instruction)) → Code_of d → code_fine (kind_at before cs) f.upvalue_count (length f.chunk.ops) d ≡ true
+  code_to : (d : Option (List Instruction)) → CodeOf d → code_fine (kind_at before cs) f.upvalue_count (length f.chunk.ops) d ≡ true
   unfolding code_fine code_right
   code_to d c = rw c.divides (and_to _ _ (and_to _ _ c.fit c.land) c.close)
 
-  pub record Fits_of (d : Option (List Instruction)) : Type 0 where
+  pub record FitsOf (d : Option (List Instruction)) : Type 0 where
     pub is : List Instruction
     pub divides : d ≡ some is
     pub fit : all (operands_fit (kind_at whole cs) f.upvalue_count) is ≡ true
     pub land : all (lands is (length f.chunk.ops)) is ≡ true
 
-  fits_of : (d : Option (List Instruction)) → code_fits whole f d ≡ true → Fits_of d
+  fits_of : (d : Option (List Instruction)) → code_fits whole f d ≡ true → FitsOf d
   unfolding code_fits
   fits_of none e = absurd (no_true e)
   fits_of (some is) e = let a = and_of _ _ e in record { is = is; divides = refl; fit = a.0; land = a.1 }
 
-  fits_to : (d : Option (List Instruction)) → Fits_of d → code_fits whole f d ≡ true
+  fits_to : (d : Option (List Instruction)) → FitsOf d → code_fits whole f d ≡ true
   unfolding code_fits
   fits_to d c = rw c.divides (and_to _ _ c.fit c.land)
 
@@ -249,7 +249,7 @@ module _ (before rest : List ObjectFunction) (f : ObjectFunction) (bytes : (i : 
   unfolding closed_once closed_in
   closed_is is d = rw d refl
 
-  pub one_from : right before f ≡ true → One_of whole (length before) f
+  pub one_from : right before f ≡ true → OneOf whole (length before) f
   unfolding right constants_fine kinds_right
   one_from e =
       let a = and_of _ _ e in
@@ -277,7 +277,7 @@ module _ (before rest : List ObjectFunction) (f : ObjectFunction) (bytes : (i : 
         closed = closed_is o.is d ∙ closed_from named o.is o.divides o.close c.1;
       }
 
-  pub one_to : One_of whole (length before) f → right before f ≡ true
+  pub one_to : OneOf whole (length before) f → right before f ≡ true
   unfolding right constants_fine kinds_right
   one_to o =
       let named = o.earlier_it in
@@ -300,15 +300,15 @@ module _ (before rest : List ObjectFunction) (f : ObjectFunction) (bytes : (i : 
 
 -- ## All functions
 
-pub record Facts_of (functions : List ObjectFunction) (k : ℕ) (fs : List ObjectFunction) : Type 0 where
+pub record FactsOf (functions : List ObjectFunction) (k : ℕ) (fs : List ObjectFunction) : Type 0 where
   pub fit : all (function_fits functions) fs ≡ true
   pub apart : all (λ (f : ObjectFunction). runs_apart f.chunk.spans) fs ≡ true
   pub different : all (λ (f : ObjectFunction). distinct f.chunk.constants) fs ≡ true
   pub names_them : all_earlier k fs ≡ true
   pub closed : all (closed_once functions) fs ≡ true
 
-abbrev pub Bytes_of : List ObjectFunction → Type 0
-Bytes_of fs = (j : ℕ) (f : ObjectFunction) → get_elem? fs j ≡ some f → (i : ℕ) → get_or f.chunk.ops i 0 < 256
+abbrev pub BytesOf : List ObjectFunction → Type 0
+BytesOf fs = (j : ℕ) (f : ObjectFunction) → get_elem? fs j ≡ some f → (i : ℕ) → get_or f.chunk.ops i 0 < 256
 
 joined : (before : List ObjectFunction) (f : ObjectFunction) (fs : List ObjectFunction) → (before ++ (f ∷ [])) ++ fs ≡ before ++ (f ∷ fs)
 joined before f fs = append_assoc before (f ∷ []) fs
@@ -317,7 +317,7 @@ one_longer : (before : List ObjectFunction) (f : ObjectFunction) → length (bef
 one_longer before f = simp length-append (omega arith)
 
 module _ (functions : List ObjectFunction) (k : ℕ) (f : ObjectFunction) (fs : List ObjectFunction) where
-  first_fact : Facts_of functions k (f ∷ fs) → One_of functions k f
+  first_fact : FactsOf functions k (f ∷ fs) → OneOf functions k f
   unfolding all all_earlier
   first_fact a =
       record {
@@ -332,7 +332,7 @@ module _ (functions : List ObjectFunction) (k : ℕ) (f : ObjectFunction) (fs : 
   unfolding all_earlier
   names_split e = and_of (all (names_earlier k) f.chunk.constants) (all_earlier (k + 1) fs) e
 
-  other_facts : Facts_of functions k (f ∷ fs) → Facts_of functions (k + 1) fs
+  other_facts : FactsOf functions k (f ∷ fs) → FactsOf functions (k + 1) fs
   other_facts a =
       record {
         fit = (all_split _ f fs a.fit).1;
@@ -342,7 +342,7 @@ module _ (functions : List ObjectFunction) (k : ℕ) (f : ObjectFunction) (fs : 
         closed = (all_split _ f fs a.closed).1;
       }
 
-  both_facts : One_of functions k f → Facts_of functions (k + 1) fs → Facts_of functions k (f ∷ fs)
+  both_facts : OneOf functions k f → FactsOf functions (k + 1) fs → FactsOf functions k (f ∷ fs)
   unfolding all all_earlier
   both_facts o a =
       record {
@@ -353,7 +353,7 @@ module _ (functions : List ObjectFunction) (k : ℕ) (f : ObjectFunction) (fs : 
         closed = if_to _ _ o.closed a.closed;
       }
 
-pub all_from : (before fs : List ObjectFunction) → Bytes_of fs → right_all before fs ≡ true → Facts_of (before ++ fs) (length before) fs
+pub all_from : (before fs : List ObjectFunction) → BytesOf fs → right_all before fs ≡ true → FactsOf (before ++ fs) (length before) fs
 unfolding right_all all all_earlier
 all_from before [] b e = record { fit = refl; apart = refl; different = refl; names_them = refl; closed = refl }
 all_from before (f ∷ fs) b e =
@@ -362,10 +362,10 @@ all_from before (f ∷ fs) b e =
     let r = all_from (before ++ (f ∷ [])) fs (λ j g h. b (suc j) g h) s.1 in
     both_facts (before ++ (f ∷ fs)) (length before) f fs o (moved (joined before f fs) (one_longer before f) r)
   where
-    moved : {l m : List ObjectFunction} {j n : ℕ} → l ≡ m → j ≡ n → Facts_of l j fs → Facts_of m n fs
+    moved : {l m : List ObjectFunction} {j n : ℕ} → l ≡ m → j ≡ n → FactsOf l j fs → FactsOf m n fs
     moved p q r = rw (← p, ← q) r
 
-pub all_to : (before fs : List ObjectFunction) → Bytes_of fs → Facts_of (before ++ fs) (length before) fs → right_all before fs ≡ true
+pub all_to : (before fs : List ObjectFunction) → BytesOf fs → FactsOf (before ++ fs) (length before) fs → right_all before fs ≡ true
 unfolding right_all
 all_to before [] b a = refl
 all_to before (f ∷ fs) b a =
@@ -373,10 +373,10 @@ all_to before (f ∷ fs) b a =
     (all_to (before ++ (f ∷ [])) fs (λ j g h. b (suc j) g h)
     (moved (sym (joined before f fs)) (sym (one_longer before f)) (other_facts (before ++ (f ∷ fs)) (length before) f fs a)))
   where
-    moved : {l m : List ObjectFunction} {j n : ℕ} → l ≡ m → j ≡ n → Facts_of l j fs → Facts_of m n fs
+    moved : {l m : List ObjectFunction} {j n : ℕ} → l ≡ m → j ≡ n → FactsOf l j fs → FactsOf m n fs
     moved p q r = rw (← p, ← q) r
 
-pub counts_agree : (before fs : List ObjectFunction) → Bytes_of fs → right_all before fs ≡ true → count_all before fs ≡ instruction_count (before ++ fs) fs
+pub counts_agree : (before fs : List ObjectFunction) → BytesOf fs → right_all before fs ≡ true → count_all before fs ≡ instruction_count (before ++ fs) fs
 unfolding right_all count_all instruction_count
 counts_agree before [] b e = refl
 counts_agree before (f ∷ fs) b e =
@@ -387,7 +387,7 @@ counts_agree before (f ∷ fs) b e =
     let i : instructions (division before f) ≡ instructions (division (before ++ (f ∷ fs)) f) = ap instructions d in
     omega arith
 
-pub sound_is : (fs : List ObjectFunction) → Bytes_of fs → sound fs ≡ (right_all [] fs && named_once fs)
+pub sound_is : (fs : List ObjectFunction) → BytesOf fs → sound fs ≡ (right_all [] fs && named_once fs)
 unfolding sound facts fits all
 sound_is fs b =
     same_test _ _

@@ -29,7 +29,7 @@ use Rattle.image_constants.specs.Earlier.{functions_in, is_got, earlier}
 use Rattle.image_functions.specs.declared.Done.TheVariants.{Is, Bad}
 use Rattle.image_functions.specs.Judged.{right_all, count_all, functions_done}
 use Rattle.image.specs.Counted.{counted_in}
-use Rattle.image.proofs.Sound.{Bytes_of, sound_is, counts_agree}
+use Rattle.image.proofs.Sound.{BytesOf, sound_is, counts_agree}
 
 -- ## A function's code is bytes
 
@@ -58,7 +58,7 @@ module _ (s : List ℕ) (bytes : (i : ℕ) → get_or s i 0 < 256) where
       let q : f.chunk.ops ≡ o.ops = ap (λ (x : ObjectFunction). x.chunk.ops) o.is in
       rw q (read_bytes h.code o.start next o.ops o.ops_are i)
 
-  pub bytes_of : (count at end : ℕ) (fs : List ObjectFunction) → many count (read_function s) at ≡ got fs end → Bytes_of fs
+  pub bytes_of : (count at end : ℕ) (fs : List ObjectFunction) → many count (read_function s) at ≡ got fs end → BytesOf fs
   bytes_of zero at end fs e j f g i =
       let z : ◌≡◌ {A = Read (List ObjectFunction)} (got [] at) (got fs end) = sym (many_none (read_function s) 0 at refl) ∙ e in
       let q : [] ≡ fs = cc in
@@ -68,7 +68,7 @@ module _ (s : List ℕ) (bytes : (i : ℕ) → get_or s i 0 < 256) where
       by t.others t.value (function_bytes at t.next t.value (head_at s at) refl t.is) (bytes_of count t.next end t.others t.then) j f
       (ap (λ (l : List ObjectFunction). get_elem? l j) (sym t.all) ∙ g) i
     where
-      by : (l : List ObjectFunction) (v : ObjectFunction) → ((i : ℕ) → get_or v.chunk.ops i 0 < 256) → Bytes_of l → Bytes_of (v ∷ l)
+      by : (l : List ObjectFunction) (v : ObjectFunction) → ((i : ℕ) → get_or v.chunk.ops i 0 < 256) → BytesOf l → BytesOf (v ∷ l)
       by l v h later zero f g i = let q : v ≡ f = cc in rw (← q) (h i)
       by l v h later (suc j) f g i = later j f g i
 
@@ -157,18 +157,18 @@ module _ (s : List ℕ) where
       pub answered_wrong : Bad ≡ functions_done 0 [] functions → Bad ≡ counted_in (image_of s)
       answered_wrong f = sym (counted_as functions refl ∙ wrong_by functions refl f)
 
-      pub record Read_all (n end : ℕ) : Type 0 where
+      pub record ReadAll (n end : ℕ) : Type 0 where
         pub fs : List ObjectFunction
         pub are : functions ≡ got fs end
         pub fine : right_all [] fs ≡ true
         pub number : n ≡ count_all [] fs
 
-      all_by : (n end : ℕ) (r : Read (List ObjectFunction)) → functions ≡ r → Is n end ≡ functions_done 0 [] r → Read_all n end
+      all_by : (n end : ℕ) (r : Read (List ObjectFunction)) → functions ≡ r → Is n end ≡ functions_done 0 [] r → ReadAll n end
       unfolding functions_done
       all_by n end (bad fault) e f = absurd (let z : ◌≡◌ {A = ℕ} 0 1 = cc in omega arith)
       all_by n end (got fs last) e f = by (right_all [] fs) refl f
         where
-          by : (t : Bool) → right_all [] fs ≡ t → Is n end ≡ (if t then Is (0 + count_all [] fs) last else Bad) → Read_all n end
+          by : (t : Bool) → right_all [] fs ≡ t → Is n end ≡ (if t then Is (0 + count_all [] fs) last else Bad) → ReadAll n end
           by false g f = absurd (let z : ◌≡◌ {A = ℕ} 0 1 = cc in omega arith)
           by true g f =
               let q : n ≡ 0 + count_all [] fs = cc in
@@ -176,7 +176,7 @@ module _ (s : List ℕ) where
               record { fs = fs; are = e ∙ ap (got fs) l; fine = g; number = omega arith }
 
       module _ (n end : ℕ) (f : Is n end ≡ functions_done 0 [] functions) where
-        abbrev a : Read_all n end
+        abbrev a : ReadAll n end
         a = all_by n end functions refl f
 
         pub ends_at : place.At end ≡ place_told functions

@@ -35,16 +35,16 @@ no_true e = let z : ◌≡◌ {A = ℕ} 0 1 = cc in omega arith
 
 -- ## The functions before
 
-pub record Earlier_are (s : List ℕ) (k : ℕ) : Type 0 where
+pub record EarlierAre (s : List ℕ) (k : ℕ) : Type 0 where
   pub at : ℕ
   pub are : many k (read_function s) 6 ≡ got (earlier s k) at
 
-are_by : (s : List ℕ) (k : ℕ) (r : Read (List ObjectFunction)) → many k (read_function s) 6 ≡ r → is_got r ≡ true → Earlier_are s k
+are_by : (s : List ℕ) (k : ℕ) (r : Read (List ObjectFunction)) → many k (read_function s) 6 ≡ r → is_got r ≡ true → EarlierAre s k
 unfolding is_got earlier functions_in
 are_by s k (bad fault) e g = absurd (no_true g)
 are_by s k (got fs n) e g = record { at = n; are = e ∙ rw e refl }
 
-pub earlier_are : (s : List ℕ) (k : ℕ) → is_got (many k (read_function s) 6) ≡ true → Earlier_are s k
+pub earlier_are : (s : List ℕ) (k : ℕ) → is_got (many k (read_function s) 6) ≡ true → EarlierAre s k
 earlier_are s k g = are_by s k (many k (read_function s) 6) refl g
 
 pub earlier_number : (s : List ℕ) (k : ℕ) → is_got (many k (read_function s) 6) ≡ true → length (earlier s k) ≡ k

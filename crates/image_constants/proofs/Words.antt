@@ -18,7 +18,7 @@ use Rattle.image_records.specs.declared.Place.{Place}
 use Rattle.image_records.specs.declared.Place.TheVariants.{At, Bad}
 use Rattle.image_records.specs.Told.{word_of, place_told}
 use Rattle.image_records.proofs.Many.{Fails, many_none, many_more, passed_none, skip_stops, skip_goes, skip_none}
-use Rattle.image_records.proofs.Records.{same_word, Constant_is}
+use Rattle.image_records.proofs.Records.{same_word, ConstantIs}
 use Rattle.image_constants.specs.Words.{constant_of, constants_of, Gathered}
 
 module _ (w : ℕ) where
@@ -104,7 +104,7 @@ module _ (s : List ℕ) (begin n : ℕ) (words : List ℕ) where
           are = λ next e. absurd (let z : ◌≡◌ {A = ℕ} 0 1 = cc in omega arith);
         }
 
-    pub gather_on : (w next : ℕ) → n ≤ room → i < n → Constant_is (read_constant s at) w next → Gathering s begin n room (set words i w) next (i + 1)
+    pub gather_on : (w next : ℕ) → n ≤ room → i < n → ConstantIs (read_constant s at) w next → Gathering s begin n room (set words i w) next (i + 1)
     gather_on w next small h c =
         let inside : i < length words = omega (arith, g.size) in
         let e : constant_of w ≡ c.value = ap constant_of c.coded ∙ constant_back c.value in

@@ -29,7 +29,7 @@ unfoldable pub slot_in : (size word : ℕ) → ℕ
 slot_in size word = if ltb size 4096 then word % stamps_least else if ltb size 65536 then word % 4093 else word % 65521
 
 -- the first place below `n` that has the word, or `n`
-pub record Place_of (words : List ℕ) (n word r : ℕ) : Type 0 where
+pub record PlaceOf (words : List ℕ) (n word r : ℕ) : Type 0 where
   pub within : r ≤ n
   pub before : (j : ℕ) → j < r → get_or words j 0 ≡ word → ⊥
   pub there : r < n → get_or words r 0 ≡ word

@@ -6,7 +6,7 @@ ghost use Rattle.rules.specs.Reader.{got, many};
 ghost use Rattle.rules.specs.ImageFile.{read_function};
 ghost use Rattle.rules.specs.Chunk.{ObjectFunction};
 ghost use Rattle.rules.specs.Checker.{distinct};
-ghost use Rattle.image_constants.specs.Words.{constant_of, constants_of, Gathered, stamps_least, slot_in, Place_of};
+ghost use Rattle.image_constants.specs.Words.{constant_of, constants_of, Gathered, stamps_least, slot_in, PlaceOf};
 ghost use Rattle.image_constants.specs.Earlier.{earlier, is_got, upvalues_at, Counts, kind_word, Kinds};
 
 use image_code::Kind;
@@ -33,7 +33,7 @@ pub fn gather(s: &[u8], begin: usize, n: usize, words: &mut [u64]) -> Place
 // The first place below `n` that has the word, or `n`.
 fn find(words: &[u64], n: usize, word: u64) -> usize
     requires { n ≤ length words.now }
-    ensures { Place_of words.now n word result }
+    ensures { PlaceOf words.now n word result }
 {
     let mut i: usize = 0;
     while i < n {

@@ -25,7 +25,7 @@ use Rattle.image_constants.specs.Earlier.{functions_in, is_got, earlier, upvalue
 use Rattle.image_constants.proofs.Kinding.{earlier_number}
 use Rattle.image_functions.specs.declared.Done.{Done}
 use Rattle.image_functions.specs.declared.Done.TheVariants as done
-use Rattle.image_functions.specs.Judged.{right, function_done, Judged, Next_is, right_all, count_all, functions_done}
+use Rattle.image_functions.specs.Judged.{right, function_done, Judged, NextIs, right_all, count_all, functions_done}
 
 no_true : false ≡ true → ⊥
 no_true e = let z : ◌≡◌ {A = ℕ} 0 1 = cc in omega arith
@@ -43,12 +43,12 @@ elem_at (y ∷ l) x m (suc j) e = elem_at l x m j (omega arith)
 
 -- ## One more function
 
-pub record Read_is {A : Type 0} (r : Read A) : Type 0 where
+pub record ReadIs {A : Type 0} (r : Read A) : Type 0 where
   pub value : A
   pub next : ℕ
   pub is : r ≡ got value next
 
-pub read_is : {A : Type 0} (r : Read A) → is_got r ≡ true → Read_is r
+pub read_is : {A : Type 0} (r : Read A) → is_got r ≡ true → ReadIs r
 unfolding is_got
 read_is (got a n) e = record { value = a; next = n; is = refl }
 read_is (bad fault) e = absurd (no_true e)
@@ -94,8 +94,8 @@ module _ (s : List ℕ) (k at next : ℕ) (f : ObjectFunction) (p : many k (read
         record { there = got_more; known = λ j h l. c.known j (omega arith) l ∙ sym (before_is j (omega arith)) }
 
 -- what `note_count` does
-module _ (s : List ℕ) (k at : ℕ) (counts : List ℕ) (c : Counts s k counts) (n : Next_is s k at) where
-  abbrev r : Read_is (read_function s at)
+module _ (s : List ℕ) (k at : ℕ) (counts : List ℕ) (c : Counts s k counts) (n : NextIs s k at) where
+  abbrev r : ReadIs (read_function s at)
   r = read_is (read_function s at) n.there
 
   pub note_headless : head.Bad ≡ head_at s at → Counts s (k + 1) counts
@@ -138,18 +138,18 @@ module _ (n : ℕ) (before : List ObjectFunction) (f : ObjectFunction) where
       let m : n + (instructions (division before f) + count_all (before ++ (f ∷ [])) fs) ≡ n + instructions (division before f) + count_all (before ++ (f ∷ [])) fs = omega arith in
       rw (e, m) refl
 
-pub record Done_is (before : List ObjectFunction) (r : Read ObjectFunction) (n next : ℕ) : Type 0 where
+pub record DoneIs (before : List ObjectFunction) (r : Read ObjectFunction) (n next : ℕ) : Type 0 where
   pub value : ObjectFunction
   pub is : r ≡ got value next
   pub fine : right before value ≡ true
   pub number : n ≡ instructions (division before value)
 
-done_is : (before : List ObjectFunction) (r : Read ObjectFunction) (n next : ℕ) → done.Is n next ≡ function_done before r → Done_is before r n next
+done_is : (before : List ObjectFunction) (r : Read ObjectFunction) (n next : ℕ) → done.Is n next ≡ function_done before r → DoneIs before r n next
 unfolding function_done
 done_is before (bad fault) n next e = absurd (let z : ◌≡◌ {A = ℕ} 0 1 = cc in omega arith)
 done_is before (got f m) n next e = by (right before f) refl e
   where
-    by : (t : Bool) → right before f ≡ t → done.Is n next ≡ (if t then done.Is (instructions (division before f)) m else done.Bad) → Done_is before (got f m) n next
+    by : (t : Bool) → right before f ≡ t → done.Is n next ≡ (if t then done.Is (instructions (division before f)) m else done.Bad) → DoneIs before (got f m) n next
     by true g e = let q : m ≡ next = cc in let z : n ≡ instructions (division before f) = cc in record { value = f; is = ap (got f) q; fine = g; number = z }
     by false g e = absurd (let z : ◌≡◌ {A = ℕ} 0 1 = cc in omega arith)
 
@@ -194,10 +194,10 @@ module _ (s : List ℕ) (count : ℕ) where
     going_stop h b = sym (g.left ∙ stop_by h (read_function s at) refl b)
 
     module _ (n next : ℕ) (e : done.Is n next ≡ function_done (earlier s k) (read_function s at)) where
-      abbrev d : Done_is (earlier s k) (read_function s at) n next
+      abbrev d : DoneIs (earlier s k) (read_function s at) n next
       d = done_is (earlier s k) (read_function s at) n next e
 
-      pub next_is : Next_is s k at
+      pub next_is : NextIs s k at
       unfolding is_got
       next_is = record { place = g.place; there = ap is_got d.is }
 

@@ -38,7 +38,7 @@ use Rattle.image_constants.specs.Earlier.{earlier, is_got, kinds_right, Kinds}
 use Rattle.image_constants.proofs.Kinding.{earlier_number}
 use Rattle.image_functions.specs.declared.Done.{Done}
 use Rattle.image_functions.specs.declared.Done.TheVariants as done
-use Rattle.image_functions.specs.Judged.{constants_fine, constants_told, Constants_right, counted, code_done, code_fine, right, function_done, Judged}
+use Rattle.image_functions.specs.Judged.{constants_fine, constants_told, ConstantsRight, counted, code_done, code_fine, right, function_done, Judged}
 
 and_false : (b : Bool) → (b && false) ≡ false
 and_false true = refl
@@ -47,7 +47,7 @@ and_false false = refl
 -- ## The constants
 
 module _ (s : List ℕ) (k at n : ℕ) (words : List ℕ) where
-  pub constants_stop : (kinds : List ℕ) → Gathered s at n place.Bad words → Constants_right s k at n place.Bad kinds
+  pub constants_stop : (kinds : List ℕ) → Gathered s at n place.Bad words → ConstantsRight s k at n place.Bad kinds
   unfolding constants_told
   constants_stop kinds g =
       let f = place_bad _ g.told in
@@ -60,7 +60,7 @@ module _ (s : List ℕ) (k at n : ℕ) (words : List ℕ) where
     abbrev are : many n (read_constant s) at ≡ got (constants_of n words) next
     are = g.are next is_at
 
-    pub constants_old : (kinds : List ℕ) → false ≡ distinct (constants_of n words) → Constants_right s k at n place.Bad kinds
+    pub constants_old : (kinds : List ℕ) → false ≡ distinct (constants_of n words) → ConstantsRight s k at n place.Bad kinds
     unfolding constants_told constants_fine
     constants_old kinds e =
         record {
@@ -68,7 +68,7 @@ module _ (s : List ℕ) (k at n : ℕ) (words : List ℕ) where
           table = λ cs next e b. absurd (let z : ◌≡◌ {A = ℕ} 0 1 = cc in omega arith);
         }
 
-    pub constants_wrong : (kinds : List ℕ) → Kinds (earlier s k) k (constants_of n words) false kinds → Constants_right s k at n place.Bad kinds
+    pub constants_wrong : (kinds : List ℕ) → Kinds (earlier s k) k (constants_of n words) false kinds → ConstantsRight s k at n place.Bad kinds
     unfolding constants_told constants_fine
     constants_wrong kinds w =
         let e = w.told in
@@ -78,7 +78,7 @@ module _ (s : List ℕ) (k at n : ℕ) (words : List ℕ) where
         }
 
     pub constants_done : (kinds : List ℕ) → true ≡ distinct (constants_of n words) → Kinds (earlier s k) k (constants_of n words) true kinds
-        → Constants_right s k at n (place.At next) kinds
+        → ConstantsRight s k at n (place.At next) kinds
     unfolding constants_told constants_fine
     constants_done kinds d w =
         let e = w.told in
@@ -236,25 +236,25 @@ module _ (s : List ℕ) (k at : ℕ) where
           judged_bad (constants_by (many h.constants (read_constant s) (at + 17)) refl (e ∙ ap (λ (m : ℕ). constants_told k (many m (read_constant s) (at + 17))) q))
 
       -- the constants are right
-      pub record Constants_are (runs_at : ℕ) : Type 0 where
+      pub record ConstantsAre (runs_at : ℕ) : Type 0 where
         pub cs : List Constant
         pub are : many h.constants (read_constant s) (at + 17) ≡ got cs runs_at
         pub fine : constants_fine k cs ≡ true
 
-      constants_got : (runs_at : ℕ) (r : Read (List Constant)) → many h.constants (read_constant s) (at + 17) ≡ r → place.At runs_at ≡ constants_told k r → Constants_are runs_at
+      constants_got : (runs_at : ℕ) (r : Read (List Constant)) → many h.constants (read_constant s) (at + 17) ≡ r → place.At runs_at ≡ constants_told k r → ConstantsAre runs_at
       unfolding constants_told
       constants_got runs_at (bad fault) e t = absurd (let z : ◌≡◌ {A = ℕ} 0 1 = cc in omega arith)
       constants_got runs_at (got cs next) e t = by (constants_fine k cs) refl t
         where
-          by : (t : Bool) → constants_fine k cs ≡ t → place.At runs_at ≡ (if t then place.At next else place.Bad) → Constants_are runs_at
+          by : (t : Bool) → constants_fine k cs ≡ t → place.At runs_at ≡ (if t then place.At next else place.Bad) → ConstantsAre runs_at
           by true f t = let q : next ≡ runs_at = cc in record { cs = cs; are = e ∙ ap (got cs) q; fine = f }
           by false f t = absurd (let z : ◌≡◌ {A = ℕ} 0 1 = cc in omega arith)
 
-      pub constants_are : (runs_at n : ℕ) → n ≡ h.constants → place.At runs_at ≡ constants_told k (many n (read_constant s) (at + 17)) → Constants_are runs_at
+      pub constants_are : (runs_at n : ℕ) → n ≡ h.constants → place.At runs_at ≡ constants_told k (many n (read_constant s) (at + 17)) → ConstantsAre runs_at
       constants_are runs_at n q e =
           constants_got runs_at (many h.constants (read_constant s) (at + 17)) refl (e ∙ ap (λ (m : ℕ). constants_told k (many m (read_constant s) (at + 17))) q)
 
-      module _ (runs_at : ℕ) (c : Constants_are runs_at) where
+      module _ (runs_at : ℕ) (c : ConstantsAre runs_at) where
         runs_by : (r : Read (List Run)) → many h.runs (read_run s) runs_at ≡ r → summed.Bad ≡ runs_told r → done.Bad ≡ judgement
         unfolding runs_told right
         runs_by (bad fault) e b' = fails_done (at_runs s at h b c.cs runs_at c.are (record { fault = fault; is = e }))
@@ -276,26 +276,26 @@ module _ (s : List ℕ) (k at : ℕ) where
         runs_bad n q e =
             judged_bad (runs_by (many h.runs (read_run s) runs_at) refl (e ∙ ap (λ (m : ℕ). runs_told (many m (read_run s) runs_at)) q))
 
-        pub record Runs_are (sum code_at : ℕ) : Type 0 where
+        pub record RunsAre (sum code_at : ℕ) : Type 0 where
           pub rs : List Run
           pub are : many h.runs (read_run s) runs_at ≡ got rs code_at
           pub fine : (all run_fits rs && runs_apart rs) ≡ true
           pub summed : sum ≡ total rs
 
-        runs_got : (sum code_at : ℕ) (r : Read (List Run)) → many h.runs (read_run s) runs_at ≡ r → summed.Are sum code_at ≡ runs_told r → Runs_are sum code_at
+        runs_got : (sum code_at : ℕ) (r : Read (List Run)) → many h.runs (read_run s) runs_at ≡ r → summed.Are sum code_at ≡ runs_told r → RunsAre sum code_at
         unfolding runs_told
         runs_got sum code_at (bad fault) e t = absurd (let z : ◌≡◌ {A = ℕ} 0 1 = cc in omega arith)
         runs_got sum code_at (got rs next) e t = by (all run_fits rs && runs_apart rs) refl t
           where
-            by : (t : Bool) → (all run_fits rs && runs_apart rs) ≡ t → summed.Are sum code_at ≡ (if t then summed.Are (total rs) next else summed.Bad) → Runs_are sum code_at
+            by : (t : Bool) → (all run_fits rs && runs_apart rs) ≡ t → summed.Are sum code_at ≡ (if t then summed.Are (total rs) next else summed.Bad) → RunsAre sum code_at
             by true f t = let q : next ≡ code_at = cc in let z : sum ≡ total rs = cc in record { rs = rs; are = e ∙ ap (got rs) q; fine = f; summed = z }
             by false f t = absurd (let z : ◌≡◌ {A = ℕ} 0 1 = cc in omega arith)
 
-        pub runs_are : (sum code_at n : ℕ) → n ≡ h.runs → summed.Are sum code_at ≡ runs_told (many n (read_run s) runs_at) → Runs_are sum code_at
+        pub runs_are : (sum code_at n : ℕ) → n ≡ h.runs → summed.Are sum code_at ≡ runs_told (many n (read_run s) runs_at) → RunsAre sum code_at
         runs_are sum code_at n q e =
             runs_got sum code_at (many h.runs (read_run s) runs_at) refl (e ∙ ap (λ (m : ℕ). runs_told (many m (read_run s) runs_at)) q)
 
-        module _ (sum code_at : ℕ) (r : Runs_are sum code_at) (bytes : (i : ℕ) → get_or s i 0 < 256) (kinds : List ℕ)
+        module _ (sum code_at : ℕ) (r : RunsAre sum code_at) (bytes : (i : ℕ) → get_or s i 0 < 256) (kinds : List ℕ)
             (table : (p : ℕ) → p < 256 → kinds_in kinds p ≡ kind_at before c.cs p) where
           abbrev ops : ℕ → List ℕ
           ops first = take h.code (drop first s)

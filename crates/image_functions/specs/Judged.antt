@@ -29,7 +29,7 @@ unfoldable pub constants_told : (k : ℕ) → Read (List Constant) → Place
 constants_told k (bad _) = place.Bad
 constants_told k (got cs next) = if constants_fine k cs then place.At next else place.Bad
 
-pub record Constants_right (image : List ℕ) (k at n : ℕ) (r : Place) (kinds : List ℕ) : Type 0 where
+pub record ConstantsRight (image : List ℕ) (k at n : ℕ) (r : Place) (kinds : List ℕ) : Type 0 where
   pub told : r ≡ constants_told k (many n (read_constant image) at)
   pub table : (cs : List Constant) (next : ℕ) → many n (read_constant image) at ≡ got cs next → r ≡ place.At next
       → (p : ℕ) → p < 256 → kinds_in kinds p ≡ kind_at (earlier image k) cs p
@@ -72,7 +72,7 @@ pub record Judged (image : List ℕ) (k at : ℕ) (r : Done) : Type 0 where
   pub grows : (n next : ℕ) → r ≡ done.Is n next → (at + n ≤ next) × (next ≤ length image)
 
 -- function `k` begins at a place, and was read from there
-pub record Next_is (image : List ℕ) (k at : ℕ) : Type 0 where
+pub record NextIs (image : List ℕ) (k at : ℕ) : Type 0 where
   pub place : many k (read_function image) 6 ≡ got (earlier image k) at
   pub there : is_got (read_function image at) ≡ true
 

@@ -9,7 +9,7 @@ ghost use Rattle.image_records.specs.Told.{code_told};
 ghost use Rattle.image_constants.specs.Words.{stamps_least};
 ghost use Rattle.image_constants.specs.Earlier.{Counts};
 ghost use Rattle.image_functions.specs.declared.Done.TheVariants as done;
-ghost use Rattle.image_functions.specs.Judged.{Constants_right, code_done, Judged, Next_is, functions_done, small_size};
+ghost use Rattle.image_functions.specs.Judged.{ConstantsRight, code_done, Judged, NextIs, functions_done, small_size};
 
 use image_code::{Verdict, WINDOW};
 use image_records::{Head, Header, Place, Summed};
@@ -38,7 +38,7 @@ fn constants_in(
     requires k_bound { (k < 4294967295) × Counts s.now k counts.now }
     requires n_in_bounds { (n ≤ length words.old) × (stamps_least ≤ length stamps.old) }
     requires kinds_len { (length kinds.old ≡ 256) × ((p : ℕ) → get_or kinds.old p 0 ≡ 0) }
-    ensures { Constants_right s.now k at n result kinds.new }
+    ensures { ConstantsRight s.now k at n result kinds.new }
 {
     let Place::At(next) = image_constants::gather(s, at, n, words) else {
         return Place::Bad;
@@ -67,7 +67,7 @@ fn constants_lent(
     requires n_bound { (n < 65536) × ((k < 4294967295) × Counts s.now k counts.now) }
     requires words_len { (length words.old ≡ 65536) × (length stamps.old ≡ 65536) }
     requires kinds_len { (length kinds.old ≡ 256) × ((p : ℕ) → get_or kinds.old p 0 ≡ 0) }
-    ensures { Constants_right s.now k at n result kinds.new }
+    ensures { ConstantsRight s.now k at n result kinds.new }
 {
     constants_in(s, at, n, k, counts, words, stamps, kinds)
 }
@@ -83,7 +83,7 @@ fn constants_many(
 ) -> Place
     requires n_bound { (n < 65536) × ((k < 4294967295) × Counts s.now k counts.now) }
     requires kinds_len { (length kinds.old ≡ 256) × ((p : ℕ) → get_or kinds.old p 0 ≡ 0) }
-    ensures { Constants_right s.now k at n result kinds.new }
+    ensures { ConstantsRight s.now k at n result kinds.new }
 {
     let mut words = [0u64; 65536];
     let mut stamps = [0u32; 65536];
@@ -104,7 +104,7 @@ fn constants_right(
     requires n_bound { (n < 65536) × ((k < 4294967295) × Counts s.now k counts.now) }
     requires words_len { (length words.old ≡ 256) × (stamps_least ≤ length stamps.old) }
     requires kinds_len { (length kinds.old ≡ 256) × ((p : ℕ) → get_or kinds.old p 0 ≡ 0) }
-    ensures constants_right { Constants_right s.now k at n result kinds.new }
+    ensures constants_right { ConstantsRight s.now k at n result kinds.new }
     ensures words_len_2 { length words.new ≡ 256 }
 {
     if n <= 256 {
@@ -188,7 +188,7 @@ fn function(
 // Function `k`, which begins at `at`, joins the table of captured variables.
 pub fn note_count(s: &[u8], at: usize, k: usize, counts: &mut [u16])
     requires counts { Counts s.now k counts.old }
-    requires next_is { Next_is s.now k at }
+    requires next_is { NextIs s.now k at }
     ensures { Counts s.now (k + 1) counts.new }
 {
     let Head::Is(h) = image_records::head_of(s, at) else {

@@ -26,8 +26,8 @@ word_is [] = refl
 word_is (x ∷ []) = refl
 word_is (x ∷ y ∷ l) = refl
 
-getD_from : (l : List ℕ) (n i m : ℕ) → n + i ≡ m → get_or (drop n l) i 0 ≡ get_or l m 0
-getD_from l n i m e = get_or-drop n l i 0 ∙ ap (λ (k : ℕ). get_or l k 0) e
+get_or_from : (l : List ℕ) (n i m : ℕ) → n + i ≡ m → get_or (drop n l) i 0 ≡ get_or l m 0
+get_or_from l n i m e = get_or-drop n l i 0 ∙ ap (λ (k : ℕ). get_or l k 0) e
 
 other_lands : (is : List Instruction) (size at : ℕ) (o : Option Operands) (bytes : List ℕ) → (form o ≡ 6 → ⊥) → (form o ≡ 7 → ⊥)
     → true ≡ lands_by is size at (operands_by (form o)) bytes
@@ -87,7 +87,7 @@ module _ (kind : ℕ → Kind) where
       verdict = lands is (length code) (instruction_at kind code at)
 
       far_is : word (take 2 (drop (at + 1) code)) ≡ far
-      far_is = word_is (drop (at + 1) code) ∙ rw (getD_from code (at + 1) 0 (at + 1) (omega arith), getD_from code (at + 1) 1 (at + 2) (omega arith)) refl
+      far_is = word_is (drop (at + 1) code) ∙ rw (get_or_from code (at + 1) 0 (at + 1) (omega arith), get_or_from code (at + 1) 1 (at + 2) (omega arith)) refl
 
       pub no_jump : (Op.JUMP ≤ op → op ≤ Op.LOOP → ⊥) → true ≡ verdict
       unfolding instruction_at lands form_of

@@ -23,12 +23,12 @@ use Rattle.image_records.specs.declared.Head.TheVariants as head
 use Rattle.image_records.specs.declared.Header.{Header}
 use Rattle.image_records.specs.Told.{place_told, head_at}
 use Rattle.image_records.proofs.Many.{Fails, fails_bad, place_bad, place_at, many_none, many_more, passed_none, skip_stops, skip_goes, skip_none, Nth, nth_of}
-use Rattle.image_records.proofs.Records.{Constant_is, Headed, headed, head_fails, Body, body_of, at_constants}
+use Rattle.image_records.proofs.Records.{ConstantIs, Headed, headed, head_fails, Body, body_of, at_constants}
 use Rattle.image_constants.specs.Words.{constant_of}
 use Rattle.image_constants.specs.Earlier.{functions_in, is_got, earlier}
 use Rattle.image_constants.proofs.Words.{is_number, is_string, is_function, constant_back}
-use Rattle.image_constants.proofs.Kinding.{Earlier_are, earlier_are, earlier_number}
-use Rattle.image_naming.specs.Noted.{cap, Capped, Noted, names_one, Constants_noted, Function_noted}
+use Rattle.image_constants.proofs.Kinding.{EarlierAre, earlier_are, earlier_number}
+use Rattle.image_naming.specs.Noted.{cap, Capped, Noted, names_one, ConstantsNoted, FunctionNoted}
 
 cap_low : (n : ℕ) → n ≤ 2 → cap n ≡ n
 unfolding cap

@@ -19,13 +19,13 @@ use Rattle.image_records.specs.declared.Head.TheVariants as head
 use Rattle.image_records.specs.declared.Header.{Header}
 use Rattle.image_records.specs.Told.{place_told, head_at}
 use Rattle.image_records.proofs.Many.{Fails, got_bad, same_got, fails_bad, place_bad, place_at, many_none, many_more, passed_none, skip_stops, skip_goes, skip_none, Nth, nth_of}
-use Rattle.image_records.proofs.Records.{Constant_is, Headed, headed, head_fails, Body, body_of, at_constants}
+use Rattle.image_records.proofs.Records.{ConstantIs, Headed, headed, head_fails, Body, body_of, at_constants}
 use Rattle.image_constants.specs.Words.{constant_of}
 use Rattle.image_constants.specs.Earlier.{functions_in, is_got, earlier}
 use Rattle.image_constants.proofs.Words.{constant_back}
-use Rattle.image_constants.proofs.Kinding.{Earlier_are, earlier_are, earlier_number}
+use Rattle.image_constants.proofs.Kinding.{EarlierAre, earlier_are, earlier_number}
 use Rattle.image_functions.proofs.All.{one_more, earlier_more}
-use Rattle.image_naming.specs.Noted.{cap, Capped, Noted, names_one, Constants_noted, Function_noted}
+use Rattle.image_naming.specs.Noted.{cap, Capped, Noted, names_one, ConstantsNoted, FunctionNoted}
 use Rattle.image_naming.proofs.Counting.{noted_capped, noted_then, noted_none, names_more, all_more, cap_one}
 
 -- ## Constants
@@ -50,7 +50,7 @@ module _ (s : List ℕ) (begin n base : ℕ) (first : List ℕ) where
       }
 
   module _ (seen : List ℕ) (at i : ℕ) (g : Noting s begin n base first seen at i) where
-    pub noting_stop : i < n → Fails (read_constant s at) → Constants_noted s begin n base Bad first seen
+    pub noting_stop : i < n → Fails (read_constant s at) → ConstantsNoted s begin n base Bad first seen
     noting_stop h f =
         record {
           told = skip_stops (read_constant s) n i at h f ∙ sym g.left;
@@ -59,7 +59,7 @@ module _ (s : List ℕ) (begin n base : ℕ) (first : List ℕ) where
               (got_bad (place_bad (many n (read_constant s) begin) (skip_stops (read_constant s) n i at h f ∙ sym g.left)) e);
         }
 
-    pub noting_on : (w next : ℕ) → i < n → Constant_is (read_constant s at) w next → (after : List ℕ) → Noted base (names_one (constant_of w)) seen after
+    pub noting_on : (w next : ℕ) → i < n → ConstantIs (read_constant s at) w next → (after : List ℕ) → Noted base (names_one (constant_of w)) seen after
         → Noting s begin n base first after next (i + 1)
     noting_on w next h c after q =
         let e : constant_of w ≡ c.value = ap constant_of c.coded ∙ constant_back c.value in
@@ -74,7 +74,7 @@ module _ (s : List ℕ) (begin n base : ℕ) (first : List ℕ) where
           left = g.left ∙ skip_goes (read_constant s) n i at next c.value h c.is;
         }
 
-    pub noting_done : n ≤ i → Constants_noted s begin n base (At at) first seen
+    pub noting_done : n ≤ i → ConstantsNoted s begin n base (At at) first seen
     noting_done h =
         let q : i ≡ n = omega (arith, g.within) in
         record {
@@ -90,23 +90,23 @@ module _ (s : List ℕ) (begin n base : ℕ) (first : List ℕ) where
 -- ## A function
 
 module _ (s : List ℕ) (at base : ℕ) (first : List ℕ) where
-  function_none : (seen : List ℕ) → Fails (read_function s at) → Function_noted s at base Bad first seen
+  function_none : (seen : List ℕ) → Fails (read_function s at) → FunctionNoted s at base Bad first seen
   function_none seen f = record { told = fails_bad f; noted = λ g next e. absurd (got_bad f e) }
 
-  pub function_headless : (seen : List ℕ) → head.Bad ≡ head_at s at → Function_noted s at base Bad first seen
+  pub function_headless : (seen : List ℕ) → head.Bad ≡ head_at s at → FunctionNoted s at base Bad first seen
   function_headless seen b = function_none seen (head_fails s at b)
 
-  module _ (h : Header) (b : head.Is h ≡ head_at s at) (n : ℕ) (q : n ≡ h.constants) (seen : List ℕ) (r : Place) (c : Constants_noted s (at + 17) n base r first seen) where
+  module _ (h : Header) (b : head.Is h ≡ head_at s at) (n : ℕ) (q : n ≡ h.constants) (seen : List ℕ) (r : Place) (c : ConstantsNoted s (at + 17) n base r first seen) where
     abbrev d : Headed s at h
     d = headed s at h b
 
-    pub function_cut : r ≡ Bad → Function_noted s at base Bad first seen
+    pub function_cut : r ≡ Bad → FunctionNoted s at base Bad first seen
     function_cut e =
         let f = place_bad (many n (read_constant s) (at + 17)) (sym e ∙ c.told) in
         function_none seen
         (at_constants s at h d (record { fault = f.fault; is = ap (λ (m : ℕ). many m (read_constant s) (at + 17)) (sym q) ∙ f.is }))
 
-    pub function_done : (p : Place) → p ≡ place_told (read_function s at) → Function_noted s at base p first seen
+    pub function_done : (p : Place) → p ≡ place_told (read_function s at) → FunctionNoted s at base p first seen
     function_done p e =
         record {
           told = e;
@@ -121,13 +121,13 @@ module _ (s : List ℕ) (at base : ℕ) (first : List ℕ) where
 
 -- ## All functions
 
-pub record Noting_all (s : List ℕ) (count base : ℕ) (first seen : List ℕ) (at i : ℕ) : Type 0 where
+pub record NotingAll (s : List ℕ) (count base : ℕ) (first seen : List ℕ) (at i : ℕ) : Type 0 where
   pub within : i ≤ count
   pub place : many i (read_function s) 6 ≡ got (earlier s i) at
   pub noted : Noted base (λ number. names_in_all number (earlier s i)) first seen
 
 module _ (s : List ℕ) (count base : ℕ) (first : List ℕ) (all-got : is_got (many count (read_function s) 6) ≡ true) where
-  pub all_begin_with : Capped first → Noting_all s count base first first 6 0
+  pub all_begin_with : Capped first → NotingAll s count base first first 6 0
   unfolding earlier functions_in names_in_all
   all_begin_with c =
       let z = many_none (read_function s) 0 6 refl in
@@ -138,7 +138,7 @@ module _ (s : List ℕ) (count base : ℕ) (first : List ℕ) (all-got : is_got 
         noted = noted_none base _ first c (λ x. ap (names_in_all x) e);
       }
 
-  module _ (seen : List ℕ) (at i : ℕ) (g : Noting_all s count base first seen at i) where
+  module _ (seen : List ℕ) (at i : ℕ) (g : NotingAll s count base first seen at i) where
     pub all_capped : Capped seen
     all_capped = noted_capped first seen g.noted
 
@@ -149,10 +149,10 @@ module _ (s : List ℕ) (count base : ℕ) (first : List ℕ) (all-got : is_got 
       here : read_function s at ≡ got nth.value nth.next
       here = ap (read_function s) (same_got g.place nth.before).1 ∙ nth.is
 
-      pub all_lost : {A : Type 0} (after : List ℕ) → Function_noted s at base Bad seen after → A
+      pub all_lost : {A : Type 0} (after : List ℕ) → FunctionNoted s at base Bad seen after → A
       all_lost after f = absurd (got_bad (place_bad (read_function s at) f.told) here)
 
-      pub all_on : (next : ℕ) (r : Place) → r ≡ At next → (after : List ℕ) → Function_noted s at base r seen after → Noting_all s count base first after next (i + 1)
+      pub all_on : (next : ℕ) (r : Place) → r ≡ At next → (after : List ℕ) → FunctionNoted s at base r seen after → NotingAll s count base first after next (i + 1)
       all_on next r q after f =
           let p = place_at (read_function s at) next (sym q ∙ f.told) in
           let e : nth.next ≡ next = (same_got here p.is).1 in

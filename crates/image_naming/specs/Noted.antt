@@ -25,11 +25,11 @@ pub record Noted (base : ℕ) (more : (number : ℕ) → ℕ) (seen after : List
 unfoldable pub names_one : Constant → (number : ℕ) → ℕ
 names_one c number = if same_constant (CF number) c then 1 else 0
 
-pub record Constants_noted (image : List ℕ) (begin n base : ℕ) (r : Place) (seen after : List ℕ) : Type 0 where
+pub record ConstantsNoted (image : List ℕ) (begin n base : ℕ) (r : Place) (seen after : List ℕ) : Type 0 where
   pub told : r ≡ place_told (many n (read_constant image) begin)
   pub noted : (cs : List Constant) (next : ℕ) → many n (read_constant image) begin ≡ got cs next → Noted base (λ number. names number cs) seen after
 
-pub record Function_noted (image : List ℕ) (at base : ℕ) (r : Place) (seen after : List ℕ) : Type 0 where
+pub record FunctionNoted (image : List ℕ) (at base : ℕ) (r : Place) (seen after : List ℕ) : Type 0 where
   pub told : r ≡ place_told (read_function image at)
   pub noted : (f : ObjectFunction) (next : ℕ) → read_function image at ≡ got f next
       → Noted base (λ number. names number f.chunk.constants) seen after

@@ -9,7 +9,7 @@ ghost use Rattle.rules.specs.ImageFile.{read_function};
 ghost use Rattle.rules.specs.Checker.{names_in_all, named_once};
 ghost use Rattle.image_constants.specs.Words.{constant_of};
 ghost use Rattle.image_constants.specs.Earlier.{is_got, earlier};
-ghost use Rattle.image_naming.specs.Noted.{Capped, Noted, names_one, Constants_noted, Function_noted};
+ghost use Rattle.image_naming.specs.Noted.{Capped, Noted, names_one, ConstantsNoted, FunctionNoted};
 
 use image_records::{Head, Header, Place, Word};
 
@@ -38,7 +38,7 @@ fn note(word: u64, base: usize, seen: &mut [u8])
 // The `n` constants from `begin` on.
 fn note_constants(s: &[u8], begin: usize, n: usize, base: usize, seen: &mut [u8]) -> Place
     requires { Capped seen.old }
-    ensures { Constants_noted s.now begin n base result seen.old seen.new }
+    ensures { ConstantsNoted s.now begin n base result seen.old seen.new }
 {
     let mut at = begin;
     let mut i: usize = 0;
@@ -56,7 +56,7 @@ fn note_constants(s: &[u8], begin: usize, n: usize, base: usize, seen: &mut [u8]
 // The constants of the function at `at`, and where it ends.
 fn note_function(s: &[u8], at: usize, base: usize, seen: &mut [u8]) -> Place
     requires { Capped seen.old }
-    ensures { Function_noted s.now at base result seen.old seen.new }
+    ensures { FunctionNoted s.now at base result seen.old seen.new }
 {
     let Head::Is(h) = image_records::head_of(s, at) else {
         return Place::Bad;

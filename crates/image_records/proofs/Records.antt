@@ -54,12 +54,12 @@ same_word (CF a) (CF b) = four a b (eqb a b) refl
     four a b false e = let q : a ≡ b → ⊥ = eqb-false _ _ e in ne_eqb _ _ (λ (p : 4 * a + 3 ≡ 4 * b + 3). q (omega arith))
 
 -- what a constant that was told is
-pub record Constant_is (r : Read Constant) (w next : ℕ) : Type 0 where
+pub record ConstantIs (r : Read Constant) (w next : ℕ) : Type 0 where
   pub value : Constant
   pub is : r ≡ got value next
   pub coded : w ≡ word_of value
 
-pub constant_is : (r : Read Constant) (w next : ℕ) → word.Is w next ≡ constant_told r → Constant_is r w next
+pub constant_is : (r : Read Constant) (w next : ℕ) → word.Is w next ≡ constant_told r → ConstantIs r w next
 unfolding constant_told
 constant_is (bad fault) w next e = let z : ◌≡◌ {A = ℕ} 0 1 = cc in absurd (omega arith)
 constant_is (got c n) w next e = let m : n ≡ next = cc in record { value = c; is = ap (got c) m; coded = cc }

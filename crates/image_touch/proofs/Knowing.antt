@@ -20,7 +20,7 @@ use Rattle.image_records.specs.Told.{place_told}
 use Rattle.image_records.proofs.Many.{onto, many_none, many_goes, many_first, many_length, same_got}
 use Rattle.image_constants.specs.Words.{constants_of, Gathered}
 use Rattle.image_constants.specs.Earlier.{earlier, no_function, kinds_right, Kinds}
-use Rattle.image_touch.specs.Walked.{First, Constants_known}
+use Rattle.image_touch.specs.Walked.{First, ConstantsKnown}
 
 -- ## Records in a row, the first of them and the others
 
@@ -138,12 +138,12 @@ module _ (s : List ℕ) (k at n first : ℕ) (f : First n first) (words : List �
         let m : middle ≡ parts.middle = cc in
         t ∙ ap (λ (x : ℕ). place_told (many (n - first) (read_constant s) x)) m ∙ ap place_told parts.others
 
-  pub known_stop : (r : Place) (words' kinds : List ℕ) → r ≡ place.Bad → Gathered s at first r words → Constants_known s k at n first place.Bad words' kinds
+  pub known_stop : (r : Place) (words' kinds : List ℕ) → r ≡ place.Bad → Gathered s at first r words → ConstantsKnown s k at n first place.Bad words' kinds
   known_stop r words' kinds e g =
       record { told = λ cs next are fine. absurd (no_place _ (sym e ∙ gathered_at cs next are r g)) }
 
   pub known_wrong : (r : Place) (kinds : List ℕ) → Gathered s at first r words → Kinds (earlier s k) k (constants_of first words) false kinds
-      → (words' : List ℕ) → Constants_known s k at n first place.Bad words' kinds
+      → (words' : List ℕ) → ConstantsKnown s k at n first place.Bad words' kinds
   known_wrong r kinds g w words' =
       record {
         told =
@@ -153,7 +153,7 @@ module _ (s : List ℕ) (k at n first : ℕ) (f : First n first) (words : List �
 
   pub known_done : (r q : Place) (middle : ℕ) (kinds : List ℕ) → Gathered s at first r words → r ≡ place.At middle
       → Kinds (earlier s k) k (constants_of first words) true kinds → q ≡ place_told (many (n - first) (read_constant s) middle)
-      → Constants_known s k at n first q words kinds
+      → ConstantsKnown s k at n first q words kinds
   known_done r q middle kinds g e w t =
       record {
         told =

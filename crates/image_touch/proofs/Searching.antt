@@ -20,7 +20,7 @@ use Rattle.image_code.specs.Table.{instructions, is_some}
 use Rattle.image_code.proofs.Steps.{no_true}
 use Rattle.image_records.proofs.Many.{First, many_none, many_first, left_none, passed_none, same_got}
 use Rattle.image_constants.specs.Earlier.{functions_in, is_got, earlier, Counts}
-use Rattle.image_functions.specs.Judged.{right, Next_is, right_all}
+use Rattle.image_functions.specs.Judged.{right, NextIs, right_all}
 use Rattle.image_functions.proofs.All.{read_is, earlier_more, one_more}
 use Rattle.image.specs.Counted.{counted_in}
 use Rattle.image.proofs.Sound.{and_of, sound_is, one_from, same_division}
@@ -130,7 +130,7 @@ module _ (s : List ℕ) (count name : ℕ) (o : Sound s count) where
       unfolding is_right
       function_right = ap (is_right (earlier s k)) t.is ∙ rights.0
 
-      pub next_is : Next_is s k at
+      pub next_is : NextIs s k at
       unfolding is_got
       next_is = record { place = g.place; there = ap is_got t.is }
 

@@ -32,7 +32,7 @@ use Rattle.image_constants.specs.Earlier.{earlier, kinds_right}
 use Rattle.image_functions.specs.Judged.{constants_fine, code_fine, right}
 use Rattle.image_touch.specs.declared.Found.{Found}
 use Rattle.image_touch.specs.declared.Step.TheVariants.{Is}
-use Rattle.image_touch.specs.Walked.{of_function, walked, Known, Constants_known, is_right, step_of, Stepped}
+use Rattle.image_touch.specs.Walked.{of_function, walked, Known, ConstantsKnown, is_right, step_of, Stepped}
 use Rattle.image_touch.proofs.Knowing.{elem_in, both}
 
 and_of : (a b : Bool) → (a && b) ≡ true → (a ≡ true) × (b ≡ true)
@@ -41,13 +41,13 @@ and_of false b e = absurd (no_true e)
 
 -- ## What is right of a function
 
-pub record Right_is (before : List ObjectFunction) (r : Read ObjectFunction) : Type 0 where
+pub record RightIs (before : List ObjectFunction) (r : Read ObjectFunction) : Type 0 where
   pub f : ObjectFunction
   pub next : ℕ
   pub is : r ≡ got f next
   pub fine : right before f ≡ true
 
-pub right_is : (before : List ObjectFunction) (r : Read ObjectFunction) → is_right before r ≡ true → Right_is before r
+pub right_is : (before : List ObjectFunction) (r : Read ObjectFunction) → is_right before r ≡ true → RightIs before r
 unfolding is_right
 right_is before (bad fault) e = absurd (no_true e)
 right_is before (got f next) e = record { f = f; next = next; is = refl; fine = e }
@@ -181,7 +181,7 @@ no_place : (next : ℕ) → place.Bad ≡ place.At next → ⊥
 no_place next e = let z : ◌≡◌ {A = ℕ} 0 1 = cc in omega arith
 
 module _ (s : List ℕ) (k at : ℕ) (number_of_lem : length (earlier s k) ≡ k) (y : is_right (earlier s k) (read_function s at) ≡ true) where
-  abbrev d : Right_is (earlier s k) (read_function s at)
+  abbrev d : RightIs (earlier s k) (read_function s at)
   d = right_is (earlier s k) (read_function s at) y
 
   pub headless : head.Bad ≡ head_at s at → ⊥
@@ -204,7 +204,7 @@ module _ (s : List ℕ) (k at : ℕ) (number_of_lem : length (earlier s k) ≡ k
     constants_right =
         sym (ap (λ (m : ℕ). kinds_right m d.f.chunk.constants) number_of_lem ∙ ap (kinds_right k) constants_are) ∙ kinds_fine (earlier s k) d.f d.fine
 
-    module _ (n first : ℕ) (is-n : n ≡ h.constants) (r : Place) (words kinds : List ℕ) (c : Constants_known s k (at + 17) n first r words kinds) where
+    module _ (n first : ℕ) (is-n : n ≡ h.constants) (r : Place) (words kinds : List ℕ) (c : ConstantsKnown s k (at + 17) n first r words kinds) where
       abbrev told : (r ≡ place.At o.runs_at) × Known s k o.cs first words kinds
       told = c.told o.cs o.runs_at (ap (λ (m : ℕ). many m (read_constant s) (at + 17)) is-n ∙ o.constants_are) constants_right
 

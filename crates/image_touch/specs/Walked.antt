@@ -45,7 +45,7 @@ pub record Known (image : List ℕ) (k : ℕ) (cs : List Constant) (first : ℕ)
   pub are : constants_of first words ≡ take 256 cs
   pub table : (p : ℕ) → p < 256 → kinds_in kinds p ≡ kind_at (earlier image k) cs p
 
-pub record Constants_known (image : List ℕ) (k at n first : ℕ) (r : Place) (words kinds : List ℕ) : Type 0 where
+pub record ConstantsKnown (image : List ℕ) (k at n first : ℕ) (r : Place) (words kinds : List ℕ) : Type 0 where
   pub told : (cs : List Constant) (next : ℕ) → many n (read_constant image) at ≡ got cs next → kinds_right k cs ≡ true
       → (r ≡ place.At next) × Known image k cs first words kinds
 

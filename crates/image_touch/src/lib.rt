@@ -9,7 +9,7 @@ ghost use Rattle.image_code.specs.Table.{kinds_in, instruction_at, from, instruc
 ghost use Rattle.image_constants.specs.Words.{constants_of};
 ghost use Rattle.rules.specs.ImageFile.{read_function};
 ghost use Rattle.image_constants.specs.Earlier.{Counts, earlier};
-ghost use Rattle.image_touch.specs.Walked.{of_function, walked, First, Constants_known, is_right, Stepped, Sound};
+ghost use Rattle.image_touch.specs.Walked.{of_function, walked, First, ConstantsKnown, is_right, Stepped, Sound};
 
 use answers::{accepted, refused};
 use image_records::{Head, Header, Place};
@@ -116,7 +116,7 @@ fn constants(
 ) -> Place
     requires first { First n first × Counts s.now k counts.now }
     requires words_len { (length words.old ≡ 256) × ((length kinds.old ≡ 256) × ((p : ℕ) → get_or kinds.old p 0 ≡ 0)) }
-    ensures constants_known { Constants_known s.now k at n first result words.new kinds.new }
+    ensures constants_known { ConstantsKnown s.now k at n first result words.new kinds.new }
     ensures words_len_2 { length words.new ≡ 256 }
 {
     let Place::At(next) = image_constants::gather(s, at, first, words) else {

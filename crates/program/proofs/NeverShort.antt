@@ -20,14 +20,14 @@ use Rattle.program.specs.Program.{most, program_answer}
 abbrev pub areas : Lent
 areas = record { options = 0; table_words = 17_412; code_bytes = 65_536; span_words = 196_608; output_bytes = 1_114_112 }
 
-abbrev pub Never_short : Answer → Type 0
-Never_short a = (a.number ≢ 1) × (a.number ≢ 30) × (a.number ≢ 31)
+abbrev pub NeverShort : Answer → Type 0
+NeverShort a = (a.number ≢ 1) × (a.number ≢ 30) × (a.number ≢ 31)
 
-pub never_short : (tree : List ℕ) → Bytes tree → Never_short (program_answer tree areas)
+pub never_short : (tree : List ℕ) → Bytes tree → NeverShort (program_answer tree areas)
 unfolding program_answer refusal
 never_short tree bytes = by_length (leb (length tree) most) refl
   where
-    by_length : (b : Bool) → leb (length tree) most ≡ b → Never_short (if b then (compile tree areas).answer else refusal TreeTooLong)
+    by_length : (b : Bool) → leb (length tree) most ≡ b → NeverShort (if b then (compile tree areas).answer else refusal TreeTooLong)
     by_length true e =
         let l : length tree ≤ most = leb→le (length tree) most (rw e tt) in
         room_that_suffices tree bytes areas (omega arith) (omega arith) (omega arith) (omega arith) (omega arith)

@@ -216,7 +216,7 @@ first_targets (refused x) = []
 first_targets (functions_are []) = []
 first_targets (functions_are (f ∷ fs)) = targets (division (f ∷ fs) f)
 
-pub record P1_to_P12 : Type 0 where
+pub record P1ToP12 : Type 0 where
   pub codes_and_refusals : map (λ (r : Row). given (compile_tree first_limits r.tree max_code)) table ≡ map (λ (r : Row). r.gives) table
   pub P1_whole : compile P1_tree (lent 17_412 2 6 38) ≡ leaves (lent 17_412 2 6 38) (accepted 38) P1_image
   pub P2_whole : compile P2_tree (lent 17_412 5 15 73) ≡ leaves (lent 17_412 5 15 73) (accepted 73) P2_image
@@ -234,7 +234,7 @@ pub record P1_to_P12 : Type 0 where
   pub P2_code_place : code_place P2_image 0 ≡ 68
   pub P2_no_function : code_answer P2_image 1 ≡ refusal NoSuchFunction
 
-pub holds : P1_to_P12
+pub holds : P1ToP12
 unfolding hex computes.entry computes.checker
 holds =
     record {

@@ -229,13 +229,13 @@ work_areas_zero limits tree lent = by_answer (compile_lent limits tree lent)
 abbrev limits : (depth funs : ℕ) → Limits
 limits d f = record { depth = d; funs = f; table_bytes = 0 }
 
-pub record At_limits : Type 0 where
+pub record AtLimits : Type 0 where
   pub deep_enough : compile_tree (limits 2 0) P2_tree max_code ≡ compile_tree first_limits P2_tree max_code
   pub too_deep : compile_tree (limits 1 0) P2_tree max_code ≡ refused (outside (TreeTooDeep 16))
   pub open_enough : compile_tree (limits 4 2) P12_tree max_code ≡ compile_tree first_limits P12_tree max_code
   pub too_many_open : compile_tree (limits 4 1) P12_tree max_code ≡ refused (outside (TooManyOpen 39))
 
-pub at_limits : At_limits
+pub at_limits : AtLimits
 unfolding hex computes.entry
 at_limits = record { deep_enough = refl; too_deep = refl; open_enough = refl; too_many_open = refl }
 
@@ -279,23 +279,23 @@ spans = record { last_of_first = refl; first_of_next = refl; past_the_end = refl
 
 -- ## A run may stand for 255 bytes, and its span is read back as it was written
 
-pub record Read_runs : Type 0 where
+pub record ReadRuns : Type 0 where
   pub longest : run_fits (record { span = NO_SPAN; count = 255 }) ≡ true
   pub too_long_a_run : run_fits (record { span = NO_SPAN; count = 256 }) ≡ false
   pub as_written : read_run (hex 11 0x52_55_04000000_06000000_01) 0 ≡ got (record { span = from_to 4 6; count = 1 }) 11
 
-pub read_runs : Read_runs
+pub read_runs : ReadRuns
 unfolding hex computes.division computes.image_file
 read_runs = record { longest = refl; too_long_a_run = refl; as_written = refl }
 
 -- ## An image has one form: to the last byte, and with a function
 
-pub record One_form : Type 0 where
+pub record OneForm : Type 0 where
   pub as_written : check P2_image ≡ accepted 4
   pub one_byte_more : check (P2_image ++ 0 ∷ []) ≡ refusal ImageRefused
   pub no_functions : check (hex 6 0x494D_0000_0000) ≡ refusal ImageRefused
 
-pub one_form : One_form
+pub one_form : OneForm
 unfolding hex computes.checker
 one_form = record { as_written = refl; one_byte_more = refl; no_functions = refl }
 

@@ -28,11 +28,11 @@ use Rattle.rules_laws.proofs.Facts.{All, all_map, Bytes}
 use Rattle.rules_laws.proofs.Runs.{Counts, Counted, counted}
 use Rattle.rules_laws.proofs.CodeBytes.{AllSound, Sound}
 use Rattle.rules_laws.proofs.Checks.{from_ok, from_lent, lent_checked, lent_sound, refusal_number, image_for, room}
-use Rattle.rules_laws.proofs.ReadBack.{Fits_run, Fits_constant, Fits_form, Fits_image, read_back_with, sound_accepted_with}
+use Rattle.rules_laws.proofs.ReadBack.{FitsRun, FitsConstant, FitsForm, FitsImage, read_back_with, sound_accepted_with}
 use Rattle.rules_laws.proofs.Trees.{stmts_size}
 use Rattle.rules_laws.proofs.TreeBytes.{Fitting, tree_fits}
 use Rattle.rules_laws.proofs.ImageSizes.{image_in_all}
-use Rattle.rules_laws.proofs.Widths.{Small_constant, Small_run, Wide_function, Widths, widths}
+use Rattle.rules_laws.proofs.Widths.{SmallConstant, SmallRun, WideFunction, Widths, widths}
 
 -- ## An accepted tree, taken apart
 
@@ -119,14 +119,14 @@ unfolding total
 few_runs [] h = omega arith
 few_runs (run ∷ runs) h = omega (arith, h.0.least, few_runs runs h.1)
 
-constant_fits : (bound : ℕ) → bound < 4_294_967_296 → (v : Constant) → Small_constant v × Below bound v → Fits_constant v
+constant_fits : (bound : ℕ) → bound < 4_294_967_296 → (v : Constant) → SmallConstant v × Below bound v → FitsConstant v
 constant_fits bound l (CN bits) h = h.0
 constant_fits bound l (CS name) h = h.0
 constant_fits bound l (CF number) h = omega (arith, h.1)
 
-form : (limit bound : ℕ) → limit ≤ max_code → bound < 4_294_967_296 → (f : ObjectFunction) → Wide_function f →
+form : (limit bound : ℕ) → limit ≤ max_code → bound < 4_294_967_296 → (f : ObjectFunction) → WideFunction f →
     Sound limit f.upvalue_count f.chunk → Counted f.chunk →
-    All (Below bound) f.chunk.constants → Fits_form f
+    All (Below bound) f.chunk.constants → FitsForm f
 form limit bound l b f w s r e =
     record {
       name = w.named;
@@ -136,18 +136,18 @@ form limit bound l b f w s r e =
       runs = omega (arith, s.room, r.sum, few_runs f.chunk.spans r.each);
       code = omega (arith, s.room);
       each_constant =
-          all_map (λ (v : Constant). Small_constant v × Below bound v) Fits_constant (constant_fits bound b) f.chunk.constants
-          (zip Small_constant (Below bound) f.chunk.constants w.constants e);
+          all_map (λ (v : Constant). SmallConstant v × Below bound v) FitsConstant (constant_fits bound b) f.chunk.constants
+          (zip SmallConstant (Below bound) f.chunk.constants w.constants e);
       each_run =
-          all_map (λ (run : Run). Small_run run × Counts run) Fits_run (λ run h. record { span = h.0; count = omega (arith, h.1.most) })
+          all_map (λ (run : Run). SmallRun run × Counts run) FitsRun (λ run h. record { span = h.0; count = omega (arith, h.1.most) })
           f.chunk.spans
-          (zip Small_run Counts f.chunk.spans w.runs r.each);
+          (zip SmallRun Counts f.chunk.spans w.runs r.each);
       each_byte = s.bytes;
     }
 
-forms : (limit bound : ℕ) → limit ≤ max_code → bound < 4_294_967_296 → (fs : List ObjectFunction) → All Wide_function fs → AllSound limit fs →
+forms : (limit bound : ℕ) → limit ≤ max_code → bound < 4_294_967_296 → (fs : List ObjectFunction) → All WideFunction fs → AllSound limit fs →
     All (λ (f : ObjectFunction). List ObjectFunction × Counted f.chunk) fs → All
-    (λ (f : ObjectFunction). All (Below bound) f.chunk.constants) fs → All Fits_form fs
+    (λ (f : ObjectFunction). All (Below bound) f.chunk.constants) fs → All FitsForm fs
 forms limit bound l b [] w s r e = tt
 forms limit bound l b (f ∷ fs) w s r e =
     (form limit bound l b f w.0 s.0.1 r.0.1 e.0, forms limit bound l b fs w.1 s.1 r.1 e.1)
@@ -165,7 +165,7 @@ module _ (limits : Limits) (tree : List ℕ) (bytes : Bytes tree) (lent : Lent) 
   fits = tree_fits tree bytes limits.depth limits.funs from.stmts from.next from.read
 
   -- every number of the image is below what its field holds
-  pub image_fits : Fits_image fs
+  pub image_fits : FitsImage fs
   image_fits =
       record {
         some = w.some;

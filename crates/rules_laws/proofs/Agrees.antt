@@ -8,12 +8,12 @@ use Rattle.rules.specs.declared.Refusal.TheVariants.{CodeFull}
 use Rattle.rules.specs.Tree.{Stmts}
 use Rattle.rules.specs.Compiler as c
 use Rattle.rules.specs.Compiler.{Outcome}
-use Rattle.rules_laws.proofs.Refusals.{Refused_by}
+use Rattle.rules_laws.proofs.Refusals.{RefusedBy}
 use Rattle.rules_laws.proofs.Peak.{peak, moments_of, peak_fits, peak_full, full_by_30}
 
 -- under the smaller limit 30, or the same under both
 pub data Under {A : Type 0} (o o' : Outcome A) : Type 0 where
-  full : Refused_by CodeFull o → Under o o'
+  full : RefusedBy CodeFull o → Under o o'
   same : o ≡ o' → Under o o'
 
 -- for all statements and two limits

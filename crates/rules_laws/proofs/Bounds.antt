@@ -20,7 +20,7 @@ use Rattle.rules_laws.proofs.TreeBytes.{Fitting, tree_fits}
 use Rattle.rules_laws.proofs.ImageSizes.{image_at_most}
 use Rattle.rules_laws.proofs.Room.{Enough, Alike, enough_in_both}
 use Rattle.rules_laws.proofs.CodeNeed.{needed_most}
-use Rattle.rules_laws.proofs.Exactly.{work_short_exactly, code_full_exactly, out_full_only, compiled_functions, Room_enough, room_enough_exactly}
+use Rattle.rules_laws.proofs.Exactly.{work_short_exactly, code_full_exactly, out_full_only, compiled_functions, RoomEnough, room_enough_exactly}
 
 -- ## By the tree file's length
 
@@ -120,19 +120,19 @@ module _ (tree : List ℕ) (bytes : Bytes tree) (lent : Lent) (largest : Largest
 -- ## The room for every tree file
 
 -- PB_OUTPUT_BYTES, PB_CODE_BYTES and PB_SPAN_WORDS of include/puffbramble.h, or more
-pub record For_every (tree : List ℕ) (lent : Lent) : Type 0 where
+pub record ForEvery (tree : List ℕ) (lent : Lent) : Type 0 where
   pub table_words : 17_412 ≤ lent.table_words
   pub code_bytes : min (length tree) max_code ≤ lent.code_bytes
   pub span_words : 3 * min (length tree) max_code ≤ lent.span_words
   pub output_bytes : 17 * length tree ≤ lent.output_bytes
 
-every_limit : (tree : List ℕ) (lent : Lent) → For_every tree lent → min (length tree) max_code ≤ code_limit lent
+every_limit : (tree : List ℕ) (lent : Lent) → ForEvery tree lent → min (length tree) max_code ≤ code_limit lent
 unfolding code_limit
 every_limit tree lent r = omega (arith, r.code_bytes, r.span_words)
 
 -- Whatever room a server lends first, the header's or another: an answer that is none of 1, 30 and 31 is the one that the room for every tree file
 -- gives, with the same image. The two rooms need not be comparable, so this is no case of `more_Room`.
-module _ (tree : List ℕ) (bytes : Bytes tree) (lent lent' : Lent) (options : lent.options ≡ lent'.options) (every : For_every tree lent') where
+module _ (tree : List ℕ) (bytes : Bytes tree) (lent lent' : Lent) (options : lent.options ≡ lent'.options) (every : ForEvery tree lent') where
   every_30 : Enough (compile tree lent).answer → (compile tree lent').answer.number ≢ 30
   every_30 n e =
       let (stmts, w, l) = (code_full_exactly first_limits tree bytes lent').0 e in
@@ -147,7 +147,7 @@ module _ (tree : List ℕ) (bytes : Bytes tree) (lent lent' : Lent) (options : l
         enough.code stmts (record { started = record { table = enough.table; short = w.started.short }; next = w.next; read = w.read }),
       )
     where
-      enough : Room_enough first_limits tree bytes lent
+      enough : RoomEnough first_limits tree bytes lent
       enough = (room_enough_exactly first_limits tree bytes lent).0 n
 
   pub as_in_the_room_for_every :

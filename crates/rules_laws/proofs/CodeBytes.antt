@@ -19,7 +19,7 @@ use Rattle.rules.specs.Image as image
 use Rattle.rules_laws.proofs.Keeps.{After}
 use Rattle.rules_laws.proofs.Layer as layer
 use Rattle.rules_laws.proofs.Coded.{write_constants}
-use Rattle.rules_laws.proofs.Facts.{Fact, All, all_map, all_end, ChunkLaws, Form, plain, byte, captured_at, value_at, text_at, invoke, Still, Grown, as_before, one_more, Is_value, write_all, with_constants, with_ops, jump_bytes, loop_bytes, Bytes}
+use Rattle.rules_laws.proofs.Facts.{Fact, All, all_map, all_end, ChunkLaws, Form, plain, byte, captured_at, value_at, text_at, invoke, Still, Grown, as_before, one_more, IsValue, write_all, with_constants, with_ops, jump_bytes, loop_bytes, Bytes}
 use Rattle.rules.proofs.Computes as computes
 
 -- what a table has is under one of its numbers
@@ -61,7 +61,7 @@ grown_few : {Q : Constant → Type 0} {cs ds : List Constant} → Grown Q cs ds 
 grown_few as_before h = h
 grown_few {cs = cs} (one_more v q e l) h = omega (arith, length-append cs (v ∷ []))
 
-unchanged : {cs : List Constant} → Grown Is_value cs cs
+unchanged : {cs : List Constant} → Grown IsValue cs cs
 unchanged = as_before
 
 pub record Sound (limit n : ℕ) (ch : Chunk) : Type 0 where

@@ -10,8 +10,8 @@ use lib.Dec.{leb, leb→le, nleb→lt}
 use Rattle.rules.specs.declared.Refusal.TheVariants.{CodeFull}
 use Rattle.rules.specs.Tree.{Stmts}
 use Rattle.rules.specs.Compiler as c
-use Rattle.rules_laws.proofs.Refusals.{Refused_by}
-use Rattle.rules_laws.proofs.Trees.{Of_stmts, stmts_size}
+use Rattle.rules_laws.proofs.Refusals.{RefusedBy}
+use Rattle.rules_laws.proofs.Trees.{OfStmts, stmts_size}
 use Rattle.rules_laws.proofs.TreeBytes.{fitting}
 use Rattle.rules_laws.proofs.Sizes.{Within, within}
 use Rattle.rules_laws.proofs.Peak.{peak, moments_of, peak_fits, peak_full, full_by_30, free_run_not_full}
@@ -20,16 +20,16 @@ abbrev pub code_needed : Stmts → ℕ
 code_needed stmts = peak (moments_of stmts)
 
 -- for all statements and limits
-pub full_exactly : (stmts : Stmts) (limit : ℕ) → Refused_by CodeFull (c.compile_functions limit stmts) ↔ (limit < code_needed stmts)
+pub full_exactly : (stmts : Stmts) (limit : ℕ) → RefusedBy CodeFull (c.compile_functions limit stmts) ↔ (limit < code_needed stmts)
 full_exactly stmts limit = (by_peak (leb (code_needed stmts) limit) refl, λ l. full_by_30 (peak_full stmts limit l))
   where
-    by_peak : (b : Bool) → leb (code_needed stmts) limit ≡ b → Refused_by CodeFull (c.compile_functions limit stmts) → limit < code_needed stmts
+    by_peak : (b : Bool) → leb (code_needed stmts) limit ≡ b → RefusedBy CodeFull (c.compile_functions limit stmts) → limit < code_needed stmts
     by_peak true e d =
-        absurd (free_run_not_full stmts (subst (Refused_by CodeFull) (peak_fits stmts limit (leb→le (code_needed stmts) limit (rw e tt))) d))
+        absurd (free_run_not_full stmts (subst (RefusedBy CodeFull) (peak_fits stmts limit (leb→le (code_needed stmts) limit (rw e tt))) d))
     by_peak false e d = nleb→lt (code_needed stmts) limit (rw e tt)
 
 -- of statements as the reader gives them
-pub needed_most : (most : ℕ) (stmts : Stmts) → Of_stmts (fitting most) stmts most → code_needed stmts ≤ stmts_size stmts + 2
+pub needed_most : (most : ℕ) (stmts : Stmts) → OfStmts (fitting most) stmts most → code_needed stmts ≤ stmts_size stmts + 2
 needed_most most stmts o = by_peak (leb (code_needed stmts) (stmts_size stmts + 2)) refl
   where
     by_peak : (b : Bool) → leb (code_needed stmts) (stmts_size stmts + 2) ≡ b → code_needed stmts ≤ stmts_size stmts + 2

@@ -19,7 +19,7 @@ use Rattle.rules.specs.Compiler as c
 use Rattle.rules_laws.proofs.Keeps.{After}
 use Rattle.rules_laws.proofs.Layer as layer
 use Rattle.rules_laws.proofs.Tests.{both, left, right}
-use Rattle.rules_laws.proofs.Facts.{Fact, All, all_map, at_left, ChunkLaws, Form, plain, byte, captured_at, value_at, text_at, invoke, ahead, back, closure, Still, Grown, as_before, one_more, write_all, with_constants, jump_bytes, loop_bytes, Is_value, a_number, a_string, all_end, all_at, at_end}
+use Rattle.rules_laws.proofs.Facts.{Fact, All, all_map, at_left, ChunkLaws, Form, plain, byte, captured_at, value_at, text_at, invoke, ahead, back, closure, Still, Grown, as_before, one_more, write_all, with_constants, jump_bytes, loop_bytes, IsValue, a_number, a_string, all_end, all_at, at_end}
 use Rattle.rules_laws.proofs.Pieces.{Piece, code, Border, end, under, Waiting, here, below, patch, code_patch, border_patch, Good, Fine, emitted, patched, first, waits, good_more, good_wait, among_swap, waiting_patch, border_le}
 use Rattle.rules.proofs.Computes as computes
 
@@ -89,7 +89,7 @@ earlier_more m n l (CN _) h = tt
 earlier_more m n l (CS _) h = tt
 earlier_more m n l (CF _) h = omega arith
 
-value_earlier : (m : ℕ) {v : Constant} → Is_value v → Earlier m v
+value_earlier : (m : ℕ) {v : Constant} → IsValue v → Earlier m v
 value_earlier m a_number = tt
 value_earlier m a_string = tt
 
@@ -102,12 +102,12 @@ unfolding names
 names_end number [] v = omega arith
 names_end number (x ∷ cs) v = omega (arith, names_end number cs v)
 
-value_names : (number : ℕ) {v : Constant} → Is_value v → names number (v ∷ []) ≡ 0
+value_names : (number : ℕ) {v : Constant} → IsValue v → names number (v ∷ []) ≡ 0
 unfolding names same_constant
 value_names number a_number = refl
 value_names number a_string = refl
 
-pub names_grown : (number : ℕ) {cs ds : List Constant} → Grown Is_value cs ds → names number ds ≡ names number cs
+pub names_grown : (number : ℕ) {cs ds : List Constant} → Grown IsValue cs ds → names number ds ≡ names number cs
 names_grown number as_before = refl
 names_grown number {cs = cs} (one_more v q e l) = omega (arith, names_end number cs v, value_names number q)
 
@@ -334,7 +334,7 @@ widen_closed h fs gs cs m n ops f k l y =
 
 -- an instruction with its constant
 writes : (kind : Operands) → Still kind → (k : Known) (fs : List ObjectFunction) (n : ℕ) (ops : List ℕ) (cs ds : List Constant) (b : ℕ) (bs : List ℕ) →
-    operands_of b ≡ some kind → Grown Is_value cs ds → Form fs ds n kind bs → Closed k fs cs n ops → Closed k fs ds n (ops ++ (b ∷ bs))
+    operands_of b ≡ some kind → Grown IsValue cs ds → Form fs ds n kind bs → Closed k fs cs n ops → Closed k fs ds n (ops ++ (b ∷ bs))
 unfolding widen
 writes kind st k fs n ops cs ds b bs e g f y =
     more k fs ds n ops kind b bs (widen k fs fs cs ds n n ops (more_same fs) (more_grown g) (omega arith) y.coding) e f (still kind st _ _ _ bs)

@@ -17,7 +17,7 @@ use Rattle.rules.specs.Compiler as c
 use Rattle.rules.specs.Compiler.{Outcome, ok, err}
 use Rattle.rules_laws.proofs.Keeps.{After}
 use Rattle.rules_laws.proofs.Layer as layer
-use Rattle.rules_laws.proofs.Facts.{Fact, ChunkLaws, Grown, as_before, one_more, Is_value, with_constants, jump_bytes, loop_bytes, same_eq}
+use Rattle.rules_laws.proofs.Facts.{Fact, ChunkLaws, Grown, as_before, one_more, IsValue, with_constants, jump_bytes, loop_bytes, same_eq}
 use Rattle.rules_laws.proofs.Tests.{both, left, right, all_cons, all_and, all_snoc}
 use Rattle.rules_laws.proofs.Coded.{names_end, names_grown, write_constants}
 
@@ -125,7 +125,7 @@ none_yet : (fs : List ObjectFunction) → Census fs fs []
 unfolding distinct names_in_all names
 none_yet fs = record { few = omega arith; unlike = tt; since = []; all_of = sym (append-nil fs); once = λ number. omega arith }
 
-grows : {opened fs : List ObjectFunction} {cs ds : List Constant} → Grown Is_value cs ds → Census opened fs cs → Census opened fs ds
+grows : {opened fs : List ObjectFunction} {cs ds : List Constant} → Grown IsValue cs ds → Census opened fs cs → Census opened fs ds
 grows as_before h = h
 grows {opened} {fs} {cs} (one_more v q e l) h =
     record {

@@ -18,7 +18,7 @@ use Rattle.rules.specs.Division.{Instruction, Kind, word, fits}
 use Rattle.rules.specs.Compiler as c
 use Rattle.rules.specs.Compiler.{Compiler, Outcome, ok, err}
 use Rattle.rules_laws.proofs.Keeps.{After}
-use Rattle.rules_laws.proofs.Facts.{All, Form, plain, byte, captured_at, value_at, text_at, invoke, ahead, back, closure, Is_value, a_number, a_string}
+use Rattle.rules_laws.proofs.Facts.{All, Form, plain, byte, captured_at, value_at, text_at, invoke, ahead, back, closure, IsValue, a_number, a_string}
 use Rattle.rules_laws.proofs.Tests.{both, or_left, or_right, all_cons}
 use Rattle.rules_laws.proofs.Pieces.{Piece, bytes, code, Border, end, under, Good, Fine, Lands, lands, border_le}
 use Rattle.rules_laws.proofs.Runs.{Counts, Counted, counted}
@@ -117,7 +117,7 @@ module _ (fs : List ObjectFunction) (cs : List Constant) (n : ℕ) where
 -- ## Every instruction fits
 
 module _ (fs : List ObjectFunction) (cs : List Constant) (n : ℕ) where
-  value_fits : {v : Constant} → Is_value v → T (d.is_value (d.kind_of fs (some v)))
+  value_fits : {v : Constant} → IsValue v → T (d.is_value (d.kind_of fs (some v)))
   unfolding d.is_value d.kind_of
   value_fits a_number = tt
   value_fits a_string = tt

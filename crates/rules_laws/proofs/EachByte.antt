@@ -9,15 +9,15 @@ use Rattle.rules.specs.Chunk.{ObjectFunction}
 use Rattle.rules.specs.Compiler as c
 use Rattle.rules.specs.Compiler.{Compiler, CompilerCtx, Outcome, ok, err, go_on}
 use Rattle.rules_laws.proofs.Keeps.{After}
-use Rattle.rules_laws.proofs.Peak.{sum, sum_both, lengths, of_open, of_finished, finished_both, all_of, Adds_up, adds_up, peak, moments_of, free_run, run_path, peak_fits}
+use Rattle.rules_laws.proofs.Peak.{sum, sum_both, lengths, of_open, of_finished, finished_both, all_of, AddsUp, adds_up, peak, moments_of, free_run, run_path, peak_fits}
 use Rattle.rules_laws.proofs.Impossible.{script_alone}
 
 -- the functions' code is that of the finished functions and of the script
-abbrev Its_code : Outcome (List ObjectFunction) → Type 0
-Its_code (ok fs t) = sum (of_finished fs) ≡ all_of (lengths t)
-Its_code (err x) = Unit {0}
+abbrev ItsCode : Outcome (List ObjectFunction) → Type 0
+ItsCode (ok fs t) = sum (of_finished fs) ≡ all_of (lengths t)
+ItsCode (err x) = Unit {0}
 
-its_code : (limit : ℕ) (stmts : Stmts) → Its_code (c.compile_functions limit stmts)
+its_code : (limit : ℕ) (stmts : Stmts) → ItsCode (c.compile_functions limit stmts)
 unfolding c.compile_functions c.◌>>◌ go_on c.the c.finish
 its_code limit stmts = by_outcome (c.compile_script limit stmts c.new) (script_alone limit stmts)
   where
@@ -28,7 +28,7 @@ its_code limit stmts = by_outcome (c.compile_script limit stmts c.new) (script_a
     by_parents t (p ∷ ps) e = absurd (omega (arith, e))
 
     by_outcome : (o : Outcome (Unit {0})) → After (λ _ t. length t.parents ≡ 0) o →
-        Its_code (go_on o (λ _. c.the (λ (s : Compiler). s.functions ++ (c.finish s.ctx ∷ []))))
+        ItsCode (go_on o (λ _. c.the (λ (s : Compiler). s.functions ++ (c.finish s.ctx ∷ []))))
     by_outcome (ok a t) e = by_parents t t.parents e
     by_outcome (err x) e = tt
 
@@ -37,8 +37,8 @@ pub each_byte_once : (stmts : Stmts) (fs : List ObjectFunction) (t : Compiler) �
     length (moments_of stmts) ≡ sum (of_finished fs)
 each_byte_once stmts fs t e = omega (arith, counted, code)
   where
-    counted : Adds_up (0 ∷ [], []) (moments_of stmts) (ok fs t)
-    counted = subst (λ (o : Outcome (List ObjectFunction)). Adds_up (0 ∷ [], []) (moments_of stmts) o) e (adds_up (run_path stmts))
+    counted : AddsUp (0 ∷ [], []) (moments_of stmts) (ok fs t)
+    counted = subst (λ (o : Outcome (List ObjectFunction)). AddsUp (0 ∷ [], []) (moments_of stmts) o) e (adds_up (run_path stmts))
 
-    code : Its_code (ok fs t)
-    code = subst Its_code (peak_fits stmts (peak (moments_of stmts)) (omega arith) ∙ e) (its_code (peak (moments_of stmts)) stmts)
+    code : ItsCode (ok fs t)
+    code = subst ItsCode (peak_fits stmts (peak (moments_of stmts)) (omega arith) ∙ e) (its_code (peak (moments_of stmts)) stmts)

@@ -21,7 +21,7 @@ use Rattle.rules.specs.Compiler.{Compiler, CompilerCtx, Compile, Outcome, ok, er
 use Rattle.rules.specs.Compiler.{with_ctx, with_chunk}
 use Rattle.rules.proofs.Slips.{near_ahead, too_far_ahead, near_back, too_far_back, with_operand, too_many_params, enough_params, too_many_locals, enough_locals, already_declared}
 use Rattle.rules_laws.proofs.Facts.{with_ops, write_all, loop_bytes}
-use Rattle.rules_laws.proofs.Refusals.{Refused_by}
+use Rattle.rules_laws.proofs.Refusals.{RefusedBy}
 use Rattle.rules_laws.proofs.Sizes.{emitted, byte_fits}
 use Rattle.rules_laws.proofs.Spends as spends
 use Rattle.rules_laws.proofs.Spends.{Spends, Ends}
@@ -42,17 +42,17 @@ module _ (x : Refusal) where
   abbrev Never : {A : Type 0} → Compile A → Type 0
   Never m = Spends Nothing Other 0 tt tt 0 m
 
-  never : {A : Type 0} {m : Compile A} → ((s : Compiler) → Refused_by x (m s) → ⊥) → Never m
+  never : {A : Type 0} {m : Compile A} → ((s : Compiler) → RefusedBy x (m s) → ⊥) → Never m
   never {A} {m = m} h = spends.free Nothing Other 0 silent (λ s k j. by_outcome k (m s) (h s))
     where
-      by_outcome : (k : ℕ) (o : Outcome A) → (Refused_by x o → ⊥) → Ends Nothing Other 0 tt k o
+      by_outcome : (k : ℕ) (o : Outcome A) → (RefusedBy x o → ⊥) → Ends Nothing Other 0 tt k o
       by_outcome k (ok a t) h = tt
       by_outcome k (err y) h = h
 
-  says : {A : Type 0} {m : Compile A} → Never m → (s : Compiler) → Refused_by x (m s) → ⊥
+  says : {A : Type 0} {m : Compile A} → Never m → (s : Compiler) → RefusedBy x (m s) → ⊥
   says {A} {m = m} h s e = by_outcome (m s) (h.run s 0 (omega arith) tt) e
     where
-      by_outcome : (o : Outcome A) → Ends Nothing Other 0 tt 0 o → Refused_by x o → ⊥
+      by_outcome : (o : Outcome A) → Ends Nothing Other 0 tt 0 o → RefusedBy x o → ⊥
       by_outcome (ok a t) h e = e
       by_outcome (err y) h e = h e
 
@@ -140,12 +140,12 @@ ahead s at = length s.ctx.chunk.ops - 2 - at
 
 module _ (at : ℕ) (span : Span) (s : Compiler) where
   -- exactly when the way from behind the operand to the end of the code is above 65,535
-  pub jump_too_large_exactly : Refused_by (JumpTooLarge span) (c.patch_jump at span s) ↔ (65_535 < ahead s at)
+  pub jump_too_large_exactly : RefusedBy (JumpTooLarge span) (c.patch_jump at span s) ↔ (65_535 < ahead s at)
   jump_too_large_exactly =
-      (λ e. by_test (leb (ahead s at) 65_535) refl e, λ l. subst⁻¹ (Refused_by (JumpTooLarge span)) (too_far_ahead at span s l) refl)
+      (λ e. by_test (leb (ahead s at) 65_535) refl e, λ l. subst⁻¹ (RefusedBy (JumpTooLarge span)) (too_far_ahead at span s l) refl)
     where
-      by_test : (b : Bool) → leb (ahead s at) 65_535 ≡ b → Refused_by (JumpTooLarge span) (c.patch_jump at span s) → 65_535 < ahead s at
-      by_test true t e = absurd (subst (Refused_by (JumpTooLarge span)) (near_ahead at span s (leb→le (ahead s at) 65_535 (rw t tt))) e)
+      by_test : (b : Bool) → leb (ahead s at) 65_535 ≡ b → RefusedBy (JumpTooLarge span) (c.patch_jump at span s) → 65_535 < ahead s at
+      by_test true t e = absurd (subst (RefusedBy (JumpTooLarge span)) (near_ahead at span s (leb→le (ahead s at) 65_535 (rw t tt))) e)
       by_test false t e = nleb→lt (ahead s at) 65_535 (rw t tt)
 
   -- the longest: both of its bytes are 255
@@ -165,20 +165,20 @@ back s start = length s.ctx.chunk.ops + 3 - start
 
 module _ (limit start : ℕ) (span : Span) (s : Compiler) where
   -- exactly when the way from behind the LOOP to the loop's start is above 65,535, under every code limit
-  pub loop_too_large_exactly : Refused_by (JumpTooLarge span) (c.emit_loop limit start span s) ↔ (65_535 < back s start)
+  pub loop_too_large_exactly : RefusedBy (JumpTooLarge span) (c.emit_loop limit start span s) ↔ (65_535 < back s start)
   loop_too_large_exactly =
-      (λ e. by_test (leb (back s start) 65_535) refl e, λ l. subst⁻¹ (Refused_by (JumpTooLarge span)) (too_far_back limit start span s l) refl)
+      (λ e. by_test (leb (back s start) 65_535) refl e, λ l. subst⁻¹ (RefusedBy (JumpTooLarge span)) (too_far_back limit start span s l) refl)
     where
       writes : (byte : ℕ) → Never (JumpTooLarge span) (c.emit_u8 limit byte span)
       writes byte =
           emit_u8 (JumpTooLarge span) (λ e. let z : ◌≡◌ {A = ℕ} 0 1 = cc in omega arith) (λ _ e. let z : ◌≡◌ {A = ℕ} 0 1 = cc in omega arith) limit byte
           span
 
-      by_test : (b : Bool) → leb (back s start) 65_535 ≡ b → Refused_by (JumpTooLarge span) (c.emit_loop limit start span s) → 65_535 < back s start
+      by_test : (b : Bool) → leb (back s start) 65_535 ≡ b → RefusedBy (JumpTooLarge span) (c.emit_loop limit start span s) → 65_535 < back s start
       by_test true t e =
           absurd (says (JumpTooLarge span) (◌⟫◌ (JumpTooLarge span) (writes op.LOOP)
           (◌⟫◌ (JumpTooLarge span) (writes (back s start % 256)) (writes (back s start / 256)))) s
-          (subst (Refused_by (JumpTooLarge span)) (near_back limit start span s (leb→le (back s start) 65_535 (rw t tt))) e))
+          (subst (RefusedBy (JumpTooLarge span)) (near_back limit start span s (leb→le (back s start) 65_535 (rw t tt))) e))
       by_test false t e = nleb→lt (back s start) 65_535 (rw t tt)
 
   -- and up to there it writes LOOP and how far, where the code limit has room for three bytes
@@ -207,11 +207,11 @@ module _ (limit start : ℕ) (span : Span) (s : Compiler) where
 
 -- exactly when there are more than 255, where the body does not refuse so itself, by a function in it
 pub too_many_params_exactly : (limit : ℕ) (type : FunctionType) (name : ℕ) (params : List ℕ) (body : Compile Unit) (span : Span) →
-    ((s : Compiler) → Refused_by (TooManyParams span) (body s) → ⊥) → (s : Compiler) →
-    Refused_by (TooManyParams span) (c.compile_function_with limit type name params body span s) ↔ (255 < length params)
+    ((s : Compiler) → RefusedBy (TooManyParams span) (body s) → ⊥) → (s : Compiler) →
+    RefusedBy (TooManyParams span) (c.compile_function_with limit type name params body span s) ↔ (255 < length params)
 unfolding c.begin_ctx
 too_many_params_exactly limit type name params body span own s =
-    (λ e. by_test (leb (length params) 255) refl e, λ l. subst⁻¹ (Refused_by x) (too_many_params limit type name params body span s (omega arith)) refl)
+    (λ e. by_test (leb (length params) 255) refl e, λ l. subst⁻¹ (RefusedBy x) (too_many_params limit type name params body span s (omega arith)) refl)
   where
     x : Refusal
     x = TooManyParams span
@@ -231,40 +231,40 @@ too_many_params_exactly limit type name params body span own s =
     locals : (span : Span) → TooManyLocals span ≡ x → ⊥
     locals span e = let z : ◌≡◌ {A = ℕ} 0 1 = cc in omega arith
 
-    begun : (depth : ℕ) (s : Compiler) → Refused_by x (c.begin_ctx (c.new_ctx name (length params) type (depth + 1)) s) → ⊥
+    begun : (depth : ℕ) (s : Compiler) → RefusedBy x (c.begin_ctx (c.new_ctx name (length params) type (depth + 1)) s) → ⊥
     begun depth s e = e
 
     -- every other part of a function refuses otherwise
-    by_test : (b : Bool) → leb (length params) 255 ≡ b → Refused_by x (c.compile_function_with limit type name params body span s) → 255 < length params
+    by_test : (b : Bool) → leb (length params) 255 ≡ b → RefusedBy x (c.compile_function_with limit type name params body span s) → 255 < length params
     by_test true t e =
         absurd (says x (bind x (the x _) (λ depth. ◌⟫◌ x (never x (begun depth))
         (◌⟫◌ x (declare_local x again locals _ span)
         (◌⟫◌ x (define_local x again locals)
         (◌⟫◌ x (declare_params x again locals params span)
         (◌⟫◌ x (never x own) (◌⟫◌ x (implicit_return x full constants limit outside) (end_function x full constants limit span)))))))) s
-        (subst (Refused_by x) (enough_params limit type name params body span s (leb→le (length params) 255 (rw t tt))) e))
+        (subst (RefusedBy x) (enough_params limit type name params body span s (leb→le (length params) 255 (rw t tt))) e))
     by_test false t e = nleb→lt (length params) 255 (rw t tt)
 
 -- ## 16 TooManyLocals
 
 module _ (name : ℕ) (span : Span) (s : Compiler) where
   -- exactly when 256 stand already and the scope has none of that name; the 256th is declared: Slips `enough_locals`
-  pub too_many_locals_exactly : Refused_by (TooManyLocals span) (c.declare_local name span s) ↔
+  pub too_many_locals_exactly : RefusedBy (TooManyLocals span) (c.declare_local name span s) ↔
       ((declared_here s.ctx.scope_depth name s.ctx.locals ≡ false) × (256 ≤ length s.ctx.locals))
   too_many_locals_exactly = (
     λ e. by_name (declared_here s.ctx.scope_depth name s.ctx.locals) refl e,
-    λ p. subst⁻¹ (Refused_by (TooManyLocals span)) (too_many_locals name span s p.0 p.1) refl,
+    λ p. subst⁻¹ (RefusedBy (TooManyLocals span)) (too_many_locals name span s p.0 p.1) refl,
   )
     where
       by_count : declared_here s.ctx.scope_depth name s.ctx.locals ≡ false → (b : Bool) → ltb (length s.ctx.locals) 256 ≡ b →
-          Refused_by (TooManyLocals span) (c.declare_local name span s) → 256 ≤ length s.ctx.locals
+          RefusedBy (TooManyLocals span) (c.declare_local name span s) → 256 ≤ length s.ctx.locals
       by_count d true t e =
-          absurd (subst (Refused_by (TooManyLocals span)) (enough_locals name span s d (ltb→lt (length s.ctx.locals) 256 (rw t tt))) e)
+          absurd (subst (RefusedBy (TooManyLocals span)) (enough_locals name span s d (ltb→lt (length s.ctx.locals) 256 (rw t tt))) e)
       by_count d false t e = nltb→le (length s.ctx.locals) 256 (rw t tt)
 
-      by_name : (b : Bool) → declared_here s.ctx.scope_depth name s.ctx.locals ≡ b → Refused_by (TooManyLocals span) (c.declare_local name span s) →
+      by_name : (b : Bool) → declared_here s.ctx.scope_depth name s.ctx.locals ≡ b → RefusedBy (TooManyLocals span) (c.declare_local name span s) →
           (declared_here s.ctx.scope_depth name s.ctx.locals ≡ false) × (256 ≤ length s.ctx.locals)
       by_name true d e =
-          let r : AlreadyDefined span name ≡ TooManyLocals span = subst (Refused_by (TooManyLocals span)) (already_declared name span s d) e in
+          let r : AlreadyDefined span name ≡ TooManyLocals span = subst (RefusedBy (TooManyLocals span)) (already_declared name span s d) e in
           let z : ◌≡◌ {A = ℕ} 0 1 = cc in absurd (omega arith)
       by_name false d e = (d, by_count d (ltb (length s.ctx.locals) 256) refl e)

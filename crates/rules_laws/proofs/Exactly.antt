@@ -26,7 +26,7 @@ use Rattle.rules.specs.Entry.{Lent, code_limit, Compiled, functions_are, refused
 use Rattle.rules.proofs.Slips.{refused_first}
 use Rattle.rules_laws.proofs.Facts.{Bytes}
 use Rattle.rules_laws.proofs.Checks.{image_for, room}
-use Rattle.rules_laws.proofs.Refusals.{Readers, Rusts, Compiled_by, a_rule, the_limit, compiled_by, Refused_by, number_of, readers_number, rusts_number, refusal_outside}
+use Rattle.rules_laws.proofs.Refusals.{Readers, Rusts, CompiledBy, a_rule, the_limit, compiled_by, RefusedBy, number_of, readers_number, rusts_number, refusal_outside}
 use Rattle.rules_laws.proofs.TreeBytes.{Fitting, tree_fits, tree_refuses}
 use Rattle.rules_laws.proofs.Widths.{refuses}
 use Rattle.rules_laws.proofs.Peak.{moments_of, Full, peak_full}
@@ -45,15 +45,15 @@ module _ (limits : Limits) (tree : List ℕ) (lent : Lent) where
     pub short : length tree ≤ max_tree
 
   -- nor 3, 4, 5
-  pub record Was_read (stmts : Stmts) : Type 0 where
+  pub record WasRead (stmts : Stmts) : Type 0 where
     pub started : Started
     pub next : ℕ
     pub read : reading ≡ got stmts next
 
   -- nor 10 to 30
-  pub record Was_compiled (fs : List ObjectFunction) : Type 0 where
+  pub record WasCompiled (fs : List ObjectFunction) : Type 0 where
     pub stmts : Stmts
-    pub was_read : Was_read stmts
+    pub was_read : WasRead stmts
     pub state : Compiler
     pub compiled : compiling stmts ≡ ok fs state
 
@@ -61,11 +61,11 @@ module _ (limits : Limits) (tree : List ℕ) (lent : Lent) where
     work_short : 8 * lent.table_words < limits.table_bytes → Way (refusal WorkShort)
     too_long : limits.table_bytes ≤ 8 * lent.table_words → max_tree < length tree → Way (refusal TreeTooLong)
     not_read : (r : Refusal) → Readers r → Started → reading ≡ bad r → Way (refusal r)
-    against_a_rule : (x : Stopped) → Rusts x.what → (stmts : Stmts) → Was_read stmts → compiling stmts ≡ err x → Way (refusal_in x)
-    code_full : (x : Stopped) → x.what ≡ CodeFull → (stmts : Stmts) → Was_read stmts → compiling stmts ≡ err x → Way (refusal_in x)
-    out_full : (fs : List ObjectFunction) → Was_compiled fs → lent.output_bytes < length (image_for lent fs) →
+    against_a_rule : (x : Stopped) → Rusts x.what → (stmts : Stmts) → WasRead stmts → compiling stmts ≡ err x → Way (refusal_in x)
+    code_full : (x : Stopped) → x.what ≡ CodeFull → (stmts : Stmts) → WasRead stmts → compiling stmts ≡ err x → Way (refusal_in x)
+    out_full : (fs : List ObjectFunction) → WasCompiled fs → lent.output_bytes < length (image_for lent fs) →
         Way (refusal (OutFull (length (image_for lent fs))))
-    all_fits : (fs : List ObjectFunction) → Was_compiled fs → length (image_for lent fs) ≤ lent.output_bytes →
+    all_fits : (fs : List ObjectFunction) → WasCompiled fs → length (image_for lent fs) ≤ lent.output_bytes →
         Way (accepted (length (image_for lent fs)))
 
   -- every answer comes about in one of these ways
@@ -73,19 +73,19 @@ module _ (limits : Limits) (tree : List ℕ) (lent : Lent) where
   unfolding compile_within compile_lent compile_tree entry.write_out entry.write_image entry.leaves entry.from_read entry.from_outcome refusal refusal_in
   way bytes = by_table (leb limits.table_bytes (8 * lent.table_words)) refl
     where
-      by_output : (fs : List ObjectFunction) → Was_compiled fs → (b : Bool) → leb (length (image_for lent fs)) lent.output_bytes ≡ b →
+      by_output : (fs : List ObjectFunction) → WasCompiled fs → (b : Bool) → leb (length (image_for lent fs)) lent.output_bytes ≡ b →
           Way (room lent (image_for lent fs) b).answer
       by_output fs w true e = all_fits fs w (leb→le (length (image_for lent fs)) lent.output_bytes (rw e tt))
       by_output fs w false e = out_full fs w (nleb→lt (length (image_for lent fs)) lent.output_bytes (rw e tt))
 
-      by_refusal : (x : Stopped) {r : Refusal} → x.what ≡ r → Compiled_by r → (stmts : Stmts) → Was_read stmts → compiling stmts ≡ err x → Way (refusal_in x)
+      by_refusal : (x : Stopped) {r : Refusal} → x.what ≡ r → CompiledBy r → (stmts : Stmts) → WasRead stmts → compiling stmts ≡ err x → Way (refusal_in x)
       by_refusal x d (a_rule h) stmts w e = against_a_rule x (subst⁻¹ Rusts d h) stmts w e
       by_refusal x d the_limit stmts w e = code_full x d stmts w e
 
-      fits : (stmts : Stmts) (w : Was_read stmts) → Fitting tree limits.funs stmts
+      fits : (stmts : Stmts) (w : WasRead stmts) → Fitting tree limits.funs stmts
       fits stmts w = tree_fits tree bytes limits.depth limits.funs stmts w.next w.read
 
-      by_outcome : (stmts : Stmts) → Was_read stmts → (o : Outcome (List ObjectFunction)) → compiling stmts ≡ o →
+      by_outcome : (stmts : Stmts) → WasRead stmts → (o : Outcome (List ObjectFunction)) → compiling stmts ≡ o →
           Way (entry.write_out lent (entry.from_outcome o)).answer
       by_outcome stmts w (ok fs s) e =
           by_output fs (record { stmts = stmts; was_read = w; state = s; compiled = e }) (leb (length (image_for lent fs)) lent.output_bytes) refl
@@ -128,11 +128,11 @@ module _ (limits : Limits) (tree : List ℕ) (lent : Lent) where
   unfolding compile_lent compile_tree
   started_compiles st = rw (leb-true limits.table_bytes (8 * lent.table_words) st.table, leb-true (length tree) max_tree st.short)
 
-  read_compiles : (stmts : Stmts) → Was_read stmts → compile_lent limits tree lent ≡ entry.from_outcome (compiling stmts)
+  read_compiles : (stmts : Stmts) → WasRead stmts → compile_lent limits tree lent ≡ entry.from_outcome (compiling stmts)
   unfolding entry.from_read
   read_compiles stmts w = started_compiles w.started ∙ ap (λ (r : Read Stmts). entry.from_read r (code_limit lent)) w.read
 
-  pub compiled_functions : (fs : List ObjectFunction) → Was_compiled fs → compile_lent limits tree lent ≡ functions_are fs
+  pub compiled_functions : (fs : List ObjectFunction) → WasCompiled fs → compile_lent limits tree lent ≡ functions_are fs
   unfolding entry.from_outcome
   compiled_functions fs w = read_compiles w.stmts w.was_read ∙ ap entry.from_outcome w.compiled
 
@@ -178,17 +178,17 @@ module _ (limits : Limits) (tree : List ℕ) (lent : Lent) where
   long_tree_only (out_full fs w l) e = absurd (omega arith)
   long_tree_only (all_fits fs w l) e = absurd (omega arith)
 
-  full_only_then : {a : Answer} → Way a → a.number ≡ 30 → (stmts : Stmts) × Was_read stmts × Refused_by CodeFull (compiling stmts)
+  full_only_then : {a : Answer} → Way a → a.number ≡ 30 → (stmts : Stmts) × WasRead stmts × RefusedBy CodeFull (compiling stmts)
   unfolding refusal refusal_in
   full_only_then (work_short l) e = absurd (omega arith)
   full_only_then (too_long t l) e = absurd (omega arith)
   full_only_then (not_read r h st d) e = absurd (omega (arith, readers_number r h))
   full_only_then (against_a_rule x h stmts w d) e = absurd (omega (arith, rusts_number x.what h))
-  full_only_then (code_full x h stmts w d) e = (stmts, w, subst⁻¹ (Refused_by CodeFull) d h)
+  full_only_then (code_full x h stmts w d) e = (stmts, w, subst⁻¹ (RefusedBy CodeFull) d h)
   full_only_then (out_full fs w l) e = absurd (omega arith)
   full_only_then (all_fits fs w l) e = absurd (omega arith)
 
-  long_only : {a : Answer} → Way a → a.number ≡ 31 → (fs : List ObjectFunction) × Was_compiled fs × (lent.output_bytes < length (image_for lent fs))
+  long_only : {a : Answer} → Way a → a.number ≡ 31 → (fs : List ObjectFunction) × WasCompiled fs × (lent.output_bytes < length (image_for lent fs))
   unfolding refusal refusal_in
   long_only (work_short l) e = absurd (omega arith)
   long_only (too_long t l) e = absurd (omega arith)
@@ -198,7 +198,7 @@ module _ (limits : Limits) (tree : List ℕ) (lent : Lent) where
   long_only (out_full fs w l) e = (fs, w, l)
   long_only (all_fits fs w l) e = absurd (omega arith)
 
-  fits_only : {a : Answer} → Way a → a.number ≡ 0 → (fs : List ObjectFunction) × Was_compiled fs × (length (image_for lent fs) ≤ lent.output_bytes)
+  fits_only : {a : Answer} → Way a → a.number ≡ 0 → (fs : List ObjectFunction) × WasCompiled fs × (length (image_for lent fs) ≤ lent.output_bytes)
   unfolding refusal refusal_in
   fits_only (work_short l) e = absurd (omega arith)
   fits_only (too_long t l) e = absurd (omega arith)
@@ -219,7 +219,7 @@ module _ (limits : Limits) (tree : List ℕ) (lent : Lent) where
   unread_only (all_fits fs w l) b e = absurd (omega arith)
 
   rule_only : {a : Answer} → Way a → 10 ≤ a.number → a.number ≤ 23 →
-      (x : Stopped) × Rusts x.what × (stmts : Stmts) × Was_read stmts × (compiling stmts ≡ err x)
+      (x : Stopped) × Rusts x.what × (stmts : Stmts) × WasRead stmts × (compiling stmts ≡ err x)
   unfolding refusal refusal_in
   rule_only (work_short l) b e = absurd (omega arith)
   rule_only (too_long t l) b e = absurd (omega arith)
@@ -260,55 +260,55 @@ module _ (limits : Limits) (tree : List ℕ) (bytes : Bytes tree) (lent : Lent) 
 
   -- 10 to 23: what the Rust's own rules say
   pub against_a_rule_only : 10 ≤ answered.number → answered.number ≤ 23 →
-      (x : Stopped) × Rusts x.what × (stmts : Stmts) × Was_read limits tree lent stmts × (compiling limits tree lent stmts ≡ err x)
+      (x : Stopped) × Rusts x.what × (stmts : Stmts) × WasRead limits tree lent stmts × (compiling limits tree lent stmts ≡ err x)
   against_a_rule_only b e = rule_only limits tree lent (way limits tree lent bytes) b e
 
-  pub against_a_rule_then : (x : Stopped) → Rusts x.what → (stmts : Stmts) → Was_read limits tree lent stmts →
+  pub against_a_rule_then : (x : Stopped) → Rusts x.what → (stmts : Stmts) → WasRead limits tree lent stmts →
       compiling limits tree lent stmts ≡ err x → answered ≡ refusal_in x
   against_a_rule_then x h stmts w e = leads limits tree lent (against_a_rule x h stmts w e)
 
   -- 30, in the function whose byte is the first to pass the limit
-  pub code_full_then : (stmts : Stmts) → Was_read limits tree lent stmts →
+  pub code_full_then : (stmts : Stmts) → WasRead limits tree lent stmts →
       (f : Full (code_limit lent) (moments_of stmts) (compiling limits tree lent stmts)) → answered ≡ refusal_in (c.stopped CodeFull f.moment)
   code_full_then stmts w f = leads limits tree lent (code_full (c.stopped CodeFull f.moment) refl stmts w f.is)
 
   -- 30 CodeFull: a byte would take the open functions' code, summed, past the code limit: that is below the peak of these sums
   pub code_full_exactly :
-      (answered.number ≡ 30) ↔ ((stmts : Stmts) × Was_read limits tree lent stmts × (code_limit lent < code_needed stmts))
+      (answered.number ≡ 30) ↔ ((stmts : Stmts) × WasRead limits tree lent stmts × (code_limit lent < code_needed stmts))
   unfolding refusal refusal_in
   code_full_exactly = (only, λ p. ap (λ (a : Answer). a.number) (code_full_then p.0 p.1 (peak_full p.0 (code_limit lent) p.2)))
     where
-      only : answered.number ≡ 30 → (stmts : Stmts) × Was_read limits tree lent stmts × (code_limit lent < code_needed stmts)
+      only : answered.number ≡ 30 → (stmts : Stmts) × WasRead limits tree lent stmts × (code_limit lent < code_needed stmts)
       only e =
           let (stmts, w, d) = full_only_then limits tree lent (way limits tree lent bytes) e in (stmts, w, (full_exactly stmts (code_limit lent)).0 d)
 
   -- 31 OutFull: all else accepted, image longer than the output; carries the length needed
   pub out_full_only : answered.number ≡ 31 →
-      (fs : List ObjectFunction) × Was_compiled limits tree lent fs × (lent.output_bytes < length (image_for lent fs))
+      (fs : List ObjectFunction) × WasCompiled limits tree lent fs × (lent.output_bytes < length (image_for lent fs))
   out_full_only e = long_only limits tree lent (way limits tree lent bytes) e
 
-  pub out_full_then : (fs : List ObjectFunction) → Was_compiled limits tree lent fs → lent.output_bytes < length (image_for lent fs) →
+  pub out_full_then : (fs : List ObjectFunction) → WasCompiled limits tree lent fs → lent.output_bytes < length (image_for lent fs) →
       answered ≡ with_length 31 (length (image_for lent fs))
   unfolding refusal
   out_full_then fs w l = leads limits tree lent (out_full fs w l)
 
   -- 0: accepted; carries the length of the image
   pub accepted_only : answered.number ≡ 0 →
-      (fs : List ObjectFunction) × Was_compiled limits tree lent fs × (length (image_for lent fs) ≤ lent.output_bytes)
+      (fs : List ObjectFunction) × WasCompiled limits tree lent fs × (length (image_for lent fs) ≤ lent.output_bytes)
   accepted_only e = fits_only limits tree lent (way limits tree lent bytes) e
 
-  pub accepted_then : (fs : List ObjectFunction) → Was_compiled limits tree lent fs → length (image_for lent fs) ≤ lent.output_bytes →
+  pub accepted_then : (fs : List ObjectFunction) → WasCompiled limits tree lent fs → length (image_for lent fs) ≤ lent.output_bytes →
       answered ≡ accepted (length (image_for lent fs))
   accepted_then fs w l = leads limits tree lent (all_fits fs w l)
 
   -- the least rooms: the table's published need, the code limit that the tree needs, the image's length
-  pub record Room_enough : Type 0 where
+  pub record RoomEnough : Type 0 where
     pub table : limits.table_bytes ≤ 8 * lent.table_words
-    pub code : (stmts : Stmts) → Was_read limits tree lent stmts → code_needed stmts ≤ code_limit lent
-    pub output : (fs : List ObjectFunction) → Was_compiled limits tree lent fs → length (image_for lent fs) ≤ lent.output_bytes
+    pub code : (stmts : Stmts) → WasRead limits tree lent stmts → code_needed stmts ≤ code_limit lent
+    pub output : (fs : List ObjectFunction) → WasCompiled limits tree lent fs → length (image_for lent fs) ≤ lent.output_bytes
 
   -- "Room enough means none of 1, 30, 31"
-  pub room_enough_exactly : ((answered.number ≢ 1) × (answered.number ≢ 30) × (answered.number ≢ 31)) ↔ Room_enough
+  pub room_enough_exactly : ((answered.number ≢ 1) × (answered.number ≢ 30) × (answered.number ≢ 31)) ↔ RoomEnough
   unfolding refusal
   room_enough_exactly = (
     λ n. record {

@@ -106,9 +106,9 @@ abbrev pub write_all : Chunk → List ℕ → Span → Chunk
 write_all ch [] span = ch
 write_all ch (b ∷ bs) span = write_all (write_u8 ch b span) bs span
 
-pub data Is_value : Constant → Type 0 where
-  a_number : {bits : ℕ} → Is_value (CN bits)
-  a_string : {name : ℕ} → Is_value (CS name)
+pub data IsValue : Constant → Type 0 where
+  a_number : {bits : ℕ} → IsValue (CN bits)
+  a_string : {name : ℕ} → IsValue (CS name)
 
 -- the constants as they were, or one more, which is equal to none of them
 pub data Grown (Q : Constant → Type 0) (cs : List Constant) : List Constant → Type 0 where
@@ -129,7 +129,7 @@ pub data Form (fs : List ObjectFunction) (cs : List Constant) (n : ℕ) : Operan
   plain : Form fs cs n Plain []
   byte : {b : ℕ} → b < 256 → Form fs cs n Byte (b ∷ [])
   captured_at : {i : ℕ} → i < n → i < 256 → Form fs cs n Captured (i ∷ [])
-  value_at : {place : ℕ} {v : Constant} → get_elem? cs place ≡ some v → Is_value v → Form fs cs n Value (place ∷ [])
+  value_at : {place : ℕ} {v : Constant} → get_elem? cs place ≡ some v → IsValue v → Form fs cs n Value (place ∷ [])
   text_at : {place name : ℕ} → get_elem? cs place ≡ some (CS name) → Form fs cs n Text (place ∷ [])
   invoke : {place name count : ℕ} → get_elem? cs place ≡ some (CS name) → count < 256 → Form fs cs n Invoke (place ∷ count ∷ [])
   ahead : {a b : ℕ} → Form fs cs n Ahead (a ∷ b ∷ [])
@@ -149,17 +149,17 @@ pub data Still : Operands → Type 0 where
 -- ## Captured variables, and the pairs of a closure
 
 -- what a function may capture where the one around it has captured `n` variables
-abbrev pub Within_if : ℕ → Bool → ℕ → Type 0
-Within_if n true idx = Unit {0}
-Within_if n false idx = idx < n
+abbrev pub WithinIf : ℕ → Bool → ℕ → Type 0
+WithinIf n true idx = Unit {0}
+WithinIf n false idx = idx < n
 
 abbrev pub Within : ℕ → Upvalue → Type 0
-Within n u = Within_if n u.is_local u.idx
+Within n u = WithinIf n u.is_local u.idx
 
 pub within_more : (m n : ℕ) → m ≤ n → (u : Upvalue) → Within m u → Within n u
 within_more m n l u h = by_local u.is_local h
   where
-    by_local : (b : Bool) → Within_if m b u.idx → Within_if n b u.idx
+    by_local : (b : Bool) → WithinIf m b u.idx → WithinIf n b u.idx
     by_local true h = tt
     by_local false h = omega arith
 
@@ -176,7 +176,7 @@ unfolding pairs_fit
 pairs_within n [] h = tt
 pairs_within n (u ∷ us) h = by_local u.is_local h.0 (pairs_within n us h.1)
   where
-    by_local : (b : Bool) → Within_if n b u.idx → T (pairs_fit n (pairs us)) → T (pairs_fit n ((if b then 1 else 0) ∷ u.idx ∷ pairs us))
+    by_local : (b : Bool) → WithinIf n b u.idx → T (pairs_fit n (pairs us)) → T (pairs_fit n ((if b then 1 else 0) ∷ u.idx ∷ pairs us))
     by_local true w t = t
     by_local false w t = both (ltb u.idx n) (pairs_fit n (pairs us)) (lt→ltb u.idx n w) t
 
@@ -185,10 +185,10 @@ abbrev pub Bytes : List ℕ → Type 0
 Bytes bs = All (λ (b : ℕ). b < 256) bs
 
 -- 0 stands past the end
-pub getD_small : (bs : List ℕ) (at : ℕ) → Bytes bs → get_or bs at 0 < 256
-getD_small [] at h = omega arith
-getD_small (b ∷ bs) zero h = h.0
-getD_small (b ∷ bs) (suc at) h = getD_small bs at h.1
+pub get_or_small : (bs : List ℕ) (at : ℕ) → Bytes bs → get_or bs at 0 < 256
+get_or_small [] at h = omega arith
+get_or_small (b ∷ bs) zero h = h.0
+get_or_small (b ∷ bs) (suc at) h = get_or_small bs at h.1
 
 pub pairs_bytes : (us : List Upvalue) → All (λ (u : Upvalue). u.idx < 256) us → Bytes (pairs us)
 pairs_bytes [] h = tt
@@ -254,7 +254,7 @@ pub record ChunkLaws (limit : ℕ) (K : Type 0) (P : K → Fact) (start : K) (wa
   -- a whole instruction that neither jumps nor makes a closure, with the constant that it may have added
   pub writes : (kind : Operands) → Still kind →
       (k : K) (opened fs : List ObjectFunction) (n : ℕ) (ch : Chunk) (cs : List Constant) (b : ℕ) (bs : List ℕ) (span : Span) →
-      operands_of b ≡ some kind → Grown Is_value ch.constants cs → Form fs cs n kind bs → length (write_all (with_constants ch cs) (b ∷ bs) span).ops ≤ limit →
+      operands_of b ≡ some kind → Grown IsValue ch.constants cs → Form fs cs n kind bs → length (write_all (with_constants ch cs) (b ∷ bs) span).ops ≤ limit →
       P k opened fs n ch → P k opened fs n (write_all (with_constants ch cs) (b ∷ bs) span)
   -- `f` was opened when `fs` were finished, and is finished now, after `gs`: the function around it makes a closure of it
   pub closes : (k : K) (opened fs gs : List ObjectFunction) (f : ObjectFunction) (n : ℕ) (ch : Chunk) (place : ℕ) (cs : List Constant) (ps : List ℕ) (span : Span) →

@@ -29,10 +29,10 @@ module _ (total : CompilerCtx → List CompilerCtx → ℕ) (cost : ℕ) where
     pub levels : length parents' ≡ length parents
     pub holds : total ctx' parents' ≤ total ctx parents + cost
 
-  abbrev pub Grown_if : CompilerCtx → List CompilerCtx → Resolved → Type 0
-  Grown_if ctx parents (captured idx ctx' parents') = Grown ctx parents ctx' parents'
-  Grown_if ctx parents nowhere = Unit {0}
-  Grown_if ctx parents (failed r) = Rusts r
+  abbrev pub GrownIf : CompilerCtx → List CompilerCtx → Resolved → Type 0
+  GrownIf ctx parents (captured idx ctx' parents') = Grown ctx parents ctx' parents'
+  GrownIf ctx parents nowhere = Unit {0}
+  GrownIf ctx parents (failed r) = Rusts r
 
   -- a local raises it by `one`, a name that is looked up by `cost`, and nothing else but what is written
   pub record Holds (one most : ℕ) : Type 0 where
@@ -44,7 +44,7 @@ module _ (total : CompilerCtx → List CompilerCtx → ℕ) (cost : ℕ) where
     pub fresh : (x : CompilerCtx) (ps : List CompilerCtx) (name arity depth : ℕ) (type : FunctionType) →
         total (c.new_ctx name arity type depth) (x ∷ ps) ≤ total x ps
     pub resolves : (name : ℕ) (span : Span) (ctx : CompilerCtx) (parents : List CompilerCtx) → length parents ≤ most →
-        Grown_if ctx parents (c.resolve_upvalue name span ctx parents)
+        GrownIf ctx parents (c.resolve_upvalue name span ctx parents)
 
 -- ## A sum over the open functions
 
@@ -72,26 +72,26 @@ module _ (held : CompilerCtx → ℕ) (pair : ℕ) where
     pub patches : (x : CompilerCtx) (at n : ℕ) → held (c.with_chunk x (with_ops x.chunk (c.set_u16 x.chunk.ops at n))) ≤ held x
     pub fresh : (name arity depth : ℕ) (type : FunctionType) → held (c.new_ctx name arity type depth) ≡ 0
 
-  abbrev Raised_if : CompilerCtx → List CompilerCtx → Resolved → Type 0
-  Raised_if ctx parents r = Grown_if (summed held) (times pair (length parents)) ctx parents r
+  abbrev RaisedIf : CompilerCtx → List CompilerCtx → Resolved → Type 0
+  RaisedIf ctx parents r = GrownIf (summed held) (times pair (length parents)) ctx parents r
 
   module _ (one : ℕ) (measure : Measure one) where
     added : (p : Option ℕ) (u : Upvalue) (span : Span) (ctx parent : CompilerCtx) (above : List CompilerCtx) (parents : List CompilerCtx) →
         length parents ≡ suc (length above) → sum_of held parents ≤ held parent + sum_of held above + times pair (length above) →
-        Raised_if ctx (parent ∷ above) (c.added p u span ctx parents)
+        RaisedIf ctx (parent ∷ above) (c.added p u span ctx parents)
     unfolding c.added
     added (some place) u span ctx parent above parents e l = record { levels = e; holds = omega arith }
     added none u span ctx parent above parents e l = by_room (ltb (length ctx.upvalues) 256) refl
       where
         by_room : (b : Bool) → ltb (length ctx.upvalues) 256 ≡ b →
-            Raised_if ctx (parent ∷ above)
+            RaisedIf ctx (parent ∷ above)
             (if b then captured (length ctx.upvalues) (c.with_upvalues ctx (ctx.upvalues ++ (u ∷ []))) parents else failed
             (TooManyUpvalues span))
         by_room true t = record { levels = e; holds = omega (arith, measure.captures ctx u (ltb→lt (length ctx.upvalues) 256 (rw t tt))) }
         by_room false t = tt
 
     through : (f : Found) (outer : Resolved) (name : ℕ) (span : Span) (ctx parent : CompilerCtx) (above : List CompilerCtx) →
-        Raised_if parent above outer → Raised_if ctx (parent ∷ above) (c.through f outer name span ctx parent above)
+        RaisedIf parent above outer → RaisedIf ctx (parent ∷ above) (c.through f outer name span ctx parent above)
     unfolding c.through c.further_out c.add_upvalue
     through (at_slot slot) outer name span ctx parent above o =
         added _ (record { idx = slot; is_local = true }) span ctx parent above (c.with_locals parent (c.capture name parent.locals) ∷ above) refl
@@ -103,14 +103,14 @@ module _ (held : CompilerCtx → ℕ) (pair : ℕ) where
     through no_local (failed r) name span ctx parent above o = o
 
     resolve_upvalue : (name : ℕ) (span : Span) (ctx : CompilerCtx) (parents : List CompilerCtx) →
-        Raised_if ctx parents (c.resolve_upvalue name span ctx parents)
+        RaisedIf ctx parents (c.resolve_upvalue name span ctx parents)
     unfolding c.resolve_upvalue
     resolve_upvalue name span ctx [] = tt
     resolve_upvalue name span ctx (p ∷ ps) =
         through (c.find_local name p.locals) (c.resolve_upvalue name span p ps) name span ctx p ps (resolve_upvalue name span p ps)
 
     widen : (cost : ℕ) (ctx : CompilerCtx) (parents : List CompilerCtx) (r : Resolved) → times pair (length parents) ≤ cost →
-        Raised_if ctx parents r → Grown_if (summed held) cost ctx parents r
+        RaisedIf ctx parents r → GrownIf (summed held) cost ctx parents r
     widen cost ctx parents (captured idx ctx' parents') l o = record { levels = o.levels; holds = omega (arith, o.holds) }
     widen cost ctx parents nowhere l o = tt
     widen cost ctx parents (failed r) l o = o
@@ -206,7 +206,7 @@ module _ (total : CompilerCtx → List CompilerCtx → ℕ) (finished : List Obj
       }
 
   resolved : {g : ℕ} (f : Found) (outer : Resolved) (name : ℕ) (span : Span) (s : Compiler) (k : ℕ) → J g k s →
-      Grown_if total cost s.ctx s.parents outer → Ends J Allowed top g (k + cost) (c.resolved f outer name span s)
+      GrownIf total cost s.ctx s.parents outer → Ends J Allowed top g (k + cost) (c.resolved f outer name span s)
   unfolding c.resolved c.◌>>◌ go_on c.put_ctxs c.return c.refuse
   resolved (at_slot slot) outer name span s k i o = record { levels = i.levels; spent = omega (arith, i.spent) }
   resolved uninitialized outer name span s k i o = rusts _ tt

@@ -25,7 +25,7 @@ use Rattle.rules_laws.proofs.Tests.{both}
 use Rattle.rules_laws.proofs.Keeps as keeps
 use Rattle.rules_laws.proofs.Keeps.{After, Triple}
 use Rattle.rules_laws.proofs.Facts.{capture_length, initialize_length}
-use Rattle.rules_laws.proofs.Trees.{Of_stmts, stmts_size}
+use Rattle.rules_laws.proofs.Trees.{OfStmts, stmts_size}
 use Rattle.rules_laws.proofs.Steps as steps
 use Rattle.rules_laws.proofs.Steps.{Laws}
 use Rattle.rules_laws.proofs.Held as open-ones
@@ -44,10 +44,10 @@ used (run ∷ []) = run.count
 used (run ∷ next ∷ runs) = 255 + used (next ∷ runs)
 
 -- the last run has this span
-abbrev Last_is : Span → List Run → Type 0
-Last_is span [] = ⊥
-Last_is span (run ∷ []) = T (same_span run.span span) × (run.count ≤ 255)
-Last_is span (run ∷ next ∷ runs) = Last_is span (next ∷ runs)
+abbrev LastIs : Span → List Run → Type 0
+LastIs span [] = ⊥
+LastIs span (run ∷ []) = T (same_span run.span span) × (run.count ≤ 255)
+LastIs span (run ∷ next ∷ runs) = LastIs span (next ∷ runs)
 
 push_length : (runs : List Run) (span : Span) → length (push_span runs span) ≤ length runs + 1
 unfolding push_span
@@ -65,28 +65,28 @@ unfolding same_span
 span_self span = both (eqb span.start span.start) (eqb span.end span.end) (eqb_refl span.start) (eqb_refl span.end)
 
 -- a push leaves a list of a run or more: its tail is pushed to
-push_last : (runs : List Run) (span : Span) → Last_is span (push_span runs span)
+push_last : (runs : List Run) (span : Span) → LastIs span (push_span runs span)
 unfolding push_span
 push_last [] span = (span_self span, omega arith)
 push_last (run ∷ []) span = by_test (same_span run.span span) refl (ltb run.count 255) refl
   where
     by_test : (a : Bool) → same_span run.span span ≡ a → (b : Bool) → ltb run.count 255 ≡ b →
-        Last_is span (if a && b then (record { span = run.span; count = run.count + 1 } ∷ []) else (run ∷ record { span = span; count = 1 } ∷ []))
+        LastIs span (if a && b then (record { span = run.span; count = run.count + 1 } ∷ []) else (run ∷ record { span = span; count = 1 } ∷ []))
     by_test true e true e' = (rw e tt, omega (arith, ltb→lt run.count 255 (rw e' tt)))
     by_test true e false e' = (span_self span, omega arith)
     by_test false e b e' = (span_self span, omega arith)
 push_last (run ∷ next ∷ []) span = by_test (same_span next.span span && ltb next.count 255) (push_last (next ∷ []) span)
   where
     by_test : (b : Bool) →
-        Last_is span (if b then (record { span = next.span; count = next.count + 1 } ∷ []) else (next ∷ record { span = span; count = 1 } ∷ [])) →
-        Last_is span (run ∷ (if b then (record { span = next.span; count = next.count + 1 } ∷ []) else
+        LastIs span (if b then (record { span = next.span; count = next.count + 1 } ∷ []) else (next ∷ record { span = span; count = 1 } ∷ [])) →
+        LastIs span (run ∷ (if b then (record { span = next.span; count = next.count + 1 } ∷ []) else
         (next ∷ record { span = span; count = 1 } ∷ [])))
     by_test true h = h
     by_test false h = h
 push_last (run ∷ next ∷ third ∷ runs) span = push_last (next ∷ third ∷ runs) span
 
 -- where the span is the last run's, they reach one further
-push_used : (runs : List Run) (span : Span) → Last_is span runs → used (push_span runs span) ≤ used runs + 1
+push_used : (runs : List Run) (span : Span) → LastIs span runs → used (push_span runs span) ≤ used runs + 1
 unfolding push_span
 push_used [] span h = absurd h
 push_used (run ∷ []) span h = by_test (same_span run.span span) h.0 (ltb run.count 255) refl
@@ -113,7 +113,7 @@ used_least [] = omega arith
 used_least (run ∷ []) = omega arith
 used_least (run ∷ next ∷ runs) = omega (arith, used_least (next ∷ runs))
 
-used_most : (runs : List Run) (span : Span) → Last_is span runs → used runs ≤ 255 * length runs
+used_most : (runs : List Run) (span : Span) → LastIs span runs → used runs ≤ 255 * length runs
 used_most [] span h = absurd h
 used_most (run ∷ []) span h = omega (arith, h.1)
 used_most (run ∷ next ∷ runs) span h = omega (arith, used_most (next ∷ runs) span h)
@@ -265,7 +265,7 @@ module _ (limit most top : ℕ) (pays : Pays most) where
 
   -- the current function's last run has this span
   abbrev Last : Span → Compiler → Type 0
-  Last span s = Last_is span s.ctx.chunk.spans
+  Last span s = LastIs span s.ctx.chunk.spans
 
   record Both (span : Span) (g k : ℕ) (s : Compiler) : Type 0 where
     spent : Spent (summed held) weigh_all most g k s
@@ -524,7 +524,7 @@ module _ (limit most top : ℕ) (pays : Pays most) where
 
 -- ## Every image
 
-image_most : (limit most : ℕ) (pays : Pays most) (stmts : Stmts) (directory : Bool) (bound : ℕ) → Of_stmts (fitting most) stmts most →
+image_most : (limit most : ℕ) (pays : Pays most) (stmts : Stmts) (directory : Bool) (bound : ℕ) → OfStmts (fitting most) stmts most →
     (17 * stmts_size stmts + 24) * pays.rate + 35 ≤ bound →
     After (λ fs _. length (image_with directory fs) ≤ bound) (c.compile_functions limit stmts)
 unfolding c.compile_functions c.◌>>◌ c.the c.finish go_on constants_length image.join
@@ -555,7 +555,7 @@ thrice zero = refl
 thrice (suc n) = omega (arith, thrice n)
 
 -- where at most 16 functions stand in one another
-pub image_at_most : (limit most : ℕ) (stmts : Stmts) (directory : Bool) → most ≤ 16 → Of_stmts (fitting most) stmts most →
+pub image_at_most : (limit most : ℕ) (stmts : Stmts) (directory : Bool) → most ≤ 16 → OfStmts (fitting most) stmts most →
     After (λ fs _. length (image_with directory fs) ≤ 17 * stmts_size stmts + 59) (c.compile_functions limit stmts)
 image_at_most limit most stmts directory nested o =
     image_most limit most where_captured stmts directory (17 * stmts_size stmts + 59) o (omega arith)
@@ -577,7 +577,7 @@ nothing zero = refl
 nothing (suc n) = omega (arith, nothing n)
 
 -- however many do: enough for every offset of a directory to fit its field
-pub image_in_all : (limit most : ℕ) (stmts : Stmts) (directory : Bool) → Of_stmts (fitting most) stmts most →
+pub image_in_all : (limit most : ℕ) (stmts : Stmts) (directory : Bool) → OfStmts (fitting most) stmts most →
     After (λ fs _. length (image_with directory fs) ≤ 221 * stmts_size stmts + 347) (c.compile_functions limit stmts)
 image_in_all limit most stmts directory o =
     image_most limit most where_ended stmts directory (221 * stmts_size stmts + 347) o (omega arith)

@@ -92,20 +92,20 @@ record Kept (ctx : CompilerCtx) (parents : List CompilerCtx) (idx : ℕ) (ctx' :
   inner : Same ctx ctx'
   outer : Sames parents parents'
 
-abbrev Kept_if : CompilerCtx → List CompilerCtx → Resolved → Type 0
-Kept_if ctx parents (captured idx ctx' parents') = Kept ctx parents idx ctx' parents'
-Kept_if ctx parents nowhere = Unit {0}
-Kept_if ctx parents (failed r) = Unit {0}
+abbrev KeptIf : CompilerCtx → List CompilerCtx → Resolved → Type 0
+KeptIf ctx parents (captured idx ctx' parents') = Kept ctx parents idx ctx' parents'
+KeptIf ctx parents nowhere = Unit {0}
+KeptIf ctx parents (failed r) = Unit {0}
 
 added : (u : Upvalue) (span : Span) (ctx : CompilerCtx) (ps qs : List CompilerCtx) → Sames ps qs →
-    (p : Option ℕ) → position (c.same_upvalue u) ctx.upvalues ≡ p → Kept_if ctx ps (c.added p u span ctx qs)
+    (p : Option ℕ) → position (c.same_upvalue u) ctx.upvalues ≡ p → KeptIf ctx ps (c.added p u span ctx qs)
 unfolding c.added
 added u span ctx ps qs o (some place) e =
     record { byte = λ f. omega (arith, (stopped (c.same_upvalue u) ctx.upvalues place e).inside, f.upvalues); inner = same; outer = o }
 added u span ctx ps qs o none e = room (ltb (length ctx.upvalues) 256) refl
   where
     room : (b : Bool) → ltb (length ctx.upvalues) 256 ≡ b →
-        Kept_if ctx ps
+        KeptIf ctx ps
         (if b then captured (length ctx.upvalues) (c.with_upvalues ctx (ctx.upvalues ++ (u ∷ []))) qs else failed (TooManyUpvalues span))
     room true t =
         let below : length ctx.upvalues < 256 = ltb→lt (length ctx.upvalues) 256 (rw t tt) in
@@ -125,12 +125,12 @@ added u span ctx ps qs o none e = room (ltb (length ctx.upvalues) 256) refl
         }
     room false t = tt
 
-add_upvalue : (u : Upvalue) (span : Span) (ctx : CompilerCtx) (ps qs : List CompilerCtx) → Sames ps qs → Kept_if ctx ps (c.add_upvalue u span ctx qs)
+add_upvalue : (u : Upvalue) (span : Span) (ctx : CompilerCtx) (ps qs : List CompilerCtx) → Sames ps qs → KeptIf ctx ps (c.add_upvalue u span ctx qs)
 unfolding c.add_upvalue
 add_upvalue u span ctx ps qs o = added u span ctx ps qs o _ refl
 
 through : (f : Found) (outer : Resolved) (name : ℕ) (span : Span) (ctx parent : CompilerCtx) (above : List CompilerCtx) →
-    Kept_if parent above outer → Kept_if ctx (parent ∷ above) (c.through f outer name span ctx parent above)
+    KeptIf parent above outer → KeptIf ctx (parent ∷ above) (c.through f outer name span ctx parent above)
 unfolding c.through c.further_out
 through (at_slot slot) outer name span ctx parent above o =
     add_upvalue _ span ctx (parent ∷ above) (c.with_locals parent (c.capture name parent.locals) ∷ above) (marked, sames above)
@@ -151,7 +151,7 @@ through no_local (captured idx p ps) name span ctx parent above o = add_upvalue 
 through no_local nowhere name span ctx parent above o = tt
 through no_local (failed r) name span ctx parent above o = tt
 
-resolve_upvalue : (name : ℕ) (span : Span) (ctx : CompilerCtx) (parents : List CompilerCtx) → Kept_if ctx parents (c.resolve_upvalue name span ctx parents)
+resolve_upvalue : (name : ℕ) (span : Span) (ctx : CompilerCtx) (parents : List CompilerCtx) → KeptIf ctx parents (c.resolve_upvalue name span ctx parents)
 unfolding c.resolve_upvalue
 resolve_upvalue name span ctx [] = tt
 resolve_upvalue name span ctx (p ∷ ps) =
@@ -255,7 +255,7 @@ module _ (G : Type 0) (I : G → Compiler → Type 0) (moves : Moves G I) (limit
     emit_u8 _ span g
     emit_u8 _ span g
 
-  resolved : (f : Found) (r : Resolved) (name : ℕ) (span : Span) (g : G) (s : Compiler) → I g s → Kept_if s.ctx s.parents r →
+  resolved : (f : Found) (r : Resolved) (name : ℕ) (span : Span) (g : G) (s : Compiler) → I g s → KeptIf s.ctx s.parents r →
       After (λ _. I g) (c.resolved f r name span s)
   unfolding c.resolved c.◌>>◌ go_on c.put_ctxs c.return c.refuse
   resolved (at_slot slot) r name span g s i k = i
@@ -619,7 +619,7 @@ impossible limit =
       define_local_has_local = λ name value span s. (var_locals limit name value span (length s.ctx.locals)).run s refl;
       slot_is_a_byte = λ x name slot f e. omega (arith, slot_inside name x.locals slot e, f.locals);
       upvalue_is_a_byte =
-          λ x around u span idx x' around' f e. let k : Kept x around idx x' around' = subst (Kept_if x around) e (add_upvalue u span x around around (sames around)) in
+          λ x around u span idx x' around' f e. let k : Kept x around idx x' around' = subst (KeptIf x around) e (add_upvalue u span x around around (sames around)) in
           (k.byte f, (k.inner.few f).upvalues);
       constant_is_a_byte = λ x value place ch f e. byte_of x.chunk place ch (subst (Placed x.chunk) e (placed x.chunk value)) f.constants;
       fits_at_start = record { inner = record { locals = omega arith; upvalues = omega arith; constants = omega arith }; outer = tt };

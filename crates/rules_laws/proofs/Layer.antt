@@ -21,7 +21,7 @@ use Rattle.rules.specs.Compiler.{Compiler, CompilerCtx, Outcome, ok, err, Found,
 use Rattle.rules_laws.proofs.Keeps as keeps
 use Rattle.rules_laws.proofs.Keeps.{After, Triple, ◌>>=◌, ◌>>◌, the, need, refuse, return, gives, given, Laws}
 use Rattle.rules_laws.proofs.Tests.{both}
-use Rattle.rules_laws.proofs.Facts.{All, all_map, all_end, at_end, stopped, same_eq, with_constants, with_ops, write_all, Is_value, grown_map, Wrote, Form, Still, Within, within_more, pairs, length_pairs, pairs_within, pairs_bytes, Small, slot_inside, capture_length, initialize_length, Nested, jump_bytes, loop_bytes, Fact, ChunkLaws, as_before, one_more, a_number, a_string, plain, byte, captured_at, value_at, text_at, invoke, still_plain, still_byte, still_captured, still_value, still_text, still_invoke}
+use Rattle.rules_laws.proofs.Facts.{All, all_map, all_end, at_end, stopped, same_eq, with_constants, with_ops, write_all, IsValue, grown_map, Wrote, Form, Still, Within, within_more, pairs, length_pairs, pairs_within, pairs_bytes, Small, slot_inside, capture_length, initialize_length, Nested, jump_bytes, loop_bytes, Fact, ChunkLaws, as_before, one_more, a_number, a_string, plain, byte, captured_at, value_at, text_at, invoke, still_plain, still_byte, still_captured, still_value, still_text, still_invoke}
 use Rattle.rules.proofs.Computes as computes
 
 -- ## The state
@@ -245,7 +245,7 @@ module _ (K : Type 0) (P : K → Fact) (start : K) (waits backs : ℕ → K → 
         emit_u8 (λ opened fs n ch. length (write_u8 ch m span).ops ≤ limit → P k opened fs n (write_u8 ch m span)) b span hs
         emit_last (P k) m span hs)
 
-  emit_op_constant : (kind : Operands) → Still kind → (b : ℕ) (value : Constant) (span : Span) → operands_of b ≡ some kind → Is_value value →
+  emit_op_constant : (kind : Operands) → Still kind → (b : ℕ) (value : Constant) (span : Span) → operands_of b ≡ some kind → IsValue value →
       ((fs : List ObjectFunction) (n place : ℕ) (cs : List Constant) → get_elem? cs place ≡ some value → Form fs cs n kind (place ∷ [])) →
       (k : K) (hs : List K) → Triple (Now (P k) hs) (c.emit_op_constant limit b value span) (λ _. Now (P k) hs)
   unfolding c.emit_op_constant write_u8
@@ -253,7 +253,7 @@ module _ (K : Type 0) (P : K → Fact) (start : K) (waits backs : ℕ → K → 
       given (so K P start (P k)
       (λ opened fs n ch. (place : ℕ) (cs : List Constant) → Wrote ch.constants value place cs →
       length (write_u8 (with_constants (write_u8 ch b span) cs) place span).ops ≤ limit → P k opened fs n (write_u8 (with_constants (write_u8 ch b span) cs) place span)) hs
-      (λ opened fs n ch p place cs w r. l.writes kind st k opened fs n ch cs b (place ∷ []) span e (grown_map (λ v q. subst⁻¹ Is_value q iv) w.grown) (form fs n place cs w.there) r p))
+      (λ opened fs n ch p place cs w r. l.writes kind st k opened fs n ch cs b (place ∷ []) span e (grown_map (λ v q. subst⁻¹ IsValue q iv) w.grown) (form fs n place cs w.there) r p))
       (do
         emit_u8 (λ opened fs n ch. (place : ℕ) (cs : List Constant) → Wrote ch.constants value place cs →
             length (write_u8 (with_constants ch cs) place span).ops ≤ limit → P k opened fs n (write_u8 (with_constants ch cs) place span)) b span hs
@@ -269,7 +269,7 @@ module _ (K : Type 0) (P : K → Fact) (start : K) (waits backs : ℕ → K → 
       length (write_u8 (write_u8 (with_constants (write_u8 ch b span) cs) place span) m span).ops ≤ limit →
       P k opened fs n (write_u8 (write_u8 (with_constants (write_u8 ch b span) cs) place span) m span)) hs
       (λ opened fs n ch p place cs w r₁ r. l.writes Invoke still_invoke k opened fs n ch cs b (place ∷ m ∷ []) span e
-      (grown_map (λ v q. subst⁻¹ Is_value q a_string) w.grown) (invoke w.there bound) r p))
+      (grown_map (λ v q. subst⁻¹ IsValue q a_string) w.grown) (invoke w.there bound) r p))
       (do
         emit_u8
             (λ opened fs n ch. (place : ℕ) (cs : List Constant) → Wrote ch.constants (CS name) place cs →
@@ -399,15 +399,15 @@ module _ (K : Type 0) (P : K → Fact) (start : K) (waits backs : ℕ → K → 
     small : Small ctx
     smalls : All Small parents
 
-  abbrev Kept_if : List K → List ObjectFunction → List Upvalue → Chunk → Resolved → Type 0
-  Kept_if hs fs us ch (captured idx ctx parents) = Kept hs fs us ch idx ctx parents
-  Kept_if hs fs us ch nowhere = Unit {0}
-  Kept_if hs fs us ch (failed r) = Unit {0}
+  abbrev KeptIf : List K → List ObjectFunction → List Upvalue → Chunk → Resolved → Type 0
+  KeptIf hs fs us ch (captured idx ctx parents) = Kept hs fs us ch idx ctx parents
+  KeptIf hs fs us ch nowhere = Unit {0}
+  KeptIf hs fs us ch (failed r) = Unit {0}
 
   added : (u : Upvalue) (span : Span) (ctx : CompilerCtx) (q : CompilerCtx) (qs : List CompilerCtx) (hs : List K) (fs : List ObjectFunction) →
       Around K P start hs fs (q ∷ qs) → Nested ctx.upvalues (q ∷ qs) → Within (length q.upvalues) u → u.idx < 256 → Small ctx → All Small (q ∷ qs) →
       (p : Option ℕ) → position (c.same_upvalue u) ctx.upvalues ≡ p →
-      Kept_if hs fs ctx.upvalues ctx.chunk (c.added p u span ctx (q ∷ qs))
+      KeptIf hs fs ctx.upvalues ctx.chunk (c.added p u span ctx (q ∷ qs))
   unfolding c.added
   added u span ctx q qs hs fs a n w b sm sms (some place) e =
       record {
@@ -425,7 +425,7 @@ module _ (K : Type 0) (P : K → Fact) (start : K) (waits backs : ℕ → K → 
       more = length-append ctx.upvalues (u ∷ [])
 
       room : (b : Bool) → ltb (length ctx.upvalues) 256 ≡ b →
-          Kept_if hs fs ctx.upvalues ctx.chunk
+          KeptIf hs fs ctx.upvalues ctx.chunk
           (if b then captured (length ctx.upvalues) (c.with_upvalues ctx (ctx.upvalues ++ (u ∷ []))) (q ∷ qs) else failed (TooManyUpvalues span))
       room true t =
           record {
@@ -446,8 +446,8 @@ module _ (K : Type 0) (P : K → Fact) (start : K) (waits backs : ℕ → K → 
 
   through : (f : Found) (outer : Resolved) (name : ℕ) (span : Span) (ctx parent : CompilerCtx) (above : List CompilerCtx) (h : K) (hs : List K) (fs : List ObjectFunction) →
       c.find_local name parent.locals ≡ f → (a : Around K P start (h ∷ hs) fs (parent ∷ above)) → Nested ctx.upvalues (parent ∷ above) → Small ctx → All Small (parent ∷ above) →
-      Kept_if hs a.0 parent.upvalues parent.chunk outer →
-      Kept_if (h ∷ hs) fs ctx.upvalues ctx.chunk (c.through f outer name span ctx parent above)
+      KeptIf hs a.0 parent.upvalues parent.chunk outer →
+      KeptIf (h ∷ hs) fs ctx.upvalues ctx.chunk (c.through f outer name span ctx parent above)
   unfolding c.through c.further_out c.add_upvalue
   through (at_slot slot) outer name span ctx parent above h hs fs e a n sm sms o =
       added (record { idx = slot; is_local = true }) span ctx (c.with_locals parent (c.capture name parent.locals)) above (h ∷ hs) fs a n tt
@@ -470,7 +470,7 @@ module _ (K : Type 0) (P : K → Fact) (start : K) (waits backs : ℕ → K → 
 
   resolve_upvalue : (name : ℕ) (span : Span) (fs : List ObjectFunction) (ctx : CompilerCtx) (parents : List CompilerCtx) (hs : List K) →
       Around K P start hs fs parents → Nested ctx.upvalues parents → Small ctx → All Small parents →
-      Kept_if hs fs ctx.upvalues ctx.chunk (c.resolve_upvalue name span ctx parents)
+      KeptIf hs fs ctx.upvalues ctx.chunk (c.resolve_upvalue name span ctx parents)
   unfolding c.resolve_upvalue
   resolve_upvalue name span fs ctx [] hs a n sm sms = tt
   resolve_upvalue name span fs ctx (p ∷ ps) [] a n sm sms = absurd a
@@ -482,7 +482,7 @@ module _ (K : Type 0) (P : K → Fact) (start : K) (waits backs : ℕ → K → 
   Resolves k hs place = Now (λ opened fs n ch. Placeable n place × P k opened fs n ch) hs
 
   resolved : (k : K) (hs : List K) (name : ℕ) (span : Span) (s : Compiler) (i : Now (P k) hs s) (f : Found) → c.find_local name s.ctx.locals ≡ f → (r : Resolved) →
-      Kept_if hs i.opened s.ctx.upvalues s.ctx.chunk r → After (Resolves k hs) (c.resolved f r name span s)
+      KeptIf hs i.opened s.ctx.upvalues s.ctx.chunk r → After (Resolves k hs) (c.resolved f r name span s)
   unfolding c.resolved c.◌>>◌ c.go_on c.put_ctxs c.return c.refuse
   resolved k hs name span s i (at_slot slot) e r h =
       put K P start (P k) (λ opened fs n ch. Placeable n (c.local_at slot) × P k opened fs n ch) hs s i

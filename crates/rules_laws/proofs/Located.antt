@@ -37,16 +37,16 @@ use Rattle.rules.proofs.Slips.{too_many_params}
 use Rattle.rules_laws.proofs.Facts.{All, Bytes}
 use Rattle.rules_laws.proofs.Checks.{image_for, room}
 use Rattle.rules_laws.proofs.Refusals.{number_of, readers_number, rusts_number, refusal_outside}
-use Rattle.rules_laws.proofs.Trees.{Leaf, anything, Of_stmts, expr_any, stmts_any, fun_any}
+use Rattle.rules_laws.proofs.Trees.{Leaf, anything, OfStmts, expr_any, stmts_any, fun_any}
 use Rattle.rules_laws.proofs.Steps as steps
 use Rattle.rules_laws.proofs.Steps.{Laws, Inner}
 use Rattle.rules_laws.proofs.TreeBytes.{fitting, tree_fits}
 use Rattle.rules_laws.proofs.Room.{Enough, has_table, one_in_both}
-use Rattle.rules_laws.proofs.Exactly.{Was_read, Way, way, work_short, too_long, not_read, against_a_rule, code_full, out_full, all_fits}
+use Rattle.rules_laws.proofs.Exactly.{WasRead, Way, way, work_short, too_long, not_read, against_a_rule, code_full, out_full, all_fits}
 use Rattle.rules_laws.proofs.UpTo.{function_up_to_end}
 use Rattle.rules_laws.proofs.Impossible.{impossible}
 use Rattle.rules_laws.proofs.OpenFunctions as running
-use Rattle.rules_laws.proofs.OpenFunctions.{Who, who, whos, open_functions, Inner_one, Nests, At, Stop, Ends, Goes, R, laws, flat, none_opened, any_opened, few_opened}
+use Rattle.rules_laws.proofs.OpenFunctions.{Who, who, whos, open_functions, InnerOne, Nests, At, Stop, Ends, Goes, R, laws, flat, none_opened, any_opened, few_opened}
 
 -- ## Of whatever is compiled, under whatever code limit
 
@@ -59,7 +59,7 @@ pub record Inside (base : List Who) (x : Stopped) : Type 0 where
   pub state : Compiler
   pub is : Own state x
   pub opened : List Who
-  pub inner : All Inner_one opened
+  pub inner : All InnerOne opened
   pub are : open_functions state ≡ opened ++ base
 
 -- the same functions are open, so the same is told
@@ -149,8 +149,8 @@ module _ (limit : ℕ) (s : Compiler) where
       ).run s (record { opened = []; inner = tt; are = refl; deep = refl })))
 
 module _ (limit : ℕ) (s : Compiler) (x : Stopped) (name : ℕ) (type : FunctionType) (params : List ℕ) (body : Stmts) (span : Span) where
-  abbrev In_function : Type 0
-  In_function = Inside ((name, type) ∷ open_functions s) x
+  abbrev InFunction : Type 0
+  InFunction = Inside ((name, type) ∷ open_functions s) x
 
   abbrev Does : {A : Type 0} → Compile A → Type 0
   Does m = Goes anything any_opened (name, type) (open_functions s) 0 0 m
@@ -186,7 +186,7 @@ module _ (limit : ℕ) (s : Compiler) (x : Stopped) (name : ℕ) (type : Functio
         steps.implicit_return anything r small
 
   -- a function's error is in it or in one that was opened in it, from where it is begun to where it is ended
-  pub before_end : length params ≤ 255 → function_up_to_end limit type name params body span s ≡ err x → In_function
+  pub before_end : length params ≤ 255 → function_up_to_end limit type name params body span s ≡ err x → InFunction
   unfolding function_up_to_end c.◌>>◌ c.◌>>=◌ go_on c.need c.the c.begin_ctx
   before_end few d =
       inside_so any_opened (name, type) (open_functions s) x
@@ -217,16 +217,16 @@ module _ (limit : ℕ) (s : Compiler) (x : Stopped) (name : ℕ) (type : Functio
           (record { opened = []; inner = tt; are = ap (λ (ws : List Who). drop 1 ws) e; deep = refl })))
 
   -- and so is 17, before it: Slips `too_many_params`
-  pub function_inside : c.compile_function limit (fun name params body) type span s ≡ err x → Own s x ⊎ In_function
+  pub function_inside : c.compile_function limit (fun name params body) type span s ≡ err x → Own s x ⊎ InFunction
   unfolding c.compile_stmt c.◌>>◌ go_on
   function_inside d = by_test (leb (length params) 255) refl
     where
       by_outcome : length params ≤ 255 → (o : Outcome (Unit {0})) → function_up_to_end limit type name params body span s ≡ o →
-          go_on o (λ _. c.end_function limit span) ≡ err x → Own s x ⊎ In_function
+          go_on o (λ _. c.end_function limit span) ≡ err x → Own s x ⊎ InFunction
       by_outcome few (ok a t) e d = inl (after_end t e d)
       by_outcome few (err y) e d = let z : y ≡ x = cc in inr (before_end few (e ∙ ap err z))
 
-      by_test : (b : Bool) → leb (length params) 255 ≡ b → Own s x ⊎ In_function
+      by_test : (b : Bool) → leb (length params) 255 ≡ b → Own s x ⊎ InFunction
       by_test true e =
           by_outcome (leb→le (length params) 255 (rw e tt)) (function_up_to_end limit type name params body span s) refl
           (sym ((impossible limit).function_is type name params body span s) ∙ d)
@@ -269,15 +269,15 @@ inside_own {w} {ws} {x} i e = by_opened i.opened i.are
 -- ## The compiler
 
 -- the script is the outermost of the open functions, and no other one has its type
-abbrev pub In_script : Stopped → Type 0
-In_script x = Inside ((script_name, Script) ∷ []) x
+abbrev pub InScript : Stopped → Type 0
+InScript x = Inside ((script_name, Script) ∷ []) x
 
 -- the error is in the script's own code exactly when no function is open around it, and then its name is 3
-module _ {x : Stopped} (i : In_script x) where
+module _ {x : Stopped} (i : InScript x) where
   pub script_exactly : (x.around ≡ 0) ↔ (i.state.ctx.type ≡ Script)
   script_exactly = (λ e. (inside_own i e).1, λ e. by_opened i.opened i.inner i.are e)
     where
-      by_opened : (os : List Who) → All Inner_one os → open_functions i.state ≡ os ++ ((script_name, Script) ∷ []) → i.state.ctx.type ≡ Script →
+      by_opened : (os : List Who) → All InnerOne os → open_functions i.state ≡ os ++ ((script_name, Script) ∷ []) → i.state.ctx.type ≡ Script →
           x.around ≡ 0
       by_opened [] h are e = omega (arith, ap (λ (x : Stopped). x.around) i.is, whos_length i.state.parents, ap length are)
       by_opened (o ∷ os) h are e =
@@ -296,18 +296,18 @@ module _ (limit : ℕ) (stmts : Stmts) (x : Stopped) (refused : c.compile_functi
       by_outcome (ok a s) e = let z : ◌≡◌ {A = ℕ} 0 1 = cc in absurd (omega arith)
       by_outcome (err y) e = let z : y ≡ x = cc in ap err z
 
-  stop_of : (l : Leaf) (nests : Nests l) (g : l.level) → Of_stmts l stmts g → nests.deep g 0 → Stop l nests (script_name, Script) [] x
+  stop_of : (l : Leaf) (nests : Nests l) (g : l.level) → OfStmts l stmts g → nests.deep g 0 → Stop l nests (script_name, Script) [] x
   stop_of l nests g o d =
       subst (λ (o : Outcome (Unit {0})). Ends l nests (script_name, Script) [] g o) script_refuses
       ((steps.compile_script l (R l nests (script_name, Script) [] limit) (laws l nests (script_name, Script) [] limit) stmts g o).run c.new
       (record { opened = []; inner = tt; are = refl; deep = d }))
 
   -- for all statements and limits
-  pub located : In_script x
+  pub located : InScript x
   located = inside_so any_opened (script_name, Script) [] x (stop_of anything any_opened 0 (stmts_any stmts 0) refl)
 
   -- of statements as the reader gives them
-  pub around_most : (funs : ℕ) → Of_stmts (fitting funs) stmts funs → x.around ≤ funs
+  pub around_most : (funs : ℕ) → OfStmts (fitting funs) stmts funs → x.around ≤ funs
   around_most funs o = omega (
     arith,
     ap (λ (x : Stopped). x.around) p.is,
@@ -323,12 +323,12 @@ module _ (limit : ℕ) (stmts : Stmts) (x : Stopped) (refused : c.compile_functi
 -- ## Every answer of the compiler
 
 -- "the others leave 0"
-pub record No_function (a : Answer) : Type 0 where
+pub record NoFunction (a : Answer) : Type 0 where
   pub function : a.function ≡ 0
   pub around : a.around ≡ 0
 
 -- whatever the refusal
-refusal_none : (r : Refusal) → No_function (refusal r)
+refusal_none : (r : Refusal) → NoFunction (refusal r)
 unfolding refusal_in
 refusal_none r =
     record {
@@ -339,18 +339,18 @@ refusal_none r =
 module _ (limits : Limits) (tree : List ℕ) (lent : Lent) where
   pub record Filled (a : Answer) : Type 0 where
     pub stmts : Stmts
-    pub was_read : Was_read limits tree lent stmts
+    pub was_read : WasRead limits tree lent stmts
     -- what the compiler refuses them by, and in which state
     pub refused : Stopped
     pub compiled : c.compile_functions (code_limit lent) stmts ≡ err refused
-    pub located : In_script refused
+    pub located : InScript refused
     -- "the name number of the innermost open function and how many functions are open around it"
     pub answers : a ≡ in_function (refusal refused.what) located.state.ctx.name (length located.state.parents)
     -- "0 in the script", and only there, "whose name is 3"
     pub script_exactly : (a.around ≡ 0) ↔ (located.state.ctx.type ≡ Script)
     pub script_named : a.around ≡ 0 → a.function ≡ script_name
 
-  filled_so : (stmts : Stmts) → Was_read limits tree lent stmts → (x : Stopped) → c.compile_functions (code_limit lent) stmts ≡ err x → Filled (refusal_in x)
+  filled_so : (stmts : Stmts) → WasRead limits tree lent stmts → (x : Stopped) → c.compile_functions (code_limit lent) stmts ≡ err x → Filled (refusal_in x)
   unfolding refusal_in
   filled_so stmts w x e =
       record {
@@ -374,7 +374,7 @@ module _ (limits : Limits) (tree : List ℕ) (lent : Lent) where
   filled_way (out_full fs w l) b e = absurd (omega arith)
   filled_way (all_fits fs w l) b e = absurd (omega arith)
 
-  none_way : {a : Answer} → Way limits tree lent a → (10 ≤ a.number → a.number ≤ 30 → ⊥) → No_function a
+  none_way : {a : Answer} → Way limits tree lent a → (10 ≤ a.number → a.number ≤ 30 → ⊥) → NoFunction a
   unfolding refusal refusal_in
   none_way (work_short l) n = refusal_none WorkShort
   none_way (too_long t l) n = refusal_none TreeTooLong
@@ -393,7 +393,7 @@ module _ (limits : Limits) (tree : List ℕ) (lent : Lent) where
     filled b e = filled_way (way limits tree lent bytes) b e
 
     -- "the others leave 0"
-    pub none_filled : (answered.number < 10) ⊎ (30 < answered.number) → No_function answered
+    pub none_filled : (answered.number < 10) ⊎ (30 < answered.number) → NoFunction answered
     none_filled (inl l) = none_way (way limits tree lent bytes) (λ b e. omega arith)
     none_filled (inr l) = none_way (way limits tree lent bytes) (λ b e. omega arith)
 
@@ -402,7 +402,7 @@ module _ (limits : Limits) (tree : List ℕ) (lent : Lent) where
     unfolding refusal refusal_in
     around_at_most = by_way (way limits tree lent bytes)
       where
-        of_refused : (stmts : Stmts) → Was_read limits tree lent stmts → (x : Stopped) → c.compile_functions (code_limit lent) stmts ≡ err x →
+        of_refused : (stmts : Stmts) → WasRead limits tree lent stmts → (x : Stopped) → c.compile_functions (code_limit lent) stmts ≡ err x →
             x.around ≤ limits.funs
         of_refused stmts w x e =
             around_most (code_limit lent) stmts x e limits.funs (tree_fits tree bytes limits.depth limits.funs stmts w.next w.read).parts
@@ -418,114 +418,114 @@ module _ (limits : Limits) (tree : List ℕ) (lent : Lent) where
 
 -- ## The other answers
 
-pub check_fills_none : (image : List ℕ) → No_function (check image)
+pub check_fills_none : (image : List ℕ) → NoFunction (check image)
 unfolding check checker.verdict
 check_fills_none image = by_image (image_of image)
   where
-    by_image : (o : Option (List ObjectFunction)) → No_function (checker.verdict o)
+    by_image : (o : Option (List ObjectFunction)) → NoFunction (checker.verdict o)
     by_image none = refusal_none ImageRefused
     by_image (some fs) = record { function = refl; around = refl }
 
-pub code_answer_fills_none : (image : List ℕ) (k : ℕ) → No_function (code_answer image k)
+pub code_answer_fills_none : (image : List ℕ) (k : ℕ) → NoFunction (code_answer image k)
 unfolding code_answer checker.code_verdict
 code_answer_fills_none image k = by_image (image_of image)
   where
-    by_number : (b : Bool) → No_function (if b then accepted 0 else refusal NoSuchFunction)
+    by_number : (b : Bool) → NoFunction (if b then accepted 0 else refusal NoSuchFunction)
     by_number true = record { function = refl; around = refl }
     by_number false = refusal_none NoSuchFunction
 
-    by_image : (o : Option (List ObjectFunction)) → No_function (checker.code_verdict k o)
+    by_image : (o : Option (List ObjectFunction)) → NoFunction (checker.code_verdict k o)
     by_image none = refusal_none ImageRefused
     by_image (some fs) = by_number (ltb k (length fs))
 
-pub code_part_fills_none : (image : List ℕ) (k : ℕ) → No_function (code_part image k)
+pub code_part_fills_none : (image : List ℕ) (k : ℕ) → NoFunction (code_part image k)
 unfolding code_part
 code_part_fills_none image k = record { function = refl; around = refl }
 
-pub directory_fills_none : (image : List ℕ) → No_function (directory_of image)
+pub directory_fills_none : (image : List ℕ) → NoFunction (directory_of image)
 unfolding directory_of checker.directory_verdict
 directory_fills_none image = by_image (image_of image)
   where
     by_size : (fs : List ObjectFunction) (b : Bool) →
-        No_function
+        NoFunction
         (if b then accepted 0
         else record { number = 0; at = length (image_bytes fs); end = length image; name = 0; length = length fs; function = 0; around = 0 })
     by_size fs true = record { function = refl; around = refl }
     by_size fs false = record { function = refl; around = refl }
 
-    by_image : (o : Option (List ObjectFunction)) → No_function (checker.directory_verdict (length image) o)
+    by_image : (o : Option (List ObjectFunction)) → NoFunction (checker.directory_verdict (length image) o)
     by_image none = refusal_none ImageRefused
     by_image (some fs) = by_size fs (eqb (length (image_bytes fs)) (length image))
 
-pub code_through_fills_none : (image : List ℕ) (place k : ℕ) → No_function (code_through image place k)
+pub code_through_fills_none : (image : List ℕ) (place k : ℕ) → NoFunction (code_through image place k)
 unfolding code_through checker.entry_part checker.record_part
 code_through_fills_none image place k = by_entry (checker.directory_entry image k place)
   where
-    by_record : (o : Read ObjectFunction) → No_function (checker.record_part image o)
+    by_record : (o : Read ObjectFunction) → NoFunction (checker.record_part image o)
     by_record (got f next) = record { function = refl; around = refl }
     by_record (bad r) = refusal_none r
 
-    by_entry : (o : Read ℕ) → No_function (checker.entry_part image o)
+    by_entry : (o : Read ℕ) → NoFunction (checker.entry_part image o)
     by_entry (got offset next) = by_record (read_function image offset)
     by_entry (bad r) = refusal_none r
 
-pub span_fills_none : (runs : List Run) (offset : ℕ) → No_function (span_of runs offset)
+pub span_fills_none : (runs : List Run) (offset : ℕ) → NoFunction (span_of runs offset)
 unfolding span_of
 span_fills_none [] offset = refusal_none NoSuchByte
 span_fills_none (run ∷ runs) offset = by_count (ltb offset run.count) (span_fills_none runs (offset - run.count))
   where
-    by_count : (b : Bool) → No_function (span_of runs (offset - run.count)) →
-        No_function (if b then at_span 0 run.span 0 else span_of runs (offset - run.count))
+    by_count : (b : Bool) → NoFunction (span_of runs (offset - run.count)) →
+        NoFunction (if b then at_span 0 run.span 0 else span_of runs (offset - run.count))
     by_count true h = record { function = refl; around = refl }
     by_count false h = h
 
-pub touch_fills_none : (image : List ℕ) (name : ℕ) → No_function (touch image name)
+pub touch_fills_none : (image : List ℕ) (name : ℕ) → NoFunction (touch image name)
 unfolding touch touching.touch_verdict touching.search
 touch_fills_none image name = by_image (image_of image)
   where
-    by_standing : (read : ℕ) (ss : List Standing) → No_function (touching.search name read ss)
+    by_standing : (read : ℕ) (ss : List Standing) → NoFunction (touching.search name read ss)
     by_standing read [] = record { function = refl; around = refl }
     by_standing read (s ∷ rest) = by_test (touching.touches name s) (by_standing (read + 1) rest)
       where
-        by_test : (b : Bool) → No_function (touching.search name (read + 1) rest) →
-            No_function (if b then touching.hit (read + 1) s else touching.search name (read + 1) rest)
+        by_test : (b : Bool) → NoFunction (touching.search name (read + 1) rest) →
+            NoFunction (if b then touching.hit (read + 1) s else touching.search name (read + 1) rest)
         by_test true h = record { function = refl; around = refl }
         by_test false h = h
 
-    by_image : (o : Option (List ObjectFunction)) → No_function (touching.touch_verdict name o)
+    by_image : (o : Option (List ObjectFunction)) → NoFunction (touching.touch_verdict name o)
     by_image none = refusal_none ImageRefused
     by_image (some fs) = by_standing 0 (touching.all_standing fs 0 fs)
 
 -- ## By the tree and the limits alone
 
-pub record Same_function (a b : Answer) : Type 0 where
+pub record SameFunction (a b : Answer) : Type 0 where
   pub function : a.function ≡ b.function
   pub around : a.around ≡ b.around
 
 -- what the compiler comes to says both, whatever is lent for the image
-same_out : (lent lent' : Lent) (x : Compiled) → Same_function (entry.write_out lent x).answer (entry.write_out lent' x).answer
+same_out : (lent lent' : Lent) (x : Compiled) → SameFunction (entry.write_out lent x).answer (entry.write_out lent' x).answer
 unfolding entry.write_out entry.write_image entry.leaves
 same_out lent lent' (refused y) = record { function = refl; around = refl }
 same_out lent lent' (functions_are fs) =
     record { function = (of_image lent).function ∙ sym (of_image lent').function; around = (of_image lent).around ∙ sym (of_image lent').around }
   where
-    by_room : (lent : Lent) (b : Bool) → No_function (room lent (image_for lent fs) b).answer
+    by_room : (lent : Lent) (b : Bool) → NoFunction (room lent (image_for lent fs) b).answer
     by_room lent true = record { function = refl; around = refl }
     by_room lent false = refusal_none (OutFull (length (image_for lent fs)))
 
-    of_image : (lent : Lent) → No_function (entry.write_image lent (image_for lent fs)).answer
+    of_image : (lent : Lent) → NoFunction (entry.write_image lent (image_for lent fs)).answer
     of_image lent = by_room lent (leb (length (image_for lent fs)) lent.output_bytes)
 
 module _ (limits : Limits) (tree : List ℕ) (lent lent' : Lent) where
-  abbrev Same_in_both : Type 0
-  Same_in_both = Same_function (compile_within limits tree lent).answer (compile_within limits tree lent').answer
+  abbrev SameInBoth : Type 0
+  SameInBoth = SameFunction (compile_within limits tree lent).answer (compile_within limits tree lent').answer
 
   -- two rooms that are enough give the same function, whatever is asked for; where the same is asked for, the same answer: Room `enough_in_both`
-  pub same_in_both : Enough (compile_within limits tree lent).answer → Enough (compile_within limits tree lent').answer → Same_in_both
+  pub same_in_both : Enough (compile_within limits tree lent).answer → Enough (compile_within limits tree lent').answer → SameInBoth
   same_in_both n n' = let (x, e, e') = one_in_both limits tree lent lent' n n' in rw (e, e') (same_out lent lent' x)
 
   -- and so do two rooms with one code limit, 30 and 31 among their answers
   pub same_by_limit : code_limit lent ≡ code_limit lent' → (compile_within limits tree lent).answer.number ≢ 1 →
-      (compile_within limits tree lent').answer.number ≢ 1 → Same_in_both
+      (compile_within limits tree lent').answer.number ≢ 1 → SameInBoth
   same_by_limit l n n' =
       rw (has_table limits tree lent n, has_table limits tree lent' n', l) (same_out lent lent' (compile_tree limits tree (code_limit lent')))

@@ -148,15 +148,15 @@ module _ (image : List ℕ) where
           record { content = rw (drop-cons image at 0 h.0, h.1) (ap (λ (ds : List ℕ). get_or image at 0 ∷ ds) u); end = omega (arith, k.end) }
 
   -- a function's code is its record's end
-  abbrev Code_ends : List ℕ → ℕ → Type 0
-  Code_ends ops next = (length ops ≤ next) × (ops ≡ take (length ops) (drop (next - length ops) image))
+  abbrev CodeEnds : List ℕ → ℕ → Type 0
+  CodeEnds ops next = (length ops ≤ next) × (ops ≡ take (length ops) (drop (next - length ops) image))
 
-  code_ends : (ops : List ℕ) (at next : ℕ) → Stretch image at ops next → Code_ends ops next
+  code_ends : (ops : List ℕ) (at next : ℕ) → Stretch image at ops next → CodeEnds ops next
   code_ends ops at next s =
       let e : next - length ops ≡ at = omega (arith, s.end) in
       (omega (arith, s.end), subst⁻¹ (λ (i : ℕ). ops ≡ take (length ops) (drop i image)) e s.content)
 
-  function_ends : (at : ℕ) → Makes (file.read_function image) at (λ (f : ObjectFunction) next. Code_ends f.chunk.ops next)
+  function_ends : (at : ℕ) → Makes (file.read_function image) at (λ (f : ObjectFunction) next. CodeEnds f.chunk.ops next)
   unfolding file.read_function
   function_ends at =
       next _ (λ _ _ _. first _
@@ -212,12 +212,12 @@ module _ (image : List ℕ) where
             λ t j e'. omega (arith, (wider 1 _ (byte_next ImageRefused) at).run m i e, ((need_so _ ImageRefused i).run t j e').1);
       })
 
-  record In_a_row (fs : List ObjectFunction) : Type 0 where
+  record InARow (fs : List ObjectFunction) : Type 0 where
     count : ℕ
     end : ℕ
     read : r.many count (file.read_function image) 6 ≡ got fs end
 
-  functions_read : Makes (file.read_functions image) 0 (λ fs _. In_a_row fs)
+  functions_read : Makes (file.read_functions image) 0 (λ fs _. InARow fs)
   unfolding file.read_functions
   functions_read =
       next _ (λ t i e.
@@ -244,14 +244,14 @@ module _ (image : List ℕ) where
   unfolding checker.code_before r.◌>>◌ r.go_on
   start_of k f n = rw (n.before, n.here)
 
-  stretch_of : (fs : List ObjectFunction) (k : ℕ) (f : ObjectFunction) → In_a_row fs → get_elem? fs k ≡ some f →
+  stretch_of : (fs : List ObjectFunction) (k : ℕ) (f : ObjectFunction) → InARow fs → get_elem? fs k ≡ some f →
       f.chunk.ops ≡ take (length f.chunk.ops) (drop (start k) image)
   stretch_of fs k f row e =
       let n = (nth_read (file.read_function image) row.count k 6 f).run fs row.end row.read e in
       subst⁻¹ (λ (i : ℕ). f.chunk.ops ≡ take (length f.chunk.ops) (drop i image)) (start_of k f n)
       ((function_ends n.place).run f n.after n.here).1
 
-  in_a_row : (fs : List ObjectFunction) → image_of image ≡ some fs → In_a_row fs
+  in_a_row : (fs : List ObjectFunction) → image_of image ≡ some fs → InARow fs
   unfolding image_of checker.checked file.read_image
   in_a_row fs e = by_read (file.read_functions image 0) refl e
     where
@@ -259,8 +259,8 @@ module _ (image : List ℕ) where
       by_sound true gs e = cc
       by_sound false gs e = let z : ◌≡◌ {A = ℕ} 0 1 = cc in absurd (omega arith)
 
-      by_read : (o : Read (List ObjectFunction)) → file.read_functions image 0 ≡ o → checker.checked o ≡ some fs → In_a_row fs
-      by_read (got gs next) e₁ e₂ = subst In_a_row (by_sound (checker.sound gs) gs e₂) (functions_read.run gs next e₁)
+      by_read : (o : Read (List ObjectFunction)) → file.read_functions image 0 ≡ o → checker.checked o ≡ some fs → InARow fs
+      by_read (got gs next) e₁ e₂ = subst InARow (by_sound (checker.sound gs) gs e₂) (functions_read.run gs next e₁)
       by_read (bad fault) e₁ e₂ = let z : ◌≡◌ {A = ℕ} 0 1 = cc in absurd (omega arith)
 
   pub code_stretch : (k : ℕ) → code_of image k ≡ take (length (code_of image k)) (drop (code_place image k) image)

@@ -20,7 +20,7 @@ use Rattle.rules.specs.Compiler.{Upvalue, Local, FunctionType}
 use Rattle.rules_laws.proofs.Facts.{All}
 use Rattle.rules_laws.proofs.Trees.{Leaf, any_leaf, anything}
 use Rattle.rules_laws.proofs.Steps.{Laws, Inner}
-use Rattle.rules_laws.proofs.Sizes.{Likes, Raised_if, resolve_upvalue}
+use Rattle.rules_laws.proofs.Sizes.{Likes, RaisedIf, resolve_upvalue}
 use Rattle.rules_laws.proofs.TreeBytes.{fitting}
 
 -- ## Which functions are open
@@ -40,8 +40,8 @@ whos (x ∷ xs) = who x ∷ whos xs
 abbrev pub open_functions : Compiler → List Who
 open_functions s = whos (s.ctx ∷ s.parents)
 
-abbrev pub Inner_one : Who → Type 0
-Inner_one w = Inner w.1
+abbrev pub InnerOne : Who → Type 0
+InnerOne w = Inner w.1
 
 -- a name that is looked up changes neither
 looked_up : (xs ys : List CompilerCtx) → Likes xs ys → whos ys ≡ whos xs
@@ -68,7 +68,7 @@ module _ (l : Leaf) (nests : Nests l) (b : Who) (bs : List Who) where
   -- what was opened since, over those that were open before
   pub record At (g : l.level) (s : Compiler) : Type 0 where
     pub opened : List Who
-    pub inner : All Inner_one opened
+    pub inner : All InnerOne opened
     pub are : open_functions s ≡ opened ++ (b ∷ bs)
     pub deep : nests.deep g (length opened)
 
@@ -165,7 +165,7 @@ module _ (l : Leaf) (nests : Nests l) (b : Who) (bs : List Who) where
     need _ _
     update _ (λ x. refl)
 
-  resolved : {g : l.level} (f : Found) (outer : Resolved) (name : ℕ) (span : Span) (s : Compiler) → At g s → Raised_if s.ctx s.parents outer →
+  resolved : {g : l.level} (f : Found) (outer : Resolved) (name : ℕ) (span : Span) (s : Compiler) → At g s → RaisedIf s.ctx s.parents outer →
       Ends g (c.resolved f outer name span s)
   unfolding c.resolved c.◌>>◌ go_on c.put_ctxs c.return c.refuse
   resolved (at_slot slot) outer name span s j h = j
@@ -204,7 +204,7 @@ module _ (l : Leaf) (nests : Nests l) (b : Who) (bs : List Who) where
   unfolding c.end_ctx c.◌>>=◌ go_on c.the c.back_to
   end_ctx {g} {h} up = record { run = λ s j. by_opened s s.parents j.opened j.are j.inner j.deep }
     where
-      by_opened : (s : Compiler) (ps : List CompilerCtx) (os : List Who) → who s.ctx ∷ whos ps ≡ os ++ (b ∷ bs) → All Inner_one os →
+      by_opened : (s : Compiler) (ps : List CompilerCtx) (os : List Who) → who s.ctx ∷ whos ps ≡ os ++ (b ∷ bs) → All InnerOne os →
           nests.deep h (length os) → Ends g (c.back_to ps s)
       by_opened s ps [] e is d = absurd (nests.some_open g h up d)
       by_opened s [] (o ∷ os) e is d = absurd (omega (arith, ap length e, length-append os (b ∷ bs)))

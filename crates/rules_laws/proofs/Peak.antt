@@ -18,11 +18,11 @@ use Rattle.rules.specs.Tree.{Stmts}
 use Rattle.rules.specs.Chunk.{Chunk, Constant, CF, Written, at_place, no_room, write_constant, ObjectFunction}
 use Rattle.rules.specs.Compiler as c
 use Rattle.rules.specs.Compiler.{Compiler, CompilerCtx, Compile, Outcome, ok, err, go_on, Found, at_slot, uninitialized, no_local, Resolved, captured, nowhere, failed, Upvalue, Local, FunctionType}
-use Rattle.rules_laws.proofs.Refusals.{Rusts, Refused_by}
+use Rattle.rules_laws.proofs.Refusals.{Rusts, RefusedBy}
 use Rattle.rules_laws.proofs.Steps as steps
 use Rattle.rules_laws.proofs.Steps.{Laws}
 use Rattle.rules_laws.proofs.Trees.{anything, stmts_any}
-use Rattle.rules_laws.proofs.Sizes.{emitted, byte_fits, byte_full, one_more, Placed, placed, Likes, Raised_if, open_code_step}
+use Rattle.rules_laws.proofs.Sizes.{emitted, byte_fits, byte_full, one_more, Placed, placed, Likes, RaisedIf, open_code_step}
 use Rattle.rules_laws.proofs.Sizes as sizes
 
 -- ## The run that meets no limit
@@ -66,18 +66,18 @@ peak [] = 0
 peak (t ∷ ts) = max (c.open_code t) (peak ts)
 
 -- the first of these states in which it is more than the limit
-pub data First_above (limit : ℕ) : List Compiler → Compiler → Type 0 where
-  here : {t : Compiler} {ts : List Compiler} → limit < c.open_code t → First_above limit (t ∷ ts) t
-  later : {t u : Compiler} {ts : List Compiler} → c.open_code t ≤ limit → First_above limit ts u → First_above limit (t ∷ ts) u
+pub data FirstAbove (limit : ℕ) : List Compiler → Compiler → Type 0 where
+  here : {t : Compiler} {ts : List Compiler} → limit < c.open_code t → FirstAbove limit (t ∷ ts) t
+  later : {t u : Compiler} {ts : List Compiler} → c.open_code t ≤ limit → FirstAbove limit ts u → FirstAbove limit (t ∷ ts) u
 
 -- 30, in the function whose byte came to that state
 pub record Full {A : Type 0} (limit : ℕ) (ts : List Compiler) (o : Outcome A) : Type 0 where
   pub moment : Compiler
-  pub first : First_above limit ts moment
+  pub first : FirstAbove limit ts moment
   pub is : o ≡ err (c.stopped CodeFull moment)
 
-pub full_by_30 : {A : Type 0} {limit : ℕ} {ts : List Compiler} {o : Outcome A} → Full limit ts o → Refused_by CodeFull o
-full_by_30 h = subst⁻¹ (Refused_by CodeFull) h.is refl
+pub full_by_30 : {A : Type 0} {limit : ℕ} {ts : List Compiler} {o : Outcome A} → Full limit ts o → RefusedBy CodeFull o
+full_by_30 h = subst⁻¹ (RefusedBy CodeFull) h.is refl
 
 -- a step, given for every limit
 pub record Counted {A : Type 0} (m : ℕ → Compile A) : Type 0 where
@@ -95,11 +95,11 @@ peak_both : (ts us : List Compiler) → peak (ts ++ us) ≡ max (peak ts) (peak 
 peak_both [] us = omega arith
 peak_both (t ∷ ts) us = omega (arith, peak_both ts us)
 
-first_left : {limit : ℕ} {ts : List Compiler} {t : Compiler} (us : List Compiler) → First_above limit ts t → First_above limit (ts ++ us) t
+first_left : {limit : ℕ} {ts : List Compiler} {t : Compiler} (us : List Compiler) → FirstAbove limit ts t → FirstAbove limit (ts ++ us) t
 first_left us (here l) = here l
 first_left us (later l h) = later l (first_left us h)
 
-first_right : {limit : ℕ} (ts : List Compiler) {us : List Compiler} {t : Compiler} → peak ts ≤ limit → First_above limit us t → First_above limit (ts ++ us) t
+first_right : {limit : ℕ} (ts : List Compiler) {us : List Compiler} {t : Compiler} → peak ts ≤ limit → FirstAbove limit us t → FirstAbove limit (ts ++ us) t
 first_right [] l h = h
 first_right (t ∷ ts) l h = later {t = t} (omega arith) (first_right ts (omega arith) h)
 
@@ -310,7 +310,7 @@ likes_lengths (x ∷ xs) [] h = absurd h
 likes_lengths (x ∷ xs) (y ∷ ys) h =
     ap (λ (n : ℕ). n ∷ of_open ys) h.0.ops ∙ ap (λ (ls : List ℕ). length x.chunk.ops ∷ ls) (likes_lengths xs ys h.1)
 
-resolved : (f : Found) (outer : Resolved) (name : ℕ) (span : Span) (s : Compiler) → Raised_if s.ctx s.parents outer →
+resolved : (f : Found) (outer : Resolved) (name : ℕ) (span : Span) (s : Compiler) → RaisedIf s.ctx s.parents outer →
     Rests s (c.resolved f outer name span s)
 unfolding c.resolved c.◌>>◌ go_on c.put_ctxs c.return c.refuse
 resolved (at_slot slot) outer name span s h = same
@@ -485,10 +485,10 @@ module _ (stmts : Stmts) where
   peak_full limit l = (whole stmts).full limit c.new l
 
   -- 30 is no answer of the run that meets no limit
-  pub free_run_not_full : Refused_by CodeFull free_run → ⊥
+  pub free_run_not_full : RefusedBy CodeFull free_run → ⊥
   free_run_not_full e = by_path run_path e
     where
-      by_path : {x : Lengths} {ts : List Compiler} {o : Outcome (List ObjectFunction)} → Path x ts o → Refused_by CodeFull o → ⊥
+      by_path : {x : Lengths} {ts : List Compiler} {o : Outcome (List ObjectFunction)} → Path x ts o → RefusedBy CodeFull o → ⊥
       by_path (comes_to h) e = e
       by_path (refuses a) e = subst Rusts e a
       by_path (byte h d p) e = by_path p e
@@ -517,15 +517,15 @@ still_all (opened h) = omega (arith, still_all h)
 still_all (ended {n} {ls} {fs} h) = omega (arith, still_all h, sum_both fs (n ∷ []))
 
 -- a byte adds one to the code of all functions, and nothing else changes how much that is
-abbrev pub Adds_up : {A : Type 0} → Lengths → List Compiler → Outcome A → Type 0
-Adds_up x ts (ok a t) = all_of (lengths t) ≡ all_of x + length ts
-Adds_up x ts (err y) = Unit {0}
+abbrev pub AddsUp : {A : Type 0} → Lengths → List Compiler → Outcome A → Type 0
+AddsUp x ts (ok a t) = all_of (lengths t) ≡ all_of x + length ts
+AddsUp x ts (err y) = Unit {0}
 
-pub adds_up : {A : Type 0} {x : Lengths} {ts : List Compiler} {o : Outcome A} → Path x ts o → Adds_up x ts o
+pub adds_up : {A : Type 0} {x : Lengths} {ts : List Compiler} {o : Outcome A} → Path x ts o → AddsUp x ts o
 adds_up (comes_to h) = omega (arith, still_all h)
 adds_up (refuses a) = tt
 adds_up {A} {x = x} (byte {n = n} {ls = ls} {fs = fs} {t = t} {ts = ts} {o = o} h e p) = onward o (adds_up p)
   where
-    onward : (o : Outcome A) → Adds_up (lengths t) ts o → Adds_up x (t ∷ ts) o
+    onward : (o : Outcome A) → AddsUp (lengths t) ts o → AddsUp x (t ∷ ts) o
     onward (ok a u) k = omega (arith, k, still_all h, ap all_of e)
     onward (err y) k = tt

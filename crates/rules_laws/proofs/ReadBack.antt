@@ -35,31 +35,31 @@ pub record Narrow (s : Span) : Type 0 where
   pub start : s.start < 4_294_967_296
   pub end : s.end < 4_294_967_296
 
-pub record Fits_run (run : Run) : Type 0 where
+pub record FitsRun (run : Run) : Type 0 where
   pub span : Narrow run.span
   pub count : run.count < 256
 
-abbrev pub Fits_constant : Constant → Type 0
-Fits_constant (CN bits) = bits ≤ max_bits
-Fits_constant (CS name) = name < 65_536
-Fits_constant (CF number) = number < 4_294_967_296
+abbrev pub FitsConstant : Constant → Type 0
+FitsConstant (CN bits) = bits ≤ max_bits
+FitsConstant (CS name) = name < 65_536
+FitsConstant (CF number) = number < 4_294_967_296
 
 -- each number of a function is below what its field holds
-pub record Fits_form (f : ObjectFunction) : Type 0 where
+pub record FitsForm (f : ObjectFunction) : Type 0 where
   pub name : f.name < 65_536
   pub arity : f.arity < 256
   pub upvalue_count : f.upvalue_count < 65_536
   pub constants : length f.chunk.constants < 65_536
   pub runs : length f.chunk.spans < 4_294_967_296
   pub code : length f.chunk.ops < 4_294_967_296
-  pub each_constant : All Fits_constant f.chunk.constants
-  pub each_run : All Fits_run f.chunk.spans
+  pub each_constant : All FitsConstant f.chunk.constants
+  pub each_run : All FitsRun f.chunk.spans
   pub each_byte : Bytes f.chunk.ops
 
-pub record Fits_image (fs : List ObjectFunction) : Type 0 where
+pub record FitsImage (fs : List ObjectFunction) : Type 0 where
   pub some : 0 < length fs
   pub few : length fs < 4_294_967_296
-  pub each : All Fits_form fs
+  pub each : All FitsForm fs
 
 -- an offset is four bytes
 abbrev pub Offsets : List ℕ → Type 0
@@ -284,7 +284,7 @@ module _ (bytes : List ℕ) where
 
   -- ## Records
 
-  constant : (v : Constant) → Fits_constant v → (xs : List ℕ) → Reads (file.read_constant bytes) (image.constant_bytes v ++ xs) xs v
+  constant : (v : Constant) → FitsConstant v → (xs : List ℕ) → Reads (file.read_constant bytes) (image.constant_bytes v ++ xs) xs v
   unfolding file.read_constant image.constant_bytes file.constant_fields file.constant_marks r.one_of r.known computes.reader
   constant (CN bits) l xs =
       first _ (first _ (mark ImageRefused 0x43 0x4E (le 8 bits ++ xs)) (return file.number_mark))
@@ -296,7 +296,7 @@ module _ (bytes : List ℕ) where
       first _ (first _ (mark ImageRefused 0x43 0x46 (le 4 number ++ xs)) (return file.function_mark))
       (first _ (u32 ImageRefused number xs l) (return (CF number)))
 
-  a_run : (run : Run) → Fits_run run → (xs : List ℕ) → Reads (file.read_run bytes) (image.run_bytes run ++ xs) xs run
+  a_run : (run : Run) → FitsRun run → (xs : List ℕ) → Reads (file.read_run bytes) (image.run_bytes run ++ xs) xs run
   unfolding file.read_run image.run_bytes
   a_run run h xs =
       simp append_assoc
@@ -308,7 +308,7 @@ module _ (bytes : List ℕ) where
   code [] xs h = return []
   code (b ∷ ops) xs h = first _ (byte ImageRefused b (ops ++ xs)) (first _ (code ops xs h.1) (return (b ∷ ops)))
 
-  pub function : (f : ObjectFunction) → Fits_form f → (xs : List ℕ) → Reads (file.read_function bytes) (image.function_bytes f ++ xs) xs f
+  pub function : (f : ObjectFunction) → FitsForm f → (xs : List ℕ) → Reads (file.read_function bytes) (image.function_bytes f ++ xs) xs f
   unfolding file.read_function image.function_bytes
   function f h xs =
       simp append_assoc
@@ -320,8 +320,8 @@ module _ (bytes : List ℕ) where
       (first _ (u32 ImageRefused (length f.chunk.spans) _ h.runs)
       (first _ (u32 ImageRefused (length f.chunk.ops) _ h.code)
       (first _ (many (file.read_constant bytes) image.constant_bytes f.chunk.constants _
-      (all_map Fits_constant _ constant f.chunk.constants h.each_constant))
-      (first _ (many (file.read_run bytes) image.run_bytes f.chunk.spans _ (all_map Fits_run _ a_run f.chunk.spans h.each_run))
+      (all_map FitsConstant _ constant f.chunk.constants h.each_constant))
+      (first _ (many (file.read_run bytes) image.run_bytes f.chunk.spans _ (all_map FitsRun _ a_run f.chunk.spans h.each_run))
       (mark_is ImageRefused 0x43 0x44 _ ⟫
       first _ (code f.chunk.ops xs h.each_byte) (return f))))))))))
 
@@ -348,7 +348,7 @@ module _ (bytes : List ℕ) where
   read_behind true fs few p = here (λ at e. rw (ne_eqb at (length bytes) (λ z. omega arith)) (directory fs few (p refl)))
   read_behind false fs few p = here (λ at e. rw (eq-eqb at (length bytes) (omega arith)) (return tt))
 
-  functions : (with-directory : Bool) (fs : List ObjectFunction) → Fits_image fs → (with-directory ≡ true → Placed fs) →
+  functions : (with-directory : Bool) (fs : List ObjectFunction) → FitsImage fs → (with-directory ≡ true → Placed fs) →
       Reads (file.read_functions bytes) (image.image_bytes fs ++ directory_if with-directory fs) [] fs
   unfolding file.read_functions image.image_bytes
   functions with-directory fs h p =
@@ -356,14 +356,14 @@ module _ (bytes : List ℕ) where
       (mark_is ImageRefused 0x49 0x4D _ ⟫
       first _ (u32 ImageRefused (length fs) _ h.few)
       (need (ltb 0 (length fs)) ImageRefused (lt→ltb 0 (length fs) h.some) ⟫
-      first _ (many (file.read_function bytes) image.function_bytes fs (directory_if with-directory fs) (all_map Fits_form _ function fs h.each))
+      first _ (many (file.read_function bytes) image.function_bytes fs (directory_if with-directory fs) (all_map FitsForm _ function fs h.each))
       (read_behind with-directory fs h.few p ⟫ here (λ at e. need (eqb at (length bytes)) ImageRefused (at_end at e) ⟫ return fs))))
     where
       at_end : (at : ℕ) → at + 0 ≡ length bytes → T (eqb at (length bytes))
       at_end at e = let z : length bytes ≡ at = omega arith in rw z (eqb_refl at)
 
 -- the image file loses nothing
-pub read_placed : (directory : Bool) (fs : List ObjectFunction) → Fits_image fs → (directory ≡ true → Placed fs) →
+pub read_placed : (directory : Bool) (fs : List ObjectFunction) → FitsImage fs → (directory ≡ true → Placed fs) →
     file.read_image (image.image_with directory fs) ≡ got fs (length (image.image_with directory fs))
 unfolding file.read_image
 read_placed directory fs h p = rw (image_parts directory fs)
@@ -375,16 +375,16 @@ read_placed directory fs h p = rw (image_parts directory fs)
     come : Comes whole (file.read_functions whole 0) [] fs
     come = (functions whole directory fs h p).run 0 (record { passed = []; all_of = refl; place = refl })
 
-pub read_back_with : (directory : Bool) (fs : List ObjectFunction) → Fits_image fs → (directory ≡ true → length (image.image_bytes fs) ≤ 4_294_967_296) →
+pub read_back_with : (directory : Bool) (fs : List ObjectFunction) → FitsImage fs → (directory ≡ true → length (image.image_bytes fs) ≤ 4_294_967_296) →
     file.read_image (image.image_with directory fs) ≡ got fs (length (image.image_with directory fs))
 read_back_with directory fs h l = read_placed directory fs h (λ e. placed fs (l e))
 
-pub read_back : (fs : List ObjectFunction) → Fits_image fs → file.read_image (image.image_bytes fs) ≡ got fs (length (image.image_bytes fs))
+pub read_back : (fs : List ObjectFunction) → FitsImage fs → file.read_image (image.image_bytes fs) ≡ got fs (length (image.image_bytes fs))
 unfolding image.image_with
 read_back fs h = read_placed false fs h (λ e. let z : ◌≡◌ {A = ℕ} 0 1 = cc in absurd (omega arith))
 
 -- so the checker accepts the image of sound functions, with the number of instructions in the division of all their code
-pub placed_accepted : (directory : Bool) (fs : List ObjectFunction) → Fits_image fs → (directory ≡ true → Placed fs) → T (sound fs) →
+pub placed_accepted : (directory : Bool) (fs : List ObjectFunction) → FitsImage fs → (directory ≡ true → Placed fs) → T (sound fs) →
     check (image.image_with directory fs) ≡ accepted (instruction_count fs fs)
 unfolding check checker.image_of checker.checked checker.verdict
 placed_accepted directory fs h p t = rw (read_placed directory fs h p) (by_test (sound fs) t)
@@ -393,11 +393,11 @@ placed_accepted directory fs h p t = rw (read_placed directory fs h p) (by_test 
     by_test true t = refl
     by_test false t = absurd t
 
-pub sound_accepted_with : (directory : Bool) (fs : List ObjectFunction) → Fits_image fs →
+pub sound_accepted_with : (directory : Bool) (fs : List ObjectFunction) → FitsImage fs →
     (directory ≡ true → length (image.image_bytes fs) ≤ 4_294_967_296) → T (sound fs) →
     check (image.image_with directory fs) ≡ accepted (instruction_count fs fs)
 sound_accepted_with directory fs h l t = placed_accepted directory fs h (λ e. placed fs (l e)) t
 
-pub sound_accepted : (fs : List ObjectFunction) → Fits_image fs → T (sound fs) → check (image.image_bytes fs) ≡ accepted (instruction_count fs fs)
+pub sound_accepted : (fs : List ObjectFunction) → FitsImage fs → T (sound fs) → check (image.image_bytes fs) ≡ accepted (instruction_count fs fs)
 unfolding image.image_with
 sound_accepted fs h t = placed_accepted false fs h (λ e. let z : ◌≡◌ {A = ℕ} 0 1 = cc in absurd (omega arith)) t

@@ -91,9 +91,9 @@ Compilers refusal.NoSuchFunction = ⊥
 Compilers refusal.NoSuchByte = ⊥
 
 -- what the compiler refuses by is the Rust's own, or 30
-pub data Compiled_by : Refusal → Type 0 where
-  a_rule : {r : Refusal} → Rusts r → Compiled_by r
-  the_limit : Compiled_by refusal.CodeFull
+pub data CompiledBy : Refusal → Type 0 where
+  a_rule : {r : Refusal} → Rusts r → CompiledBy r
+  the_limit : CompiledBy refusal.CodeFull
 
 pub rusts_compilers : (r : Refusal) → Rusts r → Compilers r
 rusts_compilers refusal.WorkShort h = absurd h
@@ -121,7 +121,7 @@ rusts_compilers refusal.ImageRefused h = absurd h
 rusts_compilers refusal.NoSuchFunction h = absurd h
 rusts_compilers refusal.NoSuchByte h = absurd h
 
-pub compiled_by : (r : Refusal) → Compilers r → Compiled_by r
+pub compiled_by : (r : Refusal) → Compilers r → CompiledBy r
 compiled_by refusal.WorkShort h = absurd h
 compiled_by refusal.TreeTooLong h = absurd h
 compiled_by (refusal.TreeForm at) h = absurd h
@@ -148,9 +148,9 @@ compiled_by refusal.NoSuchFunction h = absurd h
 compiled_by refusal.NoSuchByte h = absurd h
 
 -- a step refuses so, in whatever function
-abbrev pub Refused_by : {A : Type 0} → Refusal → Outcome A → Type 0
-Refused_by r (ok a s) = ⊥
-Refused_by r (err x) = x.what ≡ r
+abbrev pub RefusedBy : {A : Type 0} → Refusal → Outcome A → Type 0
+RefusedBy r (ok a s) = ⊥
+RefusedBy r (err x) = x.what ≡ r
 
 -- ## Numbers and fields
 

@@ -24,7 +24,7 @@ use Rattle.rules.specs.Image.{image_with}
 use Rattle.rules.specs.Entry as entry
 use Rattle.rules.specs.Entry.{Lent, Left, asks_directory, code_limit, Compiled, functions_are, refused, compile_tree, compile_lent, compile_within, compile}
 use Rattle.rules_laws.proofs.Checks.{image_for, room}
-use Rattle.rules_laws.proofs.Refusals.{Refused_by, number_of, no_length}
+use Rattle.rules_laws.proofs.Refusals.{RefusedBy, number_of, no_length}
 use Rattle.rules_laws.proofs.Agrees as agreeing
 use Rattle.rules_laws.proofs.Agrees.{Under, agrees}
 
@@ -47,26 +47,26 @@ abbrev pub Met : Compiled → Type 0
 Met (functions_are fs) = ⊥
 Met (refused y) = y.what ≡ CodeFull
 
-pub data Under_compiled (x x' : Compiled) : Type 0 where
-  full : Met x → Under_compiled x x'
-  same : x ≡ x' → Under_compiled x x'
+pub data UnderCompiled (x x' : Compiled) : Type 0 where
+  full : Met x → UnderCompiled x x'
+  same : x ≡ x' → UnderCompiled x x'
 
-met : (o : Outcome (List ObjectFunction)) → Refused_by CodeFull o → Met (entry.from_outcome o)
+met : (o : Outcome (List ObjectFunction)) → RefusedBy CodeFull o → Met (entry.from_outcome o)
 unfolding entry.from_outcome
 met (ok fs s) h = h
 met (err x) h = h
 
-from_outcome : {o o' : Outcome (List ObjectFunction)} → Under o o' → Under_compiled (entry.from_outcome o) (entry.from_outcome o')
+from_outcome : {o o' : Outcome (List ObjectFunction)} → Under o o' → UnderCompiled (entry.from_outcome o) (entry.from_outcome o')
 from_outcome {o} (agreeing.full h) = full (met o h)
 from_outcome (agreeing.same e) = same (ap entry.from_outcome e)
 
-from_read : (r : Read Stmts) (limit limit' : ℕ) → limit ≤ limit' → Under_compiled (entry.from_read r limit) (entry.from_read r limit')
+from_read : (r : Read Stmts) (limit limit' : ℕ) → limit ≤ limit' → UnderCompiled (entry.from_read r limit) (entry.from_read r limit')
 unfolding entry.from_read
 from_read (got stmts next) limit limit' l = from_outcome (agrees limit limit' l stmts)
 from_read (bad r) limit limit' l = same refl
 
 module _ (limits : Limits) (tree : List ℕ) where
-  pub tree_agrees : (limit limit' : ℕ) → limit ≤ limit' → Under_compiled (compile_tree limits tree limit) (compile_tree limits tree limit')
+  pub tree_agrees : (limit limit' : ℕ) → limit ≤ limit' → UnderCompiled (compile_tree limits tree limit) (compile_tree limits tree limit')
   unfolding compile_tree
   tree_agrees limit limit' l = by_length (leb (length tree) max_tree)
     where
@@ -74,7 +74,7 @@ module _ (limits : Limits) (tree : List ℕ) where
       read = read_tree tree limits.depth limits.funs
 
       by_length : (b : Bool) →
-          Under_compiled (if b then entry.from_read read limit else refused (outside TreeTooLong))
+          UnderCompiled (if b then entry.from_read read limit else refused (outside TreeTooLong))
           (if b then entry.from_read read limit' else refused (outside TreeTooLong))
       by_length true = from_read read limit limit' l
       by_length false = same refl
@@ -151,7 +151,7 @@ module _ (lent lent' : Lent) (larger : Larger lent lent') where
       subst (λ (o : ℕ). Same lent lent' (entry.write_image lent (image_for lent fs)) (entry.write_image lent' (image_with (asks_directory o) fs)))
       larger.options (image_same (image_for lent fs) n)
 
-  out_agrees : (x x' : Compiled) → Under_compiled x x' → Enough (entry.write_out lent x).answer →
+  out_agrees : (x x' : Compiled) → UnderCompiled x x' → Enough (entry.write_out lent x).answer →
       Same lent lent' (entry.write_out lent x) (entry.write_out lent' x')
   out_agrees x x' (full h) n = absurd (n.1 (met_is_30 lent x h))
   out_agrees x x' (same e) n = subst (λ (x' : Compiled). Same lent lent' (entry.write_out lent x) (entry.write_out lent' x')) e (out_same x n.2)
@@ -255,7 +255,7 @@ module _ (limits : Limits) (tree : List ℕ) where
       compile_tree limits tree limit ≡ compile_tree limits tree limit'
   neither_full limit limit' n n' = by_order (leb limit limit') refl
     where
-      of_under : {x x' : Compiled} → (Met x → ⊥) → Under_compiled x x' → x ≡ x'
+      of_under : {x x' : Compiled} → (Met x → ⊥) → UnderCompiled x x' → x ≡ x'
       of_under n (full h) = absurd (n h)
       of_under n (same e) = e
 

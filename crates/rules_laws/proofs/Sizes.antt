@@ -17,12 +17,12 @@ use Rattle.rules.specs.Chunk.{Chunk, Constant, write_u8, Written, at_place, no_r
 use Rattle.rules.specs.Compiler as c
 use Rattle.rules.specs.Compiler.{Compiler, CompilerCtx, Compile, Outcome, ok, err, go_on, Found, at_slot, uninitialized, no_local, Resolved, captured, nowhere, failed, Upvalue, Local}
 use Rattle.rules_laws.proofs.Facts.{capture_length, initialize_length}
-use Rattle.rules_laws.proofs.Trees.{Of_stmts, stmts_size}
+use Rattle.rules_laws.proofs.Trees.{OfStmts, stmts_size}
 use Rattle.rules_laws.proofs.Refusals.{Rusts}
 use Rattle.rules_laws.proofs.Steps as steps
 use Rattle.rules_laws.proofs.Steps.{Laws}
 use Rattle.rules_laws.proofs.Held as open-ones
-use Rattle.rules_laws.proofs.Held.{sum_of, Grown_if, Holds, Spent, more}
+use Rattle.rules_laws.proofs.Held.{sum_of, GrownIf, Holds, Spent, more}
 use Rattle.rules_laws.proofs.Spends as spends
 use Rattle.rules_laws.proofs.Spends.{Spends, Ends}
 use Rattle.rules_laws.proofs.TreeBytes.{fitting}
@@ -147,25 +147,25 @@ reached_like x x' ps qs h hs =
           (omega (arith, h.ops, h.pairs)),
     )
 
-abbrev pub Raised_if : CompilerCtx → List CompilerCtx → Resolved → Type 0
-Raised_if ctx parents (captured idx ctx' parents') = Like ctx ctx' × Likes parents parents'
-Raised_if ctx parents nowhere = Unit {0}
-Raised_if ctx parents (failed r) = Rusts r
+abbrev pub RaisedIf : CompilerCtx → List CompilerCtx → Resolved → Type 0
+RaisedIf ctx parents (captured idx ctx' parents') = Like ctx ctx' × Likes parents parents'
+RaisedIf ctx parents nowhere = Unit {0}
+RaisedIf ctx parents (failed r) = Rusts r
 
 added : (p : Option ℕ) (u : Upvalue) (span : Span) (ctx parent : CompilerCtx) (above parents : List CompilerCtx) → Likes (parent ∷ above) parents →
-    Raised_if ctx (parent ∷ above) (c.added p u span ctx parents)
+    RaisedIf ctx (parent ∷ above) (c.added p u span ctx parents)
 unfolding c.added
 added (some place) u span ctx parent above parents h = (like_self ctx, h)
 added none u span ctx parent above parents h = by_room (ltb (length ctx.upvalues) 256)
   where
     by_room : (b : Bool) →
-        Raised_if ctx (parent ∷ above)
+        RaisedIf ctx (parent ∷ above)
         (if b then captured (length ctx.upvalues) (c.with_upvalues ctx (ctx.upvalues ++ (u ∷ []))) parents else failed (TooManyUpvalues span))
     by_room true = (record { name = refl; type = refl; ops = refl; locals = refl; pairs = omega (arith, length-append ctx.upvalues (u ∷ [])) }, h)
     by_room false = tt
 
 through : (f : Found) (outer : Resolved) (name : ℕ) (span : Span) (ctx parent : CompilerCtx) (above : List CompilerCtx) →
-    Raised_if parent above outer → Raised_if ctx (parent ∷ above) (c.through f outer name span ctx parent above)
+    RaisedIf parent above outer → RaisedIf ctx (parent ∷ above) (c.through f outer name span ctx parent above)
 unfolding c.through c.further_out c.add_upvalue
 through (at_slot slot) outer name span ctx parent above o =
     added _ (record { idx = slot; is_local = true }) span ctx parent above (c.with_locals parent (c.capture name parent.locals) ∷ above)
@@ -177,13 +177,13 @@ through no_local nowhere name span ctx parent above o = tt
 through no_local (failed r) name span ctx parent above o = o
 
 pub resolve_upvalue : (name : ℕ) (span : Span) (ctx : CompilerCtx) (parents : List CompilerCtx) →
-    Raised_if ctx parents (c.resolve_upvalue name span ctx parents)
+    RaisedIf ctx parents (c.resolve_upvalue name span ctx parents)
 unfolding c.resolve_upvalue
 resolve_upvalue name span ctx [] = tt
 resolve_upvalue name span ctx (p ∷ ps) =
     through (c.find_local name p.locals) (c.resolve_upvalue name span p ps) name span ctx p ps (resolve_upvalue name span p ps)
 
-raised : (ctx : CompilerCtx) (parents : List CompilerCtx) (r : Resolved) → Raised_if ctx parents r → Grown_if reached 2 ctx parents r
+raised : (ctx : CompilerCtx) (parents : List CompilerCtx) (r : Resolved) → RaisedIf ctx parents r → GrownIf reached 2 ctx parents r
 raised ctx parents (captured idx ctx' parents') h =
     record { levels = likes_length parents parents' h.1; holds = reached_like ctx ctx' parents parents' h.0 h.1 }
 raised ctx parents nowhere h = tt
@@ -523,7 +523,7 @@ abbrev pub Within : Outcome (List ObjectFunction) → Type 0
 Within (ok fs s) = Unit {0}
 Within (err x) = Rusts x.what
 
-pub within : (limit most : ℕ) (stmts : Stmts) → Of_stmts (fitting most) stmts most → stmts_size stmts + 2 ≤ limit →
+pub within : (limit most : ℕ) (stmts : Stmts) → OfStmts (fitting most) stmts most → stmts_size stmts + 2 ≤ limit →
     Within (c.compile_functions limit stmts)
 unfolding c.compile_functions c.◌>>◌ c.the c.finish go_on
 within limit most stmts o room = by_outcome (c.compile_script limit stmts c.new) compiled

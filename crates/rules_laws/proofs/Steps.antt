@@ -24,14 +24,14 @@ use Rattle.rules.specs.Chunk.{Constant, CN, CS, CF}
 use Rattle.rules.specs.Compiler as c
 use Rattle.rules.specs.Compiler.{Compiler, Compile, FunctionType, Script, Function, Method, Initializer}
 use Rattle.rules_laws.proofs.Refusals.{Rusts}
-use Rattle.rules_laws.proofs.Trees.{Leaf, If_some, Of_literal, Of_expr, Of_exprs, Of_superclass, Of_stmt, Of_stmts, Of_fun, Of_methods}
+use Rattle.rules_laws.proofs.Trees.{Leaf, IfSome, OfLiteral, OfExpr, OfExprs, OfSuperclass, OfStmt, OfStmts, OfFun, OfMethods}
 use Rattle.rules_laws.proofs.Trees.{option_size, expr_size, exprs_size, stmt_size, stmts_size, fun_size, methods_size}
 
 -- what is asked of a number or a string
-abbrev pub Of_constant : Leaf → Constant → Type 0
-Of_constant l (CN bits) = l.bits bits
-Of_constant l (CS name) = l.name name
-Of_constant l (CF number) = ⊥
+abbrev pub OfConstant : Leaf → Constant → Type 0
+OfConstant l (CN bits) = l.bits bits
+OfConstant l (CS name) = l.name name
+OfConstant l (CF number) = ⊥
 
 -- the type of every function but the script
 abbrev pub Inner : FunctionType → Type 0
@@ -77,7 +77,7 @@ module _ (l : Leaf) (R : (A : Type 0) → (from to : l.level) → (code image : 
         R _ g h 0 0 (λ _. c.begin_ctx (c.new_ctx name arity type depth))
     -- steps that write: the bytes of a scope's end are paid for where its locals are declared, a closure's pairs where they are captured
     pub emit_u8 : {g : l.level} (b : ℕ) (span : Span) → l.span span → R _ g g 1 12 (λ limit. c.emit_u8 limit b span)
-    pub emit_constant : {g : l.level} (v : Constant) (span : Span) → Of_constant l v → l.span span →
+    pub emit_constant : {g : l.level} (v : Constant) (span : Span) → OfConstant l v → l.span span →
         R _ g g 1 22 (λ limit. c.emit_constant limit v span)
     pub end_scope : {g : l.level} (span : Span) → l.span span → R _ g g 0 0 (λ limit. c.end_scope limit span)
     pub end_function : {g h : l.level} (span : Span) → l.opens g h → l.span span →
@@ -137,7 +137,7 @@ module _ (l : Leaf) (R : (A : Type 0) → (from to : l.level) → (code image : 
       emit_u8 _ _ s
       emit_u8 _ _ s
 
-    pub emit_op_constant : {g : l.level} (b : ℕ) (v : Constant) (span : Span) → Of_constant l v → l.span span →
+    pub emit_op_constant : {g : l.level} (b : ℕ) (v : Constant) (span : Span) → OfConstant l v → l.span span →
         Has g g 2 34 (λ limit. c.emit_op_constant limit b v span)
     unfolding c.emit_op_constant
     emit_op_constant b v span o s = do
@@ -204,7 +204,7 @@ module _ (l : Leaf) (R : (A : Type 0) → (from to : l.level) → (code image : 
 
     -- ## Expressions
 
-    compile_literal : {g : l.level} (k : ExprLiteral) (span : Span) → Of_literal l k → l.span span →
+    compile_literal : {g : l.level} (k : ExprLiteral) (span : Span) → OfLiteral l k → l.span span →
         Has g g 2 34 (λ limit. c.compile_literal limit k span)
     unfolding c.compile_literal
     compile_literal (LitBool true) span o s = enough (emit_op _ _ s) (omega arith) (omega arith)
@@ -313,7 +313,7 @@ module _ (l : Leaf) (R : (A : Type 0) → (from to : l.level) → (code image : 
     mutual
       unfolding c.compile_expr
 
-      pub compile_expr : (e : Expr) {g : l.level} → Of_expr l e → Has g g (expr_size e) (17 * expr_size e) (λ limit. c.compile_expr limit e)
+      pub compile_expr : (e : Expr) {g : l.level} → OfExpr l e → Has g g (expr_size e) (17 * expr_size e) (λ limit. c.compile_expr limit e)
       compile_expr (ExprAssign span name value) o =
           enough
           (do
@@ -357,7 +357,7 @@ module _ (l : Leaf) (R : (A : Type 0) → (from to : l.level) → (code image : 
 
       pub compile_call : (e : Expr) (n : ℕ) (span : Span) {g : l.level} {k v : ℕ} {callee args : ℕ → Compile (Unit {0})} →
           R _ g g (expr_size e) (17 * expr_size e) callee → R _ g g k v args →
-          Of_expr l e → l.span span → R _ g g (expr_size e + k + 12) (17 * expr_size e + v + 204) (λ limit. c.compile_call limit e (callee limit) (args limit) n span)
+          OfExpr l e → l.span span → R _ g g (expr_size e + k + 12) (17 * expr_size e + v + 204) (λ limit. c.compile_call limit e (callee limit) (args limit) n span)
       compile_call (ExprGet _ name object) n span hc ha o s =
           enough (call_method name n span (compile_expr object o.2) ha o.1 s) (omega arith) (omega arith)
       compile_call (ExprSuper _ name) n span hc ha o s = enough (call_super name n span ha o.1 s) (omega arith) (omega arith)
@@ -369,7 +369,7 @@ module _ (l : Leaf) (R : (A : Type 0) → (from to : l.level) → (code image : 
       compile_call (ExprSet _ _ _ _) n span hc ha o s = call_value n span hc ha s
       compile_call (ExprVar _ _) n span hc ha o s = call_value n span hc ha s
 
-      pub compile_exprs : (es : Exprs) {g : l.level} → Of_exprs l es →
+      pub compile_exprs : (es : Exprs) {g : l.level} → OfExprs l es →
           Has g g (exprs_size es) (17 * exprs_size es) (λ limit. c.compile_exprs limit es)
       compile_exprs []ᵉ o = done
       compile_exprs (e ∷ᵉ es) o =
@@ -381,13 +381,13 @@ module _ (l : Leaf) (R : (A : Type 0) → (from to : l.level) → (code image : 
 
     -- ## Statements
 
-    compile_value : {g : l.level} (v : Option Expr) (span : Span) → If_some (Of_expr l) v → l.span span →
+    compile_value : {g : l.level} (v : Option Expr) (span : Span) → IfSome (OfExpr l) v → l.span span →
         Has g g (option_size expr_size v + 1) (17 * option_size expr_size v + 12) (λ limit. c.compile_value limit v span)
     unfolding c.compile_value
     compile_value none span o s = emit_op _ _ s
     compile_value (some value) span o s = enough (compile_expr value o) (omega arith) (omega arith)
 
-    return_value : {g : l.level} (t : FunctionType) (v : Option Expr) (span : Span) → If_some (Of_expr l) v → l.span span →
+    return_value : {g : l.level} (t : FunctionType) (v : Option Expr) (span : Span) → IfSome (OfExpr l) v → l.span span →
         Has g g (option_size expr_size v + 2) (17 * option_size expr_size v + 24) (λ limit. c.return_value limit t v span)
     unfolding c.return_value
     return_value Script v span o s = enough (refuse _ tt) (omega arith) (omega arith)
@@ -396,7 +396,7 @@ module _ (l : Leaf) (R : (A : Type 0) → (from to : l.level) → (code image : 
     return_value Function v span o s = enough (compile_value v span o s) (omega arith) (omega arith)
     return_value Method v span o s = enough (compile_value v span o s) (omega arith) (omega arith)
 
-    compile_return : {g : l.level} (v : Option Expr) (span : Span) → If_some (Of_expr l) v → l.span span →
+    compile_return : {g : l.level} (v : Option Expr) (span : Span) → IfSome (OfExpr l) v → l.span span →
         Has g g (option_size expr_size v + 3) (17 * option_size expr_size v + 36) (λ limit. c.compile_return limit v span)
     unfolding c.compile_return
     compile_return v span o s =
@@ -415,7 +415,7 @@ module _ (l : Leaf) (R : (A : Type 0) → (from to : l.level) → (code image : 
     unfolding c.define_global
     define_global name span n s = emit_op_constant _ (CS name) _ n s
 
-    compile_var : {g : l.level} (name : ℕ) (v : Option Expr) (span : Span) → If_some (Of_expr l) v → l.name name → l.span span →
+    compile_var : {g : l.level} (name : ℕ) (v : Option Expr) (span : Span) → IfSome (OfExpr l) v → l.name name → l.span span →
         Has g g (option_size expr_size v + 3) (17 * option_size expr_size v + 46) (λ limit. c.compile_var limit name v span)
     unfolding c.compile_var
     compile_var name v span o n s =
@@ -440,7 +440,7 @@ module _ (l : Leaf) (R : (A : Type 0) → (from to : l.level) → (code image : 
       global ← is_global
       either global (define_global _ _ n s) (enough (declare_local _ _ >> define_local) (omega arith) (omega arith))
 
-    compile_superclass : {g : l.level} (class : ℕ) (sup : Option Superclass) (span : Span) → If_some (Of_superclass l) sup → l.name class →
+    compile_superclass : {g : l.level} (class : ℕ) (sup : Option Superclass) (span : Span) → IfSome (OfSuperclass l) sup → l.name class →
         l.span span →
         Has g g (option_size (λ _. 12) sup) (17 * option_size (λ _. 12) sup) (λ limit. c.compile_superclass limit class sup span)
     unfolding c.compile_superclass
@@ -462,7 +462,7 @@ module _ (l : Leaf) (R : (A : Type 0) → (from to : l.level) → (code image : 
     end_superclass none = done
     end_superclass (some sup) = end_scope _ no_span
 
-    for_cond : {g : l.level} (cond : Option Expr) (span : Span) → If_some (Of_expr l) cond → l.span span →
+    for_cond : {g : l.level} (cond : Option Expr) (span : Span) → IfSome (OfExpr l) cond → l.span span →
         R _ g g (option_size expr_size cond + 4) (17 * option_size expr_size cond + 48) (λ limit. c.for_cond limit cond span)
     unfolding c.for_cond
     for_cond none span o s = enough (return none) (omega arith) (omega arith)
@@ -475,7 +475,7 @@ module _ (l : Leaf) (R : (A : Type 0) → (from to : l.level) → (code image : 
           return (some j))
         (omega arith) (omega arith)
 
-    for_incr : {g : l.level} (incr : Option Expr) (span : Span) → If_some (Of_expr l) incr → l.span span →
+    for_incr : {g : l.level} (incr : Option Expr) (span : Span) → IfSome (OfExpr l) incr → l.span span →
         Has g g (option_size expr_size incr + 1) (17 * option_size expr_size incr + 12) (λ limit. c.for_incr limit incr span)
     unfolding c.for_incr
     for_incr none span o s = enough done (omega arith) (omega arith)
@@ -530,14 +530,14 @@ module _ (l : Leaf) (R : (A : Type 0) → (from to : l.level) → (code image : 
           end_function _ up s)
         (omega arith) (omega arith))
 
-    fun_name_of : (f : Fun) (h : l.level) → Of_fun l f h → l.name (c.fun_name f)
+    fun_name_of : (f : Fun) (h : l.level) → OfFun l f h → l.name (c.fun_name f)
     unfolding c.fun_name
     fun_name_of (fun name params body) h o = o.0
 
     mutual
       unfolding c.compile_stmt
 
-      pub compile_stmt : (t : Stmt) (g : l.level) → Of_stmt l t g → Has g g (stmt_size t) (17 * stmt_size t) (λ limit. c.compile_stmt limit t)
+      pub compile_stmt : (t : Stmt) (g : l.level) → OfStmt l t g → Has g g (stmt_size t) (17 * stmt_size t) (λ limit. c.compile_stmt limit t)
       compile_stmt (StmtBlock span stmts) g o =
           enough
           (do
@@ -620,7 +620,7 @@ module _ (l : Leaf) (R : (A : Type 0) → (from to : l.level) → (code image : 
             emit_op _ _ o.0)
           (omega arith) (omega arith)
 
-      pub compile_stmts : (ts : Stmts) (g : l.level) → Of_stmts l ts g →
+      pub compile_stmts : (ts : Stmts) (g : l.level) → OfStmts l ts g →
           Has g g (stmts_size ts) (17 * stmts_size ts) (λ limit. c.compile_stmts limit ts)
       compile_stmts []ˢ g o = done
       compile_stmts (t ∷ˢ ts) g o =
@@ -630,12 +630,12 @@ module _ (l : Leaf) (R : (A : Type 0) → (from to : l.level) → (code image : 
             compile_stmts ts g o.1)
           (omega arith) (omega arith)
 
-      pub compile_function : (f : Fun) (h g : l.level) (type : FunctionType) (span : Span) → Inner type → Of_fun l f h → l.opens g h → l.span span →
+      pub compile_function : (f : Fun) (h g : l.level) (type : FunctionType) (span : Span) → Inner type → OfFun l f h → l.opens g h → l.span span →
           Has g g (fun_size f + 1) (17 * fun_size f + 14) (λ limit. c.compile_function limit f type span)
       compile_function (fun name params body) h g type span inner o up s =
           enough (compile_function_with type name params span inner up (compile_stmts body h o.2) o.0 s) (omega arith) (omega arith)
 
-      pub compile_methods : (ms : Methods) (g : l.level) → Of_methods l ms g →
+      pub compile_methods : (ms : Methods) (g : l.level) → OfMethods l ms g →
           Has g g (methods_size ms) (17 * methods_size ms) (λ limit. c.compile_methods limit ms)
       compile_methods []ᵐ g o = done
       compile_methods (method span f ms) g o =
@@ -646,7 +646,7 @@ module _ (l : Leaf) (R : (A : Type 0) → (from to : l.level) → (code image : 
             compile_methods ms g o.4)
           (omega arith) (omega arith)
 
-    pub compile_script : (ts : Stmts) (g : l.level) → Of_stmts l ts g →
+    pub compile_script : (ts : Stmts) (g : l.level) → OfStmts l ts g →
         Has g g (stmts_size ts + 2) (17 * stmts_size ts + 24) (λ limit. c.compile_script limit ts)
     unfolding c.compile_script
     compile_script ts g o =

@@ -24,7 +24,7 @@ use Rattle.rules.specs.Checker as checker
 use Rattle.rules.specs.Checker.{check, image_of, directory_of, code_part, code_through}
 use Rattle.rules_laws.proofs.Facts.{All, all_map, Bytes}
 use Rattle.rules_laws.proofs.ReadBack as back
-use Rattle.rules_laws.proofs.ReadBack.{Fits_form, Fits_image, Placed, image_length, Left, Comes, left_place, past}
+use Rattle.rules_laws.proofs.ReadBack.{FitsForm, FitsImage, Placed, image_length, Left, Comes, left_place, past}
 use Rattle.rules_laws.proofs.Lookups.{Makes, first, next, return, need_so, byte_at}
 use Rattle.rules_laws.proofs.WrittenAgain.{Again, form_both_ways}
 
@@ -222,7 +222,7 @@ between : {A : Type 0} (xs : List A) (x : A) (ys : List A) → get_elem? (xs ++ 
 between [] x ys = refl
 between (y ∷ xs) x ys = between xs x ys
 
-module _ (image : List ℕ) (fs : List ObjectFunction) (fits : Fits_image fs) (placed : Placed fs) (e : image_of image ≡ some fs)
+module _ (image : List ℕ) (fs : List ObjectFunction) (fits : FitsImage fs) (placed : Placed fs) (e : image_of image ≡ some fs)
     (written : image ≡ image_bytes fs ++ directory_bytes fs) where
   abbrev start : ℕ
   start = length (image_bytes fs)
@@ -269,8 +269,8 @@ module _ (image : List ℕ) (fs : List ObjectFunction) (fits : Fits_image fs) (p
     abbrev rest : List ℕ
     rest = join function_bytes hs ++ directory_bytes fs
 
-    fit : All Fits_form gs × All Fits_form (f ∷ hs)
-    fit = all_parts Fits_form gs (f ∷ hs) (rw split at fits.each)
+    fit : All FitsForm gs × All FitsForm (f ∷ hs)
+    fit = all_parts FitsForm gs (f ∷ hs) (rw split at fits.each)
 
     from_first : Left image 6 (join function_bytes gs ++ (function_bytes f ++ rest))
     unfolding join
@@ -289,7 +289,7 @@ module _ (image : List ℕ) (fs : List ObjectFunction) (fits : Fits_image fs) (p
 
     walked : r.many (length gs) (read_function image) 6 ≡ got gs place
     walked =
-        let each = all_map Fits_form _ (back.function image) gs fit.0 in
+        let each = all_map FitsForm _ (back.function image) gs fit.0 in
         let c = (back.many image (read_function image) function_bytes gs (function_bytes f ++ rest) each).run 6 from_first in
         c.gives ∙ ap (got gs) (left_place image c.next place c.leaves from_f)
 
@@ -350,12 +350,12 @@ pub through_is_walk : (image : List ℕ) → Bytes image → (k : ℕ) → (chec
 unfolding check checker.verdict refusal image_with
 through_is_walk image small k ok told = by_image (image_of image) refl
   where
-    by_number : (fs : List ObjectFunction) → Fits_image fs → Placed fs → image_of image ≡ some fs → image ≡ image_bytes fs ++ directory_bytes fs →
+    by_number : (fs : List ObjectFunction) → FitsImage fs → Placed fs → image_of image ≡ some fs → image ≡ image_bytes fs ++ directory_bytes fs →
         Falls fs k → code_through image (length (image_bytes fs)) k ≡ code_part image k
     by_number fs fits placed e w (at_one gs hs f s z) = rw z (found image fs fits placed e w gs hs f s)
     by_number fs fits placed e w (past_all l) = none_such image fs fits placed e w k l
 
-    by_form : (fs : List ObjectFunction) → image_of image ≡ some fs → Fits_image fs → (directory : Bool) → (directory ≡ true → Placed fs) →
+    by_form : (fs : List ObjectFunction) → image_of image ≡ some fs → FitsImage fs → (directory : Bool) → (directory ≡ true → Placed fs) →
         image ≡ image_with directory fs → code_through image (directory_of image).at k ≡ code_part image k
     by_form fs e fits false placed w = absurd (told (none_there image fs e w))
     by_form fs e fits true placed w = rw (one_there image fs e w) (by_number fs fits (placed refl) e w (falls fs k))

@@ -20,10 +20,10 @@ use Rattle.rules.specs.Tree.{Expr, ExprAssign, ExprCall, ExprGet, ExprInfix, Lit
 use Rattle.rules.specs.Tree.{ExprLiteral, LitNumber, LitString}
 use Rattle.rules.specs.Tree.{Stmt, Stmts, StmtBlock, StmtClass, StmtExpr, StmtFor, StmtFun, StmtIf, StmtPrint, StmtReturn, StmtVar, StmtWhile, []ˢ, ◌∷ˢ◌}
 use Rattle.rules.specs.Tree.{Fun, fun, []ᵐ, method}
-use Rattle.rules_laws.proofs.Facts.{All, Bytes, getD_small}
+use Rattle.rules_laws.proofs.Facts.{All, Bytes, get_or_small}
 use Rattle.rules_laws.proofs.ReadBack.{Narrow}
 use Rattle.rules_laws.proofs.Refusals.{Readers}
-use Rattle.rules_laws.proofs.Trees.{Leaf, If_some, Of_literal, Of_expr, Of_exprs, Of_superclass, Of_stmt, Of_stmts, Of_fun, Of_methods}
+use Rattle.rules_laws.proofs.Trees.{Leaf, IfSome, OfLiteral, OfExpr, OfExprs, OfSuperclass, OfStmt, OfStmts, OfFun, OfMethods}
 use Rattle.rules_laws.proofs.Trees.{literal_size, option_size, expr_size, exprs_size, stmt_size, stmts_size, fun_size, methods_size}
 
 -- what fits the image's fields; a level is how many functions more may be opened, which is `most` at the start
@@ -100,41 +100,41 @@ module _ (most : ℕ) where
   abbrev Reads : {A : Type 0} → Reader A → (A → Type 0) → (A → ℕ) → Type 0
   Reads {A} m P size = (at : ℕ) → At m at (λ (a : A) next. P a × (next ≡ at + size a))
 
-  read_exprs : (count : ℕ) (expr : Reader Expr) → Reads expr (Of_expr (fitting most)) expr_size →
-      Reads (t.read_exprs count expr) (Of_exprs (fitting most)) exprs_size
+  read_exprs : (count : ℕ) (expr : Reader Expr) → Reads expr (OfExpr (fitting most)) expr_size →
+      Reads (t.read_exprs count expr) (OfExprs (fitting most)) exprs_size
   unfolding t.read_exprs
   read_exprs zero expr h at = return []ᵉ (tt, omega arith)
   read_exprs (suc count) expr h at =
       first (h at) (λ e i q. first (read_exprs count expr h i) (λ es j k. return (e ∷ᵉ es) ((q.0, k.0), omega arith)))
 
   maybe : {A : Type 0} (b : Bool) {one : Reader A} (P : A → Type 0) (size : A → ℕ) → Reads one P size →
-      Reads (t.maybe b one) (If_some P) (option_size size)
+      Reads (t.maybe b one) (IfSome P) (option_size size)
   unfolding t.maybe
   maybe false P size h at = return none (tt, omega arith)
   maybe true P size h at = first (h at) (λ a i q. return (some a) q)
 
-  maybe_stmt : (b : Bool) {one : Reader Stmt} (g : ℕ) → Reads one (λ s. Of_stmt (fitting most) s g) stmt_size →
-      Reads (t.maybe_stmt b one) (λ s. Of_stmts (fitting most) s g) stmts_size
+  maybe_stmt : (b : Bool) {one : Reader Stmt} (g : ℕ) → Reads one (λ s. OfStmt (fitting most) s g) stmt_size →
+      Reads (t.maybe_stmt b one) (λ s. OfStmts (fitting most) s g) stmts_size
   unfolding t.maybe_stmt
   maybe_stmt false g h at = return []ˢ (tt, omega arith)
   maybe_stmt true g h at = first (h at) (λ s i q. return (s ∷ˢ []ˢ) ((q.0, tt), omega arith))
 
-  read_stmts : (count : ℕ) {one : Reader Stmt} (g : ℕ) → Reads one (λ s. Of_stmt (fitting most) s g) stmt_size →
-      Reads (t.read_stmts count one) (λ s. Of_stmts (fitting most) s g) stmts_size
+  read_stmts : (count : ℕ) {one : Reader Stmt} (g : ℕ) → Reads one (λ s. OfStmt (fitting most) s g) stmt_size →
+      Reads (t.read_stmts count one) (λ s. OfStmts (fitting most) s g) stmts_size
   unfolding t.read_stmts
   read_stmts zero g h at = return []ˢ (tt, omega arith)
   read_stmts (suc count) g h at =
       first (h at) (λ s i q. first (read_stmts count g h i) (λ ss j k. return (s ∷ˢ ss) ((q.0, k.0), omega arith)))
 
   -- a method's record
-  abbrev Of_method : ℕ → Span × Fun → Type 0
-  Of_method g m = Narrow m.0 × (h : ℕ) × ((g ≡ suc h) × (g ≤ most)) × Of_fun (fitting most) m.1 h
+  abbrev OfMethod : ℕ → Span × Fun → Type 0
+  OfMethod g m = Narrow m.0 × (h : ℕ) × ((g ≡ suc h) × (g ≤ most)) × OfFun (fitting most) m.1 h
 
   abbrev method_size : Span × Fun → ℕ
   method_size m = 10 + fun_size m.1
 
-  read_methods : (count : ℕ) {one : Reader (Span × Fun)} (g : ℕ) → Reads one (Of_method g) method_size →
-      Reads (t.read_methods count one) (λ ms. Of_methods (fitting most) ms g) methods_size
+  read_methods : (count : ℕ) {one : Reader (Span × Fun)} (g : ℕ) → Reads one (OfMethod g) method_size →
+      Reads (t.read_methods count one) (λ ms. OfMethods (fitting most) ms g) methods_size
   unfolding t.read_methods
   read_methods zero g h at = return []ᵐ (tt, omega arith)
   read_methods (suc count) g h at =
@@ -147,7 +147,7 @@ module _ (most : ℕ) where
     u8 fault at = record { run = by_test (ltb at (length tree)) }
       where
         by_test : (b : Bool) → Given (Taken (λ (n : ℕ). n < 256) 1 at) (if b then got (get_or tree at 0) (at + 1) else bad (TreeForm fault))
-        by_test true = (getD_small tree at bytes, refl)
+        by_test true = (get_or_small tree at bytes, refl)
         by_test false = tt
 
     -- twice as wide
@@ -209,11 +209,11 @@ module _ (most : ℕ) where
 
       -- ## Expressions; `start` is where the record starts, ten bytes before its fields
 
-      abbrev Expr_at : (start : ℕ) → Expr → ℕ → Type 0
-      Expr_at start e next = Of_expr (fitting most) e × (next ≡ start + expr_size e)
+      abbrev ExprAt : (start : ℕ) → Expr → ℕ → Type 0
+      ExprAt start e next = OfExpr (fitting most) e × (next ≡ start + expr_size e)
 
       literal_of : (fault : ℕ) (k : t.LiteralKind) (at : ℕ) →
-          At (t.literal_of tree names (TreeForm fault) k) at (λ (v : ExprLiteral) next. Of_literal (fitting most) v × (next ≡ at + literal_size v))
+          At (t.literal_of tree names (TreeForm fault) k) at (λ (v : ExprLiteral) next. OfLiteral (fitting most) v × (next ≡ at + literal_size v))
       unfolding t.literal_of
       literal_of fault t.a_false at = return _ (tt, omega arith)
       literal_of fault t.a_true at = return _ (tt, omega arith)
@@ -224,9 +224,9 @@ module _ (most : ℕ) where
           (λ _ j q. return (LitNumber bits) (leb→le bits max_bits q.0, omega arith)))
       literal_of fault t.a_string at = first (name fault at) (λ n i p. return (LitString n) (p.0, p.1))
 
-      expr_fields : (expr : Reader Expr) → Reads expr (Of_expr (fitting most)) expr_size → (fault : ℕ) (k : t.ExprMark) (s : Span) → Narrow s →
+      expr_fields : (expr : Reader Expr) → Reads expr (OfExpr (fitting most)) expr_size → (fault : ℕ) (k : t.ExprMark) (s : Span) → Narrow s →
           (start at : ℕ) → at ≡ start + 10 →
-          At (t.expr_fields tree names expr (TreeForm fault) k s) at (Expr_at start)
+          At (t.expr_fields tree names expr (TreeForm fault) k s) at (ExprAt start)
       unfolding t.expr_fields t.assign_fields t.call_fields t.get_fields t.infix_fields t.literal_fields t.prefix_fields t.set_fields t.super_fields t.var_fields
       expr_fields expr h fault t.EA s l start at e =
           first (name fault at) (λ n i p. first (h i) (λ v j q. return (ExprAssign s n v) ((l, p.0, q.0), omega arith)))
@@ -248,7 +248,7 @@ module _ (most : ℕ) where
       expr_fields expr h fault t.EU s l start at e = first (name fault at) (λ n i p. return (ExprSuper s n) ((l, p.0), omega arith))
       expr_fields expr h fault t.EV s l start at e = first (name fault at) (λ n i p. return (ExprVar s n) ((l, p.0), omega arith))
 
-      read_expr : (depth : ℕ) → Reads (t.read_expr tree names depth) (Of_expr (fitting most)) expr_size
+      read_expr : (depth : ℕ) → Reads (t.read_expr tree names depth) (OfExpr (fitting most)) expr_size
       unfolding t.read_expr t.expr_mark t.expr_record
       read_expr zero at = first here (λ start i p. first (marked t.expr_marks start i) (λ k j q. refuse _ tt))
       read_expr (suc depth) at =
@@ -257,7 +257,7 @@ module _ (most : ℕ) where
           first (span start j) (λ s m o.
           expr_fields (t.read_expr tree names depth) (read_expr depth) start k s o.0 at m (omega arith))))
 
-      read_superclass : (depth : ℕ) → Reads (t.read_superclass tree names depth) (Of_superclass (fitting most)) (λ _. 12)
+      read_superclass : (depth : ℕ) → Reads (t.read_superclass tree names depth) (OfSuperclass (fitting most)) (λ _. 12)
       unfolding t.read_superclass
       read_superclass zero at = first here (λ start i p. next (mark_is start 0x4556 i) (λ _ j q. refuse _ tt))
       read_superclass (suc depth) at =
@@ -268,19 +268,19 @@ module _ (most : ℕ) where
 
       -- ## Statements
 
-      abbrev Stmt_at : (start g : ℕ) → Stmt → ℕ → Type 0
-      Stmt_at start g s next = Of_stmt (fitting most) s g × (next ≡ start + stmt_size s)
+      abbrev StmtAt : (start g : ℕ) → Stmt → ℕ → Type 0
+      StmtAt start g s next = OfStmt (fitting most) s g × (next ≡ start + stmt_size s)
 
       -- what reads the children, where `g` functions more may be opened
-      record Read_children (read : t.Children) (g : ℕ) : Type 0 where
-        expr : Reads read.expr (Of_expr (fitting most)) expr_size
-        superclass : Reads read.superclass (Of_superclass (fitting most)) (λ _. 12)
-        stmt : Reads read.stmt (λ s. Of_stmt (fitting most) s g) stmt_size
-        inner : Reads read.inner (λ s. Of_stmt (fitting most) s (g - 1)) stmt_size
-        one_method : Reads read.one_method (Of_method g) method_size
+      record ReadChildren (read : t.Children) (g : ℕ) : Type 0 where
+        expr : Reads read.expr (OfExpr (fitting most)) expr_size
+        superclass : Reads read.superclass (OfSuperclass (fitting most)) (λ _. 12)
+        stmt : Reads read.stmt (λ s. OfStmt (fitting most) s g) stmt_size
+        inner : Reads read.inner (λ s. OfStmt (fitting most) s (g - 1)) stmt_size
+        one_method : Reads read.one_method (OfMethod g) method_size
 
-      fun_fields : (inner : Reader Stmt) (g : ℕ) → Reads inner (λ s. Of_stmt (fitting most) s g) stmt_size → (fault : ℕ) →
-          Reads (t.fun_fields tree names inner (TreeForm fault)) (λ f. Of_fun (fitting most) f g) fun_size
+      fun_fields : (inner : Reader Stmt) (g : ℕ) → Reads inner (λ s. OfStmt (fitting most) s g) stmt_size → (fault : ℕ) →
+          Reads (t.fun_fields tree names inner (TreeForm fault)) (λ f. OfFun (fitting most) f g) fun_size
       unfolding t.fun_fields
       fun_fields inner g h fault at =
           first (name fault at) (λ n i p.
@@ -289,9 +289,9 @@ module _ (most : ℕ) where
           first (u16 fault k) (λ count m w.
           first (read_stmts count g h m) (λ body u v. return (fun n ns body) ((p.0, o.0, v.0), omega arith))))))
 
-      stmt_fields : (read : t.Children) (g : ℕ) → Read_children read g → g ≤ most → (fault : ℕ) (k : t.StmtMark) → T (t.may_open k g) →
+      stmt_fields : (read : t.Children) (g : ℕ) → ReadChildren read g → g ≤ most → (fault : ℕ) (k : t.StmtMark) → T (t.may_open k g) →
           (s : Span) → Narrow s → (start at : ℕ) → at ≡ start + 10 →
-          At (t.stmt_fields tree names read (TreeForm fault) k s) at (Stmt_at start g)
+          At (t.stmt_fields tree names read (TreeForm fault) k s) at (StmtAt start g)
       unfolding t.stmt_fields t.block_fields t.class_fields t.expression_fields t.if_fields t.for_fields t.print_fields t.return_fields t.var_stmt_fields t.while_fields t.may_open
       stmt_fields read g h b fault t.SB y s l start at e =
           first (u16 fault at) (λ n i p. first (read_stmts n g h.stmt i) (λ ss j q. return (StmtBlock s ss) ((l, q.0), omega arith)))
@@ -299,7 +299,7 @@ module _ (most : ℕ) where
           first (name fault at) (λ n i p.
           first (flag fault i) (λ has j q.
           first (u16 fault j) (λ count k o.
-          first (maybe has (Of_superclass (fitting most)) (λ _. 12) h.superclass k) (λ sup m w.
+          first (maybe has (OfSuperclass (fitting most)) (λ _. 12) h.superclass k) (λ sup m w.
           first (read_methods count g h.one_method m) (λ ms u v. return (StmtClass s n sup ms) ((l, p.0, w.0, v.0), omega arith))))))
       stmt_fields read g h b fault t.SE y s l start at e = first (h.expr at) (λ v i p. return (StmtExpr s v) ((l, p.0), omega arith))
       stmt_fields read g h b fault t.SF y s l start at e =
@@ -314,26 +314,26 @@ module _ (most : ℕ) where
           first (u8 fault at) (λ parts i p.
           next (need (ltb parts 8) (TreeForm fault) tt) (λ _ i' p'.
           first (maybe_stmt (eqb (parts % 2) 1) g h.stmt i') (λ a j q.
-          first (maybe (eqb (parts / 2 % 2) 1) (Of_expr (fitting most)) expr_size h.expr j) (λ b k o.
+          first (maybe (eqb (parts / 2 % 2) 1) (OfExpr (fitting most)) expr_size h.expr j) (λ b k o.
           first (h.stmt k) (λ z m w.
-          first (maybe (eqb (parts / 4) 1) (Of_expr (fitting most)) expr_size h.expr m) (λ d u v.
+          first (maybe (eqb (parts / 4) 1) (OfExpr (fitting most)) expr_size h.expr m) (λ d u v.
           return (StmtFor s a b z d) ((l, q.0, o.0, w.0, v.0), omega arith)))))))
       stmt_fields read g h b fault t.SP y s l start at e = first (h.expr at) (λ v i p. return (StmtPrint s v) ((l, p.0), omega arith))
       stmt_fields read g h b fault t.SR y s l start at e =
           first (flag fault at)
-          (λ has i p. first (maybe has (Of_expr (fitting most)) expr_size h.expr i)
+          (λ has i p. first (maybe has (OfExpr (fitting most)) expr_size h.expr i)
           (λ v j q. return (StmtReturn s v) ((l, q.0), omega arith)))
       stmt_fields read g h b fault t.SV y s l start at e =
           first (name fault at) (λ n i p.
           first (flag fault i) (λ has j q.
-          first (maybe has (Of_expr (fitting most)) expr_size h.expr j) (λ v k o. return (StmtVar s n v) ((l, p.0, o.0), omega arith))))
+          first (maybe has (OfExpr (fitting most)) expr_size h.expr j) (λ v k o. return (StmtVar s n v) ((l, p.0, o.0), omega arith))))
       stmt_fields read g h b fault t.SW y s l start at e =
           first (h.expr at) (λ v i p. first (h.stmt i) (λ b j q. return (StmtWhile s v b) ((l, p.0, q.0), omega arith)))
 
       mutual
         unfolding t.read_stmt t.stmt_mark t.stmt_record t.method_record
 
-        read_stmt : (depth g : ℕ) → g ≤ most → Reads (t.read_stmt tree names depth g) (λ s. Of_stmt (fitting most) s g) stmt_size
+        read_stmt : (depth g : ℕ) → g ≤ most → Reads (t.read_stmt tree names depth g) (λ s. OfStmt (fitting most) s g) stmt_size
         read_stmt zero g b at = first here (λ start i p. first (marked t.stmt_marks start i) (λ k j q. refuse _ tt))
         read_stmt (suc depth) g b at =
             first here (λ start i p.
@@ -350,7 +350,7 @@ module _ (most : ℕ) where
             })
             b start k q'.0 s o.0 at m (omega arith)))))
 
-        read_method : (depth g : ℕ) → g ≤ most → Reads (t.read_method tree names depth g) (Of_method g) method_size
+        read_method : (depth g : ℕ) → g ≤ most → Reads (t.read_method tree names depth g) (OfMethod g) method_size
         read_method zero g b at = first here (λ start i p. next (mark_is start 0x5346 i) (λ _ j q. refuse _ tt))
         read_method (suc depth) g b at =
             first here (λ start i p.
@@ -383,7 +383,7 @@ module _ (most : ℕ) where
     read_names (suc count) last at = first (read_name last at) (λ text i p. so (read_names count (some text) i) (λ _ j q. omega arith))
 
     read_file : (depth funs : ℕ) → funs ≤ most → (at : ℕ) →
-        At (t.read_file tree depth funs) at (λ (ts : Stmts) next. Of_stmts (fitting most) ts funs × (at + 6 + stmts_size ts ≤ length tree))
+        At (t.read_file tree depth funs) at (λ (ts : Stmts) next. OfStmts (fitting most) ts funs × (at + 6 + stmts_size ts ≤ length tree))
     unfolding t.read_file
     read_file depth funs b at =
         next (mark_is 0 0x5452 at) (λ _ i p.
@@ -402,7 +402,7 @@ bytes_of (b ∷ bs) h = (h 0, bytes_of bs (λ i. h (suc i)))
 
 -- every tree that is read from bytes fits, and its records are no longer than the file less its header
 pub record Fitting (tree : List ℕ) (funs : ℕ) (ts : Stmts) : Type 0 where
-  pub parts : Of_stmts (fitting funs) ts funs
+  pub parts : OfStmts (fitting funs) ts funs
   pub size : 6 + stmts_size ts ≤ length tree
 
 pub tree_fits : (tree : List ℕ) → Bytes tree → (depth funs : ℕ) (ts : Stmts) (next : ℕ) → t.read_tree tree depth funs ≡ got ts next →
@@ -412,7 +412,7 @@ tree_fits tree bytes depth funs ts next e =
     by_outcome (t.read_file tree depth funs 0) e (read_file funs tree bytes depth funs (omega arith) 0).run
   where
     by_outcome : (o : Read Stmts) → o ≡ got ts next →
-        Given (λ (ts : Stmts) next. Of_stmts (fitting funs) ts funs × (0 + 6 + stmts_size ts ≤ length tree)) o → Fitting tree funs ts
+        Given (λ (ts : Stmts) next. OfStmts (fitting funs) ts funs × (0 + 6 + stmts_size ts ≤ length tree)) o → Fitting tree funs ts
     by_outcome (got us i) e h =
         let z : us ≡ ts = cc in
         subst (λ (ts : Stmts). Fitting tree funs ts) z (record { parts = h.0; size = h.1 })
@@ -425,6 +425,6 @@ tree_refuses tree bytes depth funs fault e =
     by_outcome (t.read_file tree depth funs 0) e (read_file funs tree bytes depth funs (omega arith) 0).run
   where
     by_outcome : (o : Read Stmts) → o ≡ bad fault →
-        Given (λ (ts : Stmts) next. Of_stmts (fitting funs) ts funs × (0 + 6 + stmts_size ts ≤ length tree)) o → Readers fault
+        Given (λ (ts : Stmts) next. OfStmts (fitting funs) ts funs × (0 + 6 + stmts_size ts ≤ length tree)) o → Readers fault
     by_outcome (got us i) e h = let z : ◌≡◌ {A = ℕ} 0 1 = cc in absurd (omega arith)
     by_outcome (bad other) e h = let z : other ≡ fault = cc in subst Readers z h

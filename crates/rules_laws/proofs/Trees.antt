@@ -28,60 +28,60 @@ any_leaf level opens = record { span = λ _. Unit {0}; name = λ _. Unit {0}; bi
 abbrev pub anything : Leaf
 anything = any_leaf ℕ (λ g h. h ≡ suc g)
 
-abbrev pub If_some : {A : Type 0} → (A → Type 0) → Option A → Type 0
-If_some P none = Unit {0}
-If_some P (some a) = P a
+abbrev pub IfSome : {A : Type 0} → (A → Type 0) → Option A → Type 0
+IfSome P none = Unit {0}
+IfSome P (some a) = P a
 
 module _ (l : Leaf) where
-  abbrev pub Of_literal : ExprLiteral → Type 0
-  Of_literal (LitBool b) = Unit {0}
-  Of_literal LitNil = Unit {0}
-  Of_literal (LitNumber bits) = l.bits bits
-  Of_literal (LitString name) = l.name name
+  abbrev pub OfLiteral : ExprLiteral → Type 0
+  OfLiteral (LitBool b) = Unit {0}
+  OfLiteral LitNil = Unit {0}
+  OfLiteral (LitNumber bits) = l.bits bits
+  OfLiteral (LitString name) = l.name name
 
   abbrev mutual
-    pub Of_expr : Expr → Type 0
-    Of_expr (ExprAssign span name value) = l.span span × l.name name × Of_expr value
-    Of_expr (ExprCall span callee args) = l.span span × Of_expr callee × Of_exprs args
-    Of_expr (ExprGet span name object) = l.span span × l.name name × Of_expr object
-    Of_expr (ExprInfix span op lt rt) = l.span span × Of_expr lt × Of_expr rt
-    Of_expr (Literal span literal) = l.span span × Of_literal literal
-    Of_expr (ExprPrefix span op rt) = l.span span × Of_expr rt
-    Of_expr (ExprSet span name value object) = l.span span × l.name name × Of_expr value × Of_expr object
-    Of_expr (ExprSuper span name) = l.span span × l.name name
-    Of_expr (ExprVar span name) = l.span span × l.name name
+    pub OfExpr : Expr → Type 0
+    OfExpr (ExprAssign span name value) = l.span span × l.name name × OfExpr value
+    OfExpr (ExprCall span callee args) = l.span span × OfExpr callee × OfExprs args
+    OfExpr (ExprGet span name object) = l.span span × l.name name × OfExpr object
+    OfExpr (ExprInfix span op lt rt) = l.span span × OfExpr lt × OfExpr rt
+    OfExpr (Literal span literal) = l.span span × OfLiteral literal
+    OfExpr (ExprPrefix span op rt) = l.span span × OfExpr rt
+    OfExpr (ExprSet span name value object) = l.span span × l.name name × OfExpr value × OfExpr object
+    OfExpr (ExprSuper span name) = l.span span × l.name name
+    OfExpr (ExprVar span name) = l.span span × l.name name
 
-    pub Of_exprs : Exprs → Type 0
-    Of_exprs []ᵉ = Unit {0}
-    Of_exprs (e ∷ᵉ es) = Of_expr e × Of_exprs es
+    pub OfExprs : Exprs → Type 0
+    OfExprs []ᵉ = Unit {0}
+    OfExprs (e ∷ᵉ es) = OfExpr e × OfExprs es
 
-  pub record Of_superclass (sup : Superclass) : Type 0 where
+  pub record OfSuperclass (sup : Superclass) : Type 0 where
     pub span : l.span sup.span
     pub name : l.name sup.name
 
   abbrev mutual
-    pub Of_stmt : Stmt → l.level → Type 0
-    Of_stmt (StmtBlock span stmts) g = l.span span × Of_stmts stmts g
-    Of_stmt (StmtClass span name sup methods) g = l.span span × l.name name × If_some Of_superclass sup × Of_methods methods g
-    Of_stmt (StmtExpr span value) g = l.span span × Of_expr value
-    Of_stmt (StmtFor span init cond body incr) g = l.span span × Of_stmts init g × If_some Of_expr cond × Of_stmt body g × If_some Of_expr incr
-    Of_stmt (StmtFun span f) g = l.span span × (h : l.level) × l.opens g h × Of_fun f h
-    Of_stmt (StmtIf span cond yes_part no_part) g = l.span span × Of_expr cond × Of_stmt yes_part g × Of_stmts no_part g
-    Of_stmt (StmtPrint span value) g = l.span span × Of_expr value
-    Of_stmt (StmtReturn span value) g = l.span span × If_some Of_expr value
-    Of_stmt (StmtVar span name value) g = l.span span × l.name name × If_some Of_expr value
-    Of_stmt (StmtWhile span cond body) g = l.span span × Of_expr cond × Of_stmt body g
+    pub OfStmt : Stmt → l.level → Type 0
+    OfStmt (StmtBlock span stmts) g = l.span span × OfStmts stmts g
+    OfStmt (StmtClass span name sup methods) g = l.span span × l.name name × IfSome OfSuperclass sup × OfMethods methods g
+    OfStmt (StmtExpr span value) g = l.span span × OfExpr value
+    OfStmt (StmtFor span init cond body incr) g = l.span span × OfStmts init g × IfSome OfExpr cond × OfStmt body g × IfSome OfExpr incr
+    OfStmt (StmtFun span f) g = l.span span × (h : l.level) × l.opens g h × OfFun f h
+    OfStmt (StmtIf span cond yes_part no_part) g = l.span span × OfExpr cond × OfStmt yes_part g × OfStmts no_part g
+    OfStmt (StmtPrint span value) g = l.span span × OfExpr value
+    OfStmt (StmtReturn span value) g = l.span span × IfSome OfExpr value
+    OfStmt (StmtVar span name value) g = l.span span × l.name name × IfSome OfExpr value
+    OfStmt (StmtWhile span cond body) g = l.span span × OfExpr cond × OfStmt body g
 
-    pub Of_stmts : Stmts → l.level → Type 0
-    Of_stmts []ˢ g = Unit {0}
-    Of_stmts (t ∷ˢ ts) g = Of_stmt t g × Of_stmts ts g
+    pub OfStmts : Stmts → l.level → Type 0
+    OfStmts []ˢ g = Unit {0}
+    OfStmts (t ∷ˢ ts) g = OfStmt t g × OfStmts ts g
 
-    pub Of_fun : Fun → l.level → Type 0
-    Of_fun (fun name params body) g = l.name name × All l.name params × Of_stmts body g
+    pub OfFun : Fun → l.level → Type 0
+    OfFun (fun name params body) g = l.name name × All l.name params × OfStmts body g
 
-    pub Of_methods : Methods → l.level → Type 0
-    Of_methods []ᵐ g = Unit {0}
-    Of_methods (method span f methods) g = l.span span × (h : l.level) × l.opens g h × Of_fun f h × Of_methods methods g
+    pub OfMethods : Methods → l.level → Type 0
+    OfMethods []ᵐ g = Unit {0}
+    OfMethods (method span f methods) g = l.span span × (h : l.level) × l.opens g h × OfFun f h × OfMethods methods g
 
 -- ## Every tree is one of which nothing is asked
 
@@ -89,18 +89,18 @@ module _ (level : Type 0) (opens : level → level → Type 0) where
   abbrev asked : Leaf
   asked = any_leaf level opens
 
-  literals : (k : ExprLiteral) → Of_literal asked k
+  literals : (k : ExprLiteral) → OfLiteral asked k
   literals (LitBool b) = tt
   literals LitNil = tt
   literals (LitNumber bits) = tt
   literals (LitString name) = tt
 
   mutual
-    exprs_any : (es : Exprs) → Of_exprs asked es
+    exprs_any : (es : Exprs) → OfExprs asked es
     exprs_any []ᵉ = tt
     exprs_any (e ∷ᵉ es) = (expr_any e, exprs_any es)
 
-    pub expr_any : (e : Expr) → Of_expr asked e
+    pub expr_any : (e : Expr) → OfExpr asked e
     expr_any (ExprAssign span name value) = (tt, tt, expr_any value)
     expr_any (ExprCall span callee args) = (tt, expr_any callee, exprs_any args)
     expr_any (ExprGet span name object) = (tt, tt, expr_any object)
@@ -115,19 +115,19 @@ abbrev all_names : (ns : List ℕ) → All anything.name ns
 all_names [] = tt
 all_names (n ∷ ns) = (tt, all_names ns)
 
-any_expr : (e : Expr) → Of_expr anything e
+any_expr : (e : Expr) → OfExpr anything e
 any_expr e = expr_any ℕ (λ g h. h ≡ suc g) e
 
-option_any : (v : Option Expr) → If_some (Of_expr anything) v
+option_any : (v : Option Expr) → IfSome (OfExpr anything) v
 option_any none = tt
 option_any (some e) = any_expr e
 
-super_any : (v : Option Superclass) → If_some (Of_superclass anything) v
+super_any : (v : Option Superclass) → IfSome (OfSuperclass anything) v
 super_any none = tt
 super_any (some e) = record { span = tt; name = tt }
 
 mutual
-  stmt_any : (t : Stmt) (g : ℕ) → Of_stmt anything t g
+  stmt_any : (t : Stmt) (g : ℕ) → OfStmt anything t g
   stmt_any (StmtBlock span stmts) g = (tt, stmts_any stmts g)
   stmt_any (StmtClass span name sup methods) g = (tt, tt, super_any sup, methods_any methods g)
   stmt_any (StmtExpr span value) g = (tt, any_expr value)
@@ -139,14 +139,14 @@ mutual
   stmt_any (StmtVar span name value) g = (tt, tt, option_any value)
   stmt_any (StmtWhile span cond body) g = (tt, any_expr cond, stmt_any body g)
 
-  pub stmts_any : (ts : Stmts) (g : ℕ) → Of_stmts anything ts g
+  pub stmts_any : (ts : Stmts) (g : ℕ) → OfStmts anything ts g
   stmts_any []ˢ g = tt
   stmts_any (t ∷ˢ ts) g = (stmt_any t g, stmts_any ts g)
 
-  pub fun_any : (f : Fun) (g : ℕ) → Of_fun anything f g
+  pub fun_any : (f : Fun) (g : ℕ) → OfFun anything f g
   fun_any (fun name params body) g = (tt, all_names params, stmts_any body g)
 
-  methods_any : (ms : Methods) (g : ℕ) → Of_methods anything ms g
+  methods_any : (ms : Methods) (g : ℕ) → OfMethods anything ms g
   methods_any []ᵐ g = tt
   methods_any (method span f methods) g = (tt, suc g, refl, fun_any f (suc g), methods_any methods g)
 

@@ -20,7 +20,7 @@ use Rattle.rules.specs.Compiler.{Compiler, CompilerCtx, Compile, Outcome, ok, er
 use Rattle.rules_laws.proofs.Keeps.{After}
 use Rattle.rules_laws.proofs.Facts.{All, all_end}
 use Rattle.rules_laws.proofs.ReadBack.{Narrow}
-use Rattle.rules_laws.proofs.Trees.{Of_stmts, stmts_size}
+use Rattle.rules_laws.proofs.Trees.{OfStmts, stmts_size}
 use Rattle.rules_laws.proofs.Steps as steps
 use Rattle.rules_laws.proofs.Steps.{Laws}
 use Rattle.rules_laws.proofs.Refusals.{Compilers, rusts_compilers}
@@ -31,36 +31,36 @@ use Rattle.rules_laws.proofs.TreeBytes.{fitting}
 -- ## One function
 
 -- of a function's number nothing is said here
-abbrev pub Small_constant : Constant → Type 0
-Small_constant (CN bits) = bits ≤ max_bits
-Small_constant (CS name) = name < 65_536
-Small_constant (CF number) = Unit {0}
+abbrev pub SmallConstant : Constant → Type 0
+SmallConstant (CN bits) = bits ≤ max_bits
+SmallConstant (CS name) = name < 65_536
+SmallConstant (CF number) = Unit {0}
 
-abbrev pub Small_run : Run → Type 0
-Small_run run = Narrow run.span
+abbrev pub SmallRun : Run → Type 0
+SmallRun run = Narrow run.span
 
 pub record Wide (name arity : ℕ) (ch : Chunk) : Type 0 where
   pub named : name < 65_536
   pub few : arity ≤ 255
-  pub constants : All Small_constant ch.constants
-  pub runs : All Small_run ch.spans
+  pub constants : All SmallConstant ch.constants
+  pub runs : All SmallRun ch.spans
 
-push_runs : (runs : List Run) (span : Span) → Narrow span → All Small_run runs → All Small_run (push_span runs span)
+push_runs : (runs : List Run) (span : Span) → Narrow span → All SmallRun runs → All SmallRun (push_span runs span)
 unfolding push_span
 push_runs [] span n h = (n, tt)
 push_runs (run ∷ []) span n h = by_test (same_span run.span span && ltb run.count 255)
   where
     by_test : (b : Bool) →
-        All Small_run (if b then (record { span = run.span; count = run.count + 1 } ∷ []) else (run ∷ record { span = span; count = 1 } ∷ []))
+        All SmallRun (if b then (record { span = run.span; count = run.count + 1 } ∷ []) else (run ∷ record { span = span; count = 1 } ∷ []))
     by_test true = (h.0, tt)
     by_test false = (h.0, (n, tt))
 push_runs (run ∷ next ∷ runs) span n h = (h.0, push_runs (next ∷ runs) span n h.1)
 
-abbrev Wide_ctx : CompilerCtx → Type 0
-Wide_ctx x = Wide x.name x.arity x.chunk
+abbrev WideCtx : CompilerCtx → Type 0
+WideCtx x = Wide x.name x.arity x.chunk
 
-abbrev pub Wide_function : ObjectFunction → Type 0
-Wide_function f = Wide f.name f.arity f.chunk
+abbrev pub WideFunction : ObjectFunction → Type 0
+WideFunction f = Wide f.name f.arity f.chunk
 
 write : (name arity : ℕ) (ch : Chunk) (b : ℕ) (span : Span) → Narrow span → Wide name arity ch → Wide name arity (write_u8 ch b span)
 unfolding write_u8
@@ -69,9 +69,9 @@ write name arity ch b span n h = record { named = h.named; few = h.few; constant
 -- ## The state
 
 record Fit (g k : ℕ) (s : Compiler) : Type 0 where
-  ctx : Wide_ctx s.ctx
-  parents : All Wide_ctx s.parents
-  functions : All Wide_function s.functions
+  ctx : WideCtx s.ctx
+  parents : All WideCtx s.parents
+  functions : All WideFunction s.functions
   -- each function that is finished has been paid for
   count : length s.functions ≤ k
 
@@ -96,7 +96,7 @@ module _ (limit top : ℕ) where
   costs n h = spends.enough Fit Compilers top more h (omega arith)
 
   -- a change of the current context that leaves it wide
-  update : {g : ℕ} (f : CompilerCtx → CompilerCtx) → ((x : CompilerCtx) → Wide_ctx x → Wide_ctx (f x)) → Does g g 0 (c.update_ctx f)
+  update : {g : ℕ} (f : CompilerCtx → CompilerCtx) → ((x : CompilerCtx) → WideCtx x → WideCtx (f x)) → Does g g 0 (c.update_ctx f)
   unfolding c.update_ctx
   update f h = spends.free Fit Compilers top more
       (λ s k i. record { ctx = h s.ctx i.ctx; parents = i.parents; functions = i.functions; count = i.count })
@@ -113,14 +113,14 @@ module _ (limit top : ℕ) where
   Placed name arity (at_place place ch) = Wide name arity ch
   Placed name arity no_room = Unit {0}
 
-  placed : (name arity : ℕ) (ch : Chunk) (v : Constant) → Small_constant v → Wide name arity ch → Placed name arity (write_constant ch v)
+  placed : (name arity : ℕ) (ch : Chunk) (v : Constant) → SmallConstant v → Wide name arity ch → Placed name arity (write_constant ch v)
   unfolding Placed write_constant written
   placed name arity ch v o h = found (position (same_constant v) ch.constants)
     where
       added : (b : Bool) →
           Placed name arity (if b then at_place (length ch.constants)
           (record { ops = ch.ops; constants = ch.constants ++ (v ∷ []); spans = ch.spans }) else no_room)
-      added true = record { named = h.named; few = h.few; constants = all_end Small_constant ch.constants v h.constants o; runs = h.runs }
+      added true = record { named = h.named; few = h.few; constants = all_end SmallConstant ch.constants v h.constants o; runs = h.runs }
       added false = tt
 
       found : (p : Option ℕ) → Placed name arity (written p ch v)
@@ -136,7 +136,7 @@ module _ (limit top : ℕ) where
       (record { ctx = h; parents = i.parents; functions = i.functions; count = i.count })
   emit_place s k no_room span n i l h = tt
 
-  emit_constant : {g : ℕ} (v : Constant) (span : Span) → Small_constant v → Narrow span → Does g g 0 (c.emit_constant limit v span)
+  emit_constant : {g : ℕ} (v : Constant) (span : Span) → SmallConstant v → Narrow span → Does g g 0 (c.emit_constant limit v span)
   unfolding c.emit_constant c.◌>>=◌ go_on c.the
   emit_constant v span o n =
       record {
@@ -175,25 +175,25 @@ module _ (limit top : ℕ) where
     update _ (λ x h. h)
 
   -- captured variables change neither name nor chunk
-  abbrev Wide_if : Resolved → Type 0
-  Wide_if (captured idx ctx parents) = Wide_ctx ctx × All Wide_ctx parents
-  Wide_if nowhere = Unit {0}
-  Wide_if (failed r) = Compilers r
+  abbrev WideIf : Resolved → Type 0
+  WideIf (captured idx ctx parents) = WideCtx ctx × All WideCtx parents
+  WideIf nowhere = Unit {0}
+  WideIf (failed r) = Compilers r
 
-  added : (p : Option ℕ) (u : Upvalue) (span : Span) (ctx : CompilerCtx) (parents : List CompilerCtx) → Wide_ctx ctx → All Wide_ctx parents →
-      Wide_if (c.added p u span ctx parents)
+  added : (p : Option ℕ) (u : Upvalue) (span : Span) (ctx : CompilerCtx) (parents : List CompilerCtx) → WideCtx ctx → All WideCtx parents →
+      WideIf (c.added p u span ctx parents)
   unfolding c.added
   added (some place) u span ctx parents h hs = (h, hs)
   added none u span ctx parents h hs = room (ltb (length ctx.upvalues) 256)
     where
-      room : (b : Bool) → Wide_if
+      room : (b : Bool) → WideIf
           (if b then captured (length ctx.upvalues) (c.with_upvalues ctx (ctx.upvalues ++ (u ∷ []))) parents else failed (TooManyUpvalues span))
       room true = (h, hs)
       room false = tt
 
-  through : (f : Found) (outer : Resolved) (name : ℕ) (span : Span) (ctx parent : CompilerCtx) (above : List CompilerCtx) → Wide_ctx ctx →
-      Wide_ctx parent → All Wide_ctx above → Wide_if outer →
-      Wide_if (c.through f outer name span ctx parent above)
+  through : (f : Found) (outer : Resolved) (name : ℕ) (span : Span) (ctx parent : CompilerCtx) (above : List CompilerCtx) → WideCtx ctx →
+      WideCtx parent → All WideCtx above → WideIf outer →
+      WideIf (c.through f outer name span ctx parent above)
   unfolding c.through c.further_out c.add_upvalue
   through (at_slot slot) outer name span ctx parent above h p ps o =
       added _ (record { idx = slot; is_local = true }) span ctx (c.with_locals parent (c.capture name parent.locals) ∷ above) h (p, ps)
@@ -202,15 +202,15 @@ module _ (limit top : ℕ) where
   through no_local nowhere name span ctx parent above h p ps o = tt
   through no_local (failed r) name span ctx parent above h p ps o = o
 
-  resolve_upvalue : (name : ℕ) (span : Span) (ctx : CompilerCtx) (parents : List CompilerCtx) → Wide_ctx ctx → All Wide_ctx parents →
-      Wide_if (c.resolve_upvalue name span ctx parents)
+  resolve_upvalue : (name : ℕ) (span : Span) (ctx : CompilerCtx) (parents : List CompilerCtx) → WideCtx ctx → All WideCtx parents →
+      WideIf (c.resolve_upvalue name span ctx parents)
   unfolding c.resolve_upvalue
   resolve_upvalue name span ctx [] h hs = tt
   resolve_upvalue name span ctx (p ∷ ps) h hs =
       through (c.find_local name p.locals) (c.resolve_upvalue name span p ps) name span ctx p ps h hs.0 hs.1
       (resolve_upvalue name span p ps hs.0 hs.1)
 
-  resolved : {g : ℕ} (f : Found) (outer : Resolved) (name : ℕ) (span : Span) (s : Compiler) (k : ℕ) → Fit g k s → Wide_if outer →
+  resolved : {g : ℕ} (f : Found) (outer : Resolved) (name : ℕ) (span : Span) (s : Compiler) (k : ℕ) → Fit g k s → WideIf outer →
       Ends Fit Compilers top g k (c.resolved f outer name span s)
   unfolding c.resolved c.◌>>◌ go_on c.put_ctxs c.return c.refuse
   resolved (at_slot slot) outer name span s k i o = i
@@ -240,7 +240,7 @@ module _ (limit top : ℕ) where
         count = i.count;
       })
 
-  back_to : {g : ℕ} (h : ℕ) (s : Compiler) (k : ℕ) (ps : List CompilerCtx) → Fit g k s → All Wide_ctx ps →
+  back_to : {g : ℕ} (h : ℕ) (s : Compiler) (k : ℕ) (ps : List CompilerCtx) → Fit g k s → All WideCtx ps →
       Ends Fit Compilers top h (k + 1) (c.back_to ps s)
   unfolding c.back_to c.finish
   back_to h s k [] i hs = record { ctx = i.ctx; parents = i.parents; functions = i.functions; count = omega (arith, i.count) }
@@ -248,7 +248,7 @@ module _ (limit top : ℕ) where
       record {
         ctx = hs.0;
         parents = hs.1;
-        functions = all_end Wide_function s.functions (c.finish s.ctx) i.functions i.ctx;
+        functions = all_end WideFunction s.functions (c.finish s.ctx) i.functions i.ctx;
         count = omega (arith, i.count, length-append s.functions (c.finish s.ctx ∷ []));
       }
 
@@ -277,7 +277,7 @@ module _ (limit top : ℕ) where
     (number, upvalues) ← end_ctx
     emit_closure number upvalues span n
 
-  constant_small : (most : ℕ) (v : Constant) → steps.Of_constant (fitting most) v → Small_constant v
+  constant_small : (most : ℕ) (v : Constant) → steps.OfConstant (fitting most) v → SmallConstant v
   constant_small most (CN bits) o = o
   constant_small most (CS name) o = o
   constant_small most (CF number) o = tt
@@ -323,11 +323,11 @@ module _ (limit top : ℕ) where
 -- ## Every function of the image
 
 pub record Widths (size : ℕ) (fs : List ObjectFunction) : Type 0 where
-  pub each : All Wide_function fs
+  pub each : All WideFunction fs
   pub some : 0 < length fs
   pub count : length fs ≤ size + 3
 
-module _ (limit funs : ℕ) (stmts : Stmts) (o : Of_stmts (fitting funs) stmts funs) where
+module _ (limit funs : ℕ) (stmts : Stmts) (o : OfStmts (fitting funs) stmts funs) where
   top : ℕ
   top = stmts_size stmts + 2
 
@@ -352,7 +352,7 @@ module _ (limit funs : ℕ) (stmts : Stmts) (o : Of_stmts (fitting funs) stmts f
           After (λ fs _. Widths (stmts_size stmts) fs) (go_on r (λ _. c.the (λ (s : Compiler). s.functions ++ (c.finish s.ctx ∷ []))))
       by_outcome (ok a s) i =
           record {
-            each = all_end Wide_function s.functions (c.finish s.ctx) i.functions i.ctx;
+            each = all_end WideFunction s.functions (c.finish s.ctx) i.functions i.ctx;
             some = omega (arith, length-append s.functions (c.finish s.ctx ∷ []));
             count = omega (arith, i.count, length-append s.functions (c.finish s.ctx ∷ []));
           }

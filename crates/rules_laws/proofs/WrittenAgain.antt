@@ -28,15 +28,15 @@ use Rattle.rules.specs.ImageFile as file
 use Rattle.rules.specs.ImageFile.{read_image, ConstantMark, number_mark, string_mark, function_mark}
 use Rattle.rules.specs.Checker as checker
 use Rattle.rules.specs.Checker.{check, image_of, sound}
-use Rattle.rules_laws.proofs.Facts.{All, Bytes, getD_small}
-use Rattle.rules_laws.proofs.ReadBack.{Narrow, Fits_run, Fits_constant, Fits_form, Fits_image, Offsets, Placed, base, le_parts}
+use Rattle.rules_laws.proofs.Facts.{All, Bytes, get_or_small}
+use Rattle.rules_laws.proofs.ReadBack.{Narrow, FitsRun, FitsConstant, FitsForm, FitsImage, Offsets, Placed, base, le_parts}
 use Rattle.rules_laws.proofs.ReadBack.{directory_if, image_parts, placed_accepted}
 use Rattle.rules_laws.proofs.Lookups.{Makes, first, next, return, need_so, byte_at}
 
 -- what reading an image gives: these functions, with a directory or without, and the place behind the last byte
 pub record Again (image : List ℕ) (functions : List ObjectFunction) (next : ℕ) : Type 0 where
   pub directory : Bool
-  pub fits : Fits_image functions
+  pub fits : FitsImage functions
   pub placed : directory ≡ true → Placed functions
   pub same : image_with directory functions ≡ image
   pub end : next ≡ length image
@@ -63,7 +63,7 @@ module _ (bytes : List ℕ) (small : Bytes bytes) where
       one : (b next : ℕ) → (at < length bytes) × (b ≡ get_or bytes at 0) × (next ≡ at + 1) → Spelt (λ (b : ℕ). b < 256) (λ (b : ℕ). b ∷ []) at b next
       one b next h =
           let e : next ≡ suc at = omega (arith, h.2) in
-          record { fits = omega (arith, h.1, getD_small bytes at small); same = rw (h.1, e) (drop-cons bytes at 0 h.0) }
+          record { fits = omega (arith, h.1, get_or_small bytes at small); same = rw (h.1, e) (drop-cons bytes at 0 h.0) }
 
   abbrev Field : Reader ℕ → (width bound : ℕ) → Type 0
   Field m width bound = Spells m (λ (n : ℕ). n < bound) (le width)
@@ -192,30 +192,30 @@ module _ (bytes : List ℕ) (small : Bytes bytes) where
       this m i kind j h k = record { fits = tt; same = rw (k.1, ← k.0) h.same }
 
   after_mark : (at : ℕ) (kind : ConstantMark) (i : ℕ) → Spelt (λ _. Unit {0}) mark_bytes at kind i →
-      Makes (file.constant_fields bytes kind) i (Spelt Fits_constant image.constant_bytes at)
+      Makes (file.constant_fields bytes kind) i (Spelt FitsConstant image.constant_bytes at)
   unfolding file.constant_fields image.constant_bytes
   after_mark at number_mark i h =
       first _ (λ bits j e. next _
       (λ t k e'. return (CN bits) (whole bits j k ((u64 ImageRefused i).run bits j e) ((need_so _ ImageRefused j).run t k e'))))
     where
       whole : (bits j k : ℕ) → Spelt (λ (n : ℕ). n < 18_446_744_073_709_551_616) (le 8) i bits j → T (leb bits max_bits) × (k ≡ j) →
-          Spelt Fits_constant image.constant_bytes at (CN bits) k
+          Spelt FitsConstant image.constant_bytes at (CN bits) k
       whole bits j k f n =
           record { fits = leb→le bits max_bits n.0; same = rw n.1 (behind (0x43 ∷ 0x4E ∷ []) (le 8 bits) at i j h.same f.same) }
   after_mark at string_mark i h = first _ (λ name j e. return (CS name) (whole name j ((u16 ImageRefused i).run name j e)))
     where
-      whole : (name j : ℕ) → Spelt (λ (n : ℕ). n < 65_536) (le 2) i name j → Spelt Fits_constant image.constant_bytes at (CS name) j
+      whole : (name j : ℕ) → Spelt (λ (n : ℕ). n < 65_536) (le 2) i name j → Spelt FitsConstant image.constant_bytes at (CS name) j
       whole name j f = record { fits = f.fits; same = behind (0x43 ∷ 0x53 ∷ []) (le 2 name) at i j h.same f.same }
   after_mark at function_mark i h = first _ (λ number j e. return (CF number) (whole number j ((u32 ImageRefused i).run number j e)))
     where
-      whole : (number j : ℕ) → Spelt (λ (n : ℕ). n < 4_294_967_296) (le 4) i number j → Spelt Fits_constant image.constant_bytes at (CF number) j
+      whole : (number j : ℕ) → Spelt (λ (n : ℕ). n < 4_294_967_296) (le 4) i number j → Spelt FitsConstant image.constant_bytes at (CF number) j
       whole number j f = record { fits = f.fits; same = behind (0x43 ∷ 0x46 ∷ []) (le 4 number) at i j h.same f.same }
 
-  constant : Spells (file.read_constant bytes) Fits_constant image.constant_bytes
+  constant : Spells (file.read_constant bytes) FitsConstant image.constant_bytes
   unfolding file.read_constant
   constant at = first _ (λ kind i e. after_mark at kind i ((mark_kind at).run kind i e))
 
-  a_run : Spells (file.read_run bytes) Fits_run image.run_bytes
+  a_run : Spells (file.read_run bytes) FitsRun image.run_bytes
   unfolding file.read_run image.run_bytes
   a_run at =
       next _ (λ t i e. first _ (λ s j e'. first _ (λ count k e''. return _
@@ -223,7 +223,7 @@ module _ (bytes : List ℕ) (small : Bytes bytes) where
     where
       whole : (t : Unit {0}) (i : ℕ) (s : Span) (j count k : ℕ) → Spelt (λ _. Unit {0}) (λ _. 0x52 ∷ 0x55 ∷ []) at t i →
           Spelt Narrow (λ (s : Span). le 4 s.start ++ le 4 s.end) i s j → Spelt (λ (n : ℕ). n < 256) (le 1) j count k →
-          Spelt Fits_run image.run_bytes at (record { span = s; count = count }) k
+          Spelt FitsRun image.run_bytes at (record { span = s; count = count }) k
       whole t i s j count k m f n =
           record { fits = record { span = f.fits; count = n.fits }; same = simp append_assoc (rw (m.same, f.same, n.same) (simp append_assoc refl)) }
 
@@ -233,7 +233,7 @@ module _ (bytes : List ℕ) (small : Bytes bytes) where
   bytes_joined (b ∷ bs) = ap (λ (l : List ℕ). b ∷ l) (bytes_joined bs)
 
   -- what a function's record holds, as it was read: the two marks, the counts, and the parts that the counts are of
-  function : Spells (file.read_function bytes) Fits_form image.function_bytes
+  function : Spells (file.read_function bytes) FitsForm image.function_bytes
   unfolding file.read_function image.function_bytes
   function at =
       next _ (λ t i₀ e₀. first _ (λ name i₁ e₁. first _ (λ arity i₂ e₂. first _ (λ upvalue_count i₃ e₃.
@@ -247,8 +247,8 @@ module _ (bytes : List ℕ) (small : Bytes bytes) where
       let s₄ = (u16 ImageRefused i₃).run constant-count i₄ e₄ in
       let s₅ = (u32 ImageRefused i₄).run run-count i₅ e₅ in
       let s₆ = (u32 ImageRefused i₅).run code_length i₆ e₆ in
-      let s₇ = (many (file.read_constant bytes) Fits_constant image.constant_bytes constant constant-count i₆).run constants i₇ e₇ in
-      let s₈ = (many (file.read_run bytes) Fits_run image.run_bytes a_run run-count i₇).run spans i₈ e₈ in
+      let s₇ = (many (file.read_constant bytes) FitsConstant image.constant_bytes constant constant-count i₆).run constants i₇ e₇ in
+      let s₈ = (many (file.read_run bytes) FitsRun image.run_bytes a_run run-count i₇).run spans i₈ e₈ in
       let s₉ = (mark_is ImageRefused 0x4344 i₈).run t' i₉ e₉ in
       let s = (many (r.u8 bytes ImageRefused) (λ (b : ℕ). b < 256) (λ (b : ℕ). b ∷ []) (byte ImageRefused) code_length i₉).run ops i e in
       record {
@@ -348,7 +348,7 @@ module _ (bytes : List ℕ) (small : Bytes bytes) where
       (let s₀ = (mark_is ImageRefused 0x494D 0).run t i₀ e₀ in
       let s₁ = (u32 ImageRefused i₀).run count i₁ e₁ in
       let s₂ = (need_so _ ImageRefused i₁).run t₁ i₂ e₂ in
-      let s₃ = (many (file.read_function bytes) Fits_form image.function_bytes function count i₂).run fs i₃ e₃ in
+      let s₃ = (many (file.read_function bytes) FitsForm image.function_bytes function count i₂).run fs i₃ e₃ in
       let s₄ = (read_behind fs i₃).run t₂ i₄ e₄ in
       let s₅ = (here_so i₄).run end i₅ e₅ in
       let s₆ = (need_so _ ImageRefused i₅).run t₃ i₆ e₆ in
@@ -385,27 +385,27 @@ form_both_ways image small fs next e = (functions image small).run fs next e
 -- ## What the checker accepts
 
 -- the bytes are the image of functions that the checker finds sound, with a directory or without
-pub record Sound_image (image : List ℕ) : Type 0 where
+pub record SoundImage (image : List ℕ) : Type 0 where
   pub functions : List ObjectFunction
   pub directory : Bool
-  pub fits : Fits_image functions
+  pub fits : FitsImage functions
   pub placed : directory ≡ true → Placed functions
   pub holds : sound functions ≡ true
   pub written : image ≡ image_with directory functions
 
 -- such bytes are accepted
-accepts : (image : List ℕ) → Sound_image image → (check image).number ≡ 0
+accepts : (image : List ℕ) → SoundImage image → (check image).number ≡ 0
 accepts image h = rw h.written
     (ap (λ (a : Answer). a.number) (placed_accepted h.directory h.functions h.fits h.placed (rw h.holds tt)))
 
 module _ (image : List ℕ) (small : Bytes image) where
   -- all others are refused
-  judged : Sound_image image ⊎ (check image ≡ refusal ImageRefused)
+  judged : SoundImage image ⊎ (check image ≡ refusal ImageRefused)
   unfolding check image_of checker.checked checker.verdict
   judged = by_read (read_image image) refl
     where
       by_sound : (fs : List ObjectFunction) (next : ℕ) → read_image image ≡ got fs next → (b : Bool) → sound fs ≡ b →
-          Sound_image image ⊎ (checker.verdict (if b then some fs else none) ≡ refusal ImageRefused)
+          SoundImage image ⊎ (checker.verdict (if b then some fs else none) ≡ refusal ImageRefused)
       by_sound fs next e true h =
           let again = form_both_ways image small fs next e in
           inl
@@ -413,24 +413,24 @@ module _ (image : List ℕ) (small : Bytes image) where
       by_sound fs next e false h = inr refl
 
       by_read : (o : Read (List ObjectFunction)) → read_image image ≡ o →
-          Sound_image image ⊎ (checker.verdict (checker.checked o) ≡ refusal ImageRefused)
+          SoundImage image ⊎ (checker.verdict (checker.checked o) ≡ refusal ImageRefused)
       by_read (got fs next) e = by_sound fs next e (sound fs) refl
       by_read (bad fault) e = inr refl
 
   -- 0 exactly for the images of sound functions
-  pub accepts_exactly : ((check image).number ≡ 0) ↔ Sound_image image
+  pub accepts_exactly : ((check image).number ≡ 0) ↔ SoundImage image
   unfolding refusal
   accepts_exactly = (only judged, accepts image)
     where
-      only : Sound_image image ⊎ (check image ≡ refusal ImageRefused) → (check image).number ≡ 0 → Sound_image image
+      only : SoundImage image ⊎ (check image ≡ refusal ImageRefused) → (check image).number ≡ 0 → SoundImage image
       only (inl h) e = h
       only (inr e') e = absurd (omega (arith, ap (λ (a : Answer). a.number) e'))
 
   -- 40 exactly for all other bytes
-  pub refuses_exactly : ((check image).number ≡ 40) ↔ (Sound_image image → ⊥)
+  pub refuses_exactly : ((check image).number ≡ 40) ↔ (SoundImage image → ⊥)
   unfolding refusal
   refuses_exactly = (λ e h. omega (arith, e, accepts image h), other judged)
     where
-      other : Sound_image image ⊎ (check image ≡ refusal ImageRefused) → (Sound_image image → ⊥) → (check image).number ≡ 40
+      other : SoundImage image ⊎ (check image ≡ refusal ImageRefused) → (SoundImage image → ⊥) → (check image).number ≡ 40
       other (inl h) none_is = absurd (none_is h)
       other (inr e) none_is = ap (λ (a : Answer). a.number) e

@@ -16,14 +16,14 @@ use Rattle.rules.specs.Checker.{span_of}
 use Rattle.spans.specs.declared.Run.{Run}
 use Rattle.spans.specs.Runs.{runs_in}
 
-abbrev pub spanAt : List Run → ℕ → Answer
-spanAt runs k = span_of (runs_in runs) k
+abbrev pub span_at : List Run → ℕ → Answer
+span_at runs k = span_of (runs_in runs) k
 
 abbrev pub found : Run → Answer
 found r = record { number = 0; at = r.start; end = r.end; name = 0; length = 0; function = 0; around = 0 }
 
-abbrev pub noSuchByte : Answer
-noSuchByte = record { number = 42; at = 0; end = 0; name = 0; length = 0; function = 0; around = 0 }
+abbrev pub no_such_byte : Answer
+no_such_byte = record { number = 42; at = 0; end = 0; name = 0; length = 0; function = 0; around = 0 }
 
 abbrev pub none : Run
 none = record { start = 0; end = 0; count = 0 }
@@ -36,22 +36,22 @@ no : (t : Bool) → T (not t) → t ≡ false
 no true a = absurd a
 no false _ = refl
 
-empty : (rs : List Run) (k : ℕ) → length rs ≡ 0 → spanAt rs k ≡ noSuchByte
+empty : (rs : List Run) (k : ℕ) → length rs ≡ 0 → span_at rs k ≡ no_such_byte
 unfolding span_of runs_in refusal
 empty [] k e = refl
 empty (r ∷ rs) k e = absurd (omega (arith, e))
 
-pub ends : (ys : List Run) (i k : ℕ) → length ys ≤ i → spanAt (drop i ys) k ≡ noSuchByte
+pub ends : (ys : List Run) (i k : ℕ) → length ys ≤ i → span_at (drop i ys) k ≡ no_such_byte
 ends ys i k over = empty (drop i ys) k (simp length-drop (omega arith))
 
 module _ (ys : List Run) (i k : ℕ) (inside : i < length ys) where
-  opened : spanAt (drop i ys) k
-      ≡ (if ltb k (get_or ys i none).count then found (get_or ys i none) else spanAt (drop (i + 1) ys) (k - (get_or ys i none).count))
+  opened : span_at (drop i ys) k
+      ≡ (if ltb k (get_or ys i none).count then found (get_or ys i none) else span_at (drop (i + 1) ys) (k - (get_or ys i none).count))
   unfolding span_of runs_in
   opened = rw (add-one, drop-cons ys i none)
 
-  pub holds : T (ltb k (get_or ys i none).count) → spanAt (drop i ys) k ≡ found (get_or ys i none)
-  holds here = opened ∙ ap (λ (t : Bool). if t then found (get_or ys i none) else spanAt (drop (i + 1) ys) (k - (get_or ys i none).count)) (yes (ltb k (get_or ys i none).count) here)
+  pub holds : T (ltb k (get_or ys i none).count) → span_at (drop i ys) k ≡ found (get_or ys i none)
+  holds here = opened ∙ ap (λ (t : Bool). if t then found (get_or ys i none) else span_at (drop (i + 1) ys) (k - (get_or ys i none).count)) (yes (ltb k (get_or ys i none).count) here)
 
-  pub passes : T (not (ltb k (get_or ys i none).count)) → spanAt (drop i ys) k ≡ spanAt (drop (i + 1) ys) (k - (get_or ys i none).count)
-  passes past = opened ∙ ap (λ (t : Bool). if t then found (get_or ys i none) else spanAt (drop (i + 1) ys) (k - (get_or ys i none).count)) (no (ltb k (get_or ys i none).count) past)
+  pub passes : T (not (ltb k (get_or ys i none).count)) → span_at (drop i ys) k ≡ span_at (drop (i + 1) ys) (k - (get_or ys i none).count)
+  passes past = opened ∙ ap (λ (t : Bool). if t then found (get_or ys i none) else span_at (drop (i + 1) ys) (k - (get_or ys i none).count)) (no (ltb k (get_or ys i none).count) past)

@@ -15,7 +15,7 @@ use mathlib.Core.Option.{none as nothing}
 use Rattle.rules.specs.Base.{if◌then◌else◌, position, one_on}
 use Rattle.rules.specs.Chunk.{Chunk, Run, Constant}
 use Rattle.rules.specs.Compiler.{Local, Upvalue, at_slot, uninitialized, find_local, capture}
-use Rattle.state.specs.Layout.{levels, deepest, row, stack, vec, pile, localOf, upvalueOf, constant_of, type_of, run_at, locals_of, upvaluesOf, constantsOf, codeFrom, runsFrom, chunkAt, ctxAt, parentsOf, Wf, upvalues_place, upvalue_count_place, constants_place, constant_count_place, depth_place, code_from_place, runs_from_place, name_place, arity_place, type_place, level_words, local_count_place, level_used}
+use Rattle.state.specs.Layout.{levels, deepest, row, stack, vec, pile, local_of, upvalue_of, constant_of, type_of, run_at, locals_of, upvalues_of, level_constants, start_of_code, start_of_runs, chunk_at, ctx_at, parents_of, Wf, upvalues_place, upvalue_count_place, constants_place, constant_count_place, depth_place, code_from_place, runs_from_place, name_place, arity_place, type_place, level_words, local_count_place, level_used}
 use Rattle.state.specs.Contracts.{Kept}
 
 pub lt_or_le : (a b : ℕ) → (a < b) ⊎ (b ≤ a)
@@ -170,9 +170,9 @@ upvalue_count t l o v k h ne = get_or-set_other t (l * level_words + o) (k * lev
 pub wf_count : (t : List ℕ) (l o v : ℕ) → o < level_words → (o ≡ upvalue_count_place → ⊥) → v ≤ 256 → Wf t → Wf (set t (l * level_words + o) v)
 wf_count t l o v near ne h wf = record {
   size = length-set t _ v ∙ wf.size;
-  fewLocals = λ k m. few_set 256 t _ v _ h (wf.fewLocals k m);
-  fewUpvalues = λ k m. few_set 256 t _ v _ h (wf.fewUpvalues k m);
-  fewConstants = λ k m. few_set 256 t _ v _ h (wf.fewConstants k m);
+  few_locals = λ k m. few_set 256 t _ v _ h (wf.few_locals k m);
+  few_upvalues = λ k m. few_set 256 t _ v _ h (wf.few_upvalues k m);
+  few_constants = λ k m. few_set 256 t _ v _ h (wf.few_constants k m);
   shallow = λ k m. few_set deepest t _ v _ (omega arith) (wf.shallow k m);
   pairs = λ k i m a b.
       let below : i < upvalues_place + get_or t (k * level_words + upvalue_count_place) 0 = omega (arith, b, upvalue_count t l o v k near ne) in
@@ -195,14 +195,14 @@ module _ (t : List ℕ) (l v : ℕ) (low : l < levels) (h : v ≤ 256) (all : (o
   counted_off k o m ne a b =
       let below : o < upvalues_place + get_or t (k * level_words + upvalue_count_place) 0 = omega
       (arith, b, get_or-set_other t (l * level_words + upvalue_count_place) (k * level_words + upvalue_count_place) v 0 (λ e. ne (omega arith))) in
-      omega (arith, beside k o (omega (arith, wf.fewUpvalues k m)), wf.pairs k o m a below)
+      omega (arith, beside k o (omega (arith, wf.few_upvalues k m)), wf.pairs k o m a below)
 
   pub wf_upvalues : Wf (set t (l * level_words + upvalue_count_place) v)
   wf_upvalues = record {
     size = length-set t _ v ∙ wf.size;
-    fewLocals = λ k m. few_set 256 t _ v _ h (wf.fewLocals k m);
-    fewUpvalues = λ k m. few_set 256 t _ v _ h (wf.fewUpvalues k m);
-    fewConstants = λ k m. few_set 256 t _ v _ h (wf.fewConstants k m);
+    few_locals = λ k m. few_set 256 t _ v _ h (wf.few_locals k m);
+    few_upvalues = λ k m. few_set 256 t _ v _ h (wf.few_upvalues k m);
+    few_constants = λ k m. few_set 256 t _ v _ h (wf.few_constants k m);
     shallow = λ k m. few_set deepest t _ v _ (omega arith) (wf.shallow k m);
     pairs = λ k o m a.
         ⊎_elim (λ (x : k < l). counted_off k o m (λ e. omega arith) a)
@@ -225,13 +225,13 @@ module _ (t : List ℕ) (l o v : ℕ) (h : o < level_words) (fits : upvalues_pla
   pub wf_entry : (o ≡ local_count_place → ⊥) → (o ≡ upvalue_count_place → ⊥) → (o ≡ constant_count_place → ⊥) → (o ≡ depth_place → ⊥) → Wf t → Wf (set t (l * level_words + o) v)
   wf_entry a b c d wf = record {
     size = length-set t _ v ∙ wf.size;
-    fewLocals = λ k m. subst (λ (n : ℕ). n ≤ 256) (sym (get_or-set_other t _ _ v 0 (λ e. a (omega arith)))) (wf.fewLocals k m);
-    fewUpvalues = λ k m. subst (λ (n : ℕ). n ≤ 256) (sym (get_or-set_other t _ _ v 0 (λ e. b (omega arith)))) (wf.fewUpvalues k m);
-    fewConstants = λ k m. subst (λ (n : ℕ). n ≤ 256) (sym (get_or-set_other t _ _ v 0 (λ e. c (omega arith)))) (wf.fewConstants k m);
+    few_locals = λ k m. subst (λ (n : ℕ). n ≤ 256) (sym (get_or-set_other t _ _ v 0 (λ e. a (omega arith)))) (wf.few_locals k m);
+    few_upvalues = λ k m. subst (λ (n : ℕ). n ≤ 256) (sym (get_or-set_other t _ _ v 0 (λ e. b (omega arith)))) (wf.few_upvalues k m);
+    few_constants = λ k m. subst (λ (n : ℕ). n ≤ 256) (sym (get_or-set_other t _ _ v 0 (λ e. c (omega arith)))) (wf.few_constants k m);
     shallow = λ k m. subst (λ (n : ℕ). n ≤ deepest) (sym (get_or-set_other t _ _ v 0 (λ e. d (omega arith)))) (wf.shallow k m);
     pairs = λ k i m p q.
         let below : i < upvalues_place + get_or t (k * level_words + upvalue_count_place) 0 = omega (arith, q, upvalue_count t l o v k h b) in
-        pair_kept k i p (omega (arith, wf.fewUpvalues k m)) (wf.pairs k i m p below);
+        pair_kept k i p (omega (arith, wf.few_upvalues k m)) (wf.pairs k i m p below);
   }
 
 -- the store of a word that is neither a count, a depth nor an upvalue, by where it is in its level
@@ -243,20 +243,20 @@ wf_plain t l o v h a c d wf = wf_entry t l o v h (λ p q. absurd (a (omega arith
 pub wf_depth : (t : List ℕ) (l v : ℕ) → v ≤ deepest → Wf t → Wf (set t (l * level_words + depth_place) v)
 wf_depth t l v h wf = record {
   size = length-set t _ v ∙ wf.size;
-  fewLocals = λ k m. subst (λ (n : ℕ). n ≤ 256) (sym (get_or-set_other t _ _ v 0 (λ e. omega arith))) (wf.fewLocals k m);
-  fewUpvalues = λ k m. subst (λ (n : ℕ). n ≤ 256) (sym (get_or-set_other t _ _ v 0 (λ e. omega arith))) (wf.fewUpvalues k m);
-  fewConstants = λ k m. subst (λ (n : ℕ). n ≤ 256) (sym (get_or-set_other t _ _ v 0 (λ e. omega arith))) (wf.fewConstants k m);
+  few_locals = λ k m. subst (λ (n : ℕ). n ≤ 256) (sym (get_or-set_other t _ _ v 0 (λ e. omega arith))) (wf.few_locals k m);
+  few_upvalues = λ k m. subst (λ (n : ℕ). n ≤ 256) (sym (get_or-set_other t _ _ v 0 (λ e. omega arith))) (wf.few_upvalues k m);
+  few_constants = λ k m. subst (λ (n : ℕ). n ≤ 256) (sym (get_or-set_other t _ _ v 0 (λ e. omega arith))) (wf.few_constants k m);
   shallow = λ k m. few_set deepest t _ v _ h (wf.shallow k m);
   pairs = λ k i m p q.
       let below : i < upvalues_place + get_or t (k * level_words + upvalue_count_place) 0 = omega (arith, q, upvalue_count t l depth_place v k (omega arith) (λ e. omega arith)) in
-      pair_kept t l depth_place v (omega arith) (λ a b. omega arith) k i p (omega (arith, wf.fewUpvalues k m)) (wf.pairs k i m p below);
+      pair_kept t l depth_place v (omega arith) (λ a b. omega arith) k i p (omega (arith, wf.few_upvalues k m)) (wf.pairs k i m p below);
 }
 
 -- ## A context, by its parts
 
 pub locals_same : (t t' : List ℕ) (l : ℕ) → get_or t (l * level_words + local_count_place) 0 ≤ 256 →
     ((o : ℕ) → o ≤ 256 → get_or t' (l * level_words + o) 0 ≡ get_or t (l * level_words + o) 0) → locals_of t' l ≡ locals_of t l
-locals_same t t' l few same = ap (stack (λ i. localOf (get_or t' (l * level_words + i) 0))) (same local_count_place (omega arith)) ∙ stack_cong _ _ _ (λ i g. ap localOf (same i (omega arith)))
+locals_same t t' l few same = ap (stack (λ i. local_of (get_or t' (l * level_words + i) 0))) (same local_count_place (omega arith)) ∙ stack_cong _ _ _ (λ i g. ap local_of (same i (omega arith)))
 
 vec_same : {A : Type 0} (g : ℕ → A) (t t' : List ℕ) (l b c : ℕ) → b + get_or t (l * level_words + c) 0 ≤ c →
     ((o : ℕ) → b ≤ o → o ≤ c → get_or t' (l * level_words + o) 0 ≡ get_or t (l * level_words + o) 0) → vec g t' (l * level_words + b) (l * level_words + c) ≡ vec g
@@ -267,11 +267,11 @@ vec_same g t t' l b c few same =
     ap (row (λ i. g (get_or t' (l * level_words + b + i) 0))) (same c (omega arith) (omega arith)) ∙ row_cong _ _ _ (λ i h. ap g (one i h))
 
 pub upvalues_same : (t t' : List ℕ) (l : ℕ) → get_or t (l * level_words + upvalue_count_place) 0 ≤ 256 →
-    ((o : ℕ) → upvalues_place ≤ o → o ≤ upvalue_count_place → get_or t' (l * level_words + o) 0 ≡ get_or t (l * level_words + o) 0) → upvaluesOf t' l ≡ upvaluesOf t l
-upvalues_same t t' l few same = vec_same upvalueOf t t' l upvalues_place upvalue_count_place (omega arith) same
+    ((o : ℕ) → upvalues_place ≤ o → o ≤ upvalue_count_place → get_or t' (l * level_words + o) 0 ≡ get_or t (l * level_words + o) 0) → upvalues_of t' l ≡ upvalues_of t l
+upvalues_same t t' l few same = vec_same upvalue_of t t' l upvalues_place upvalue_count_place (omega arith) same
 
 pub constants_same : (t t' : List ℕ) (l : ℕ) → get_or t (l * level_words + constant_count_place) 0 ≤ 256 →
-    ((o : ℕ) → constants_place ≤ o → o ≤ constant_count_place → get_or t' (l * level_words + o) 0 ≡ get_or t (l * level_words + o) 0) → constantsOf t' l ≡ constantsOf t l
+    ((o : ℕ) → constants_place ≤ o → o ≤ constant_count_place → get_or t' (l * level_words + o) 0 ≡ get_or t (l * level_words + o) 0) → level_constants t' l ≡ level_constants t l
 constants_same t t' l few same = vec_same constant_of t t' l constants_place constant_count_place (omega arith) same
 
 -- a run is the same where its words are
@@ -280,11 +280,11 @@ pub run_same : (spans spans' : List ℕ) (i : ℕ) → get_or spans' (i * 3) 0 �
 run_same spans spans' i a b c = λ j. record { span = record { start = a j; end = b j }; count = c j }
 
 module _ (t code spans t' code' spans' : List ℕ) (l : ℕ) where
-  pub chunk_paths : (ce re ce' re' : ℕ) (ks : List Constant) → constantsOf t' l ≡ ks → codeFrom t' l ≡ codeFrom t l → runsFrom t' l ≡ runsFrom t l
-      → (ops : List ℕ) → row (λ i. get_or code' (codeFrom t l + i) 0) (ce' - codeFrom t l) ≡ ops
-      → (runs : List Run) → row (λ i. run_at spans' (runsFrom t l + i)) (re' - runsFrom t l) ≡ runs
-      → chunkAt t' code' spans' l ce' re' ≡ record { ops = ops; constants = ks; spans = runs }
-  unfolding chunkAt
+  pub chunk_paths : (ce re ce' re' : ℕ) (ks : List Constant) → level_constants t' l ≡ ks → start_of_code t' l ≡ start_of_code t l → start_of_runs t' l ≡ start_of_runs t l
+      → (ops : List ℕ) → row (λ i. get_or code' (start_of_code t l + i) 0) (ce' - start_of_code t l) ≡ ops
+      → (runs : List Run) → row (λ i. run_at spans' (start_of_runs t l + i)) (re' - start_of_runs t l) ≡ runs
+      → chunk_at t' code' spans' l ce' re' ≡ record { ops = ops; constants = ks; spans = runs }
+  unfolding chunk_at
   chunk_paths ce re ce' re' ks k f g ops a runs b =
       let a' = ap (λ (k : ℕ). row (λ i. get_or code' (k + i) 0) (ce' - k)) f ∙ a in
       let b' = ap (λ (k : ℕ). row (λ i. run_at spans' (k + i)) (re' - k)) g ∙ b in
@@ -292,18 +292,18 @@ module _ (t code spans t' code' spans' : List ℕ) (l : ℕ) where
 
   pub chunk_same : (ce re : ℕ) → get_or t (l * level_words + constant_count_place) 0 ≤ 256 →
       ((o : ℕ) → constants_place ≤ o → o ≤ runs_from_place → (o ≡ depth_place → ⊥) → get_or t' (l * level_words + o) 0 ≡ get_or t (l * level_words + o) 0)
-      → ((i : ℕ) → i < ce → get_or code' i 0 ≡ get_or code i 0) → ((i : ℕ) → i < re * 3 → get_or spans' i 0 ≡ get_or spans i 0) → chunkAt t' code' spans' l ce re ≡ chunkAt t code spans l ce re
-  unfolding chunkAt
+      → ((i : ℕ) → i < ce → get_or code' i 0 ≡ get_or code i 0) → ((i : ℕ) → i < re * 3 → get_or spans' i 0 ≡ get_or spans i 0) → chunk_at t' code' spans' l ce re ≡ chunk_at t code spans l ce re
+  unfolding chunk_at
   chunk_same ce re few same sc ss =
       chunk_paths ce re ce re _ (constants_same t t' l few (λ o a b. same o a (omega arith) (λ z. omega arith)))
       (same code_from_place (omega arith) (omega arith) (λ z. omega arith)) (same runs_from_place (omega arith) (omega arith) (λ z. omega arith))
-      _ (row_cong _ _ _ (λ i h. sc (codeFrom t l + i) (omega arith)))
-      _ (row_cong _ _ _ (λ i h. run_same spans spans' (runsFrom t l + i) (ss _ (omega arith)) (ss _ (omega arith)) (ss _ (omega arith))))
+      _ (row_cong _ _ _ (λ i h. sc (start_of_code t l + i) (omega arith)))
+      _ (row_cong _ _ _ (λ i h. run_same spans spans' (start_of_runs t l + i) (ss _ (omega arith)) (ss _ (omega arith)) (ss _ (omega arith))))
 
   pub ctx_paths : (ce re ce' re' : ℕ) → ((o : ℕ) → name_place ≤ o → o ≤ type_place → get_or t' (l * level_words + o) 0 ≡ get_or t (l * level_words + o) 0)
-      → {c : Chunk} → chunkAt t' code' spans' l ce' re' ≡ c → {ls : List Local} → locals_of t' l ≡ ls → {us : List Upvalue} → upvaluesOf t' l ≡ us → {d : ℕ} →
+      → {c : Chunk} → chunk_at t' code' spans' l ce' re' ≡ c → {ls : List Local} → locals_of t' l ≡ ls → {us : List Upvalue} → upvalues_of t' l ≡ us → {d : ℕ} →
       get_or t' (l * level_words + depth_place) 0 ≡ d
-      → ctxAt t' code' spans' l ce' re' ≡ record {
+      → ctx_at t' code' spans' l ce' re' ≡ record {
         name = get_or t (l * level_words + name_place) 0;
         arity = get_or t (l * level_words + arity_place) 0;
         type =
@@ -313,7 +313,7 @@ module _ (t code spans t' code' spans' : List ℕ) (l : ℕ) where
         upvalues = us;
         scope_depth = d;
       }
-  unfolding ctxAt
+  unfolding ctx_at
   ctx_paths ce re ce' re' head c ls us d =
       let n = head name_place (omega arith) (omega arith) in
       let a = head arity_place (omega arith) (omega arith) in
@@ -322,37 +322,37 @@ module _ (t code spans t' code' spans' : List ℕ) (l : ℕ) where
 
   -- a context is the same where its words, its code and its runs are
   pub ctx_same : (ce re : ℕ) → Wf t → l < levels → ((o : ℕ) → o < level_used → get_or t' (l * level_words + o) 0 ≡ get_or t (l * level_words + o) 0)
-      → ((i : ℕ) → i < ce → get_or code' i 0 ≡ get_or code i 0) → ((i : ℕ) → i < re * 3 → get_or spans' i 0 ≡ get_or spans i 0) → ctxAt t' code' spans' l ce re ≡ ctxAt t code spans l ce re
-  unfolding ctxAt
+      → ((i : ℕ) → i < ce → get_or code' i 0 ≡ get_or code i 0) → ((i : ℕ) → i < re * 3 → get_or spans' i 0 ≡ get_or spans i 0) → ctx_at t' code' spans' l ce re ≡ ctx_at t code spans l ce re
+  unfolding ctx_at
   ctx_same ce re wf low same sc ss =
       ctx_paths ce re ce re (λ o a b. same o (omega arith))
-      (chunk_same ce re (wf.fewConstants l low) (λ o a b n. same o (omega arith)) sc ss)
-      (locals_same t t' l (wf.fewLocals l low) (λ o a. same o (omega arith)))
-      (upvalues_same t t' l (wf.fewUpvalues l low) (λ o a b. same o (omega arith)))
+      (chunk_same ce re (wf.few_constants l low) (λ o a b n. same o (omega arith)) sc ss)
+      (locals_same t t' l (wf.few_locals l low) (λ o a. same o (omega arith)))
+      (upvalues_same t t' l (wf.few_upvalues l low) (λ o a b. same o (omega arith)))
       (same depth_place (omega arith))
 
 -- the contexts around level l, after a change above them
 pub parents_same : (t code spans t' code' spans' : List ℕ) (l : ℕ) → Wf t → l < levels
-    → ((k o : ℕ) → k < l → o < level_used → get_or t' (k * level_words + o) 0 ≡ get_or t (k * level_words + o) 0) → codeFrom t' l ≡ codeFrom t l → runsFrom t' l ≡ runsFrom t l
-    → ((k : ℕ) → k < l → codeFrom t k ≤ codeFrom t (suc k)) → ((k : ℕ) → k < l → runsFrom t k ≤ runsFrom t (suc k))
-    → ((i : ℕ) → i < codeFrom t l → get_or code' i 0 ≡ get_or code i 0) → ((i : ℕ) → i < runsFrom t l * 3 → get_or spans' i 0 ≡ get_or spans i 0)
-    → parentsOf t' code' spans' l ≡ parentsOf t code spans l
-unfolding parentsOf
+    → ((k o : ℕ) → k < l → o < level_used → get_or t' (k * level_words + o) 0 ≡ get_or t (k * level_words + o) 0) → start_of_code t' l ≡ start_of_code t l → start_of_runs t' l ≡ start_of_runs t l
+    → ((k : ℕ) → k < l → start_of_code t k ≤ start_of_code t (suc k)) → ((k : ℕ) → k < l → start_of_runs t k ≤ start_of_runs t (suc k))
+    → ((i : ℕ) → i < start_of_code t l → get_or code' i 0 ≡ get_or code i 0) → ((i : ℕ) → i < start_of_runs t l * 3 → get_or spans' i 0 ≡ get_or spans i 0)
+    → parents_of t' code' spans' l ≡ parents_of t code spans l
+unfolding parents_of
 parents_same t code spans t' code' spans' zero wf low same f g oc or sc ss = refl
 parents_same t code spans t' code' spans' (suc l) wf low same f g oc or sc ss =
     ap₂ ◌∷◌
-    (ap₂ (ctxAt t' code' spans' l) f g ∙ ctx_same t code spans t' code' spans' l (codeFrom t (suc l)) (runsFrom t (suc l)) wf (omega arith) (λ o h. same l o (omega arith) h) sc ss)
+    (ap₂ (ctx_at t' code' spans' l) f g ∙ ctx_same t code spans t' code' spans' l (start_of_code t (suc l)) (start_of_runs t (suc l)) wf (omega arith) (λ o h. same l o (omega arith) h) sc ss)
     (parents_same t code spans t' code' spans' l wf (omega arith) (λ k o a b. same k o (omega arith) b) (same l code_from_place (omega arith) (omega arith))
     (same l runs_from_place (omega arith) (omega arith)) (λ k h. oc k (omega arith)) (λ k h. or k (omega arith))
     (λ i h. sc i (omega (arith, oc l (omega arith)))) (λ i h. ss i (omega (arith, or l (omega arith)))))
 
 -- the same where code and runs stay: no order is needed
 pub parents_named : (t t' : List ℕ) (l : ℕ) → Wf t → l < levels
-    → ((k o : ℕ) → k < l → o < level_used → get_or t' (k * level_words + o) 0 ≡ get_or t (k * level_words + o) 0) → codeFrom t' l ≡ codeFrom t l → runsFrom t' l ≡ runsFrom t l
-    → (code spans : List ℕ) → parentsOf t' code spans l ≡ parentsOf t code spans l
-unfolding parentsOf
+    → ((k o : ℕ) → k < l → o < level_used → get_or t' (k * level_words + o) 0 ≡ get_or t (k * level_words + o) 0) → start_of_code t' l ≡ start_of_code t l → start_of_runs t' l ≡ start_of_runs t l
+    → (code spans : List ℕ) → parents_of t' code spans l ≡ parents_of t code spans l
+unfolding parents_of
 parents_named t t' zero wf low same f g code spans = refl
 parents_named t t' (suc l) wf low same f g code spans =
     ap₂ ◌∷◌
-    (ap₂ (ctxAt t' code spans l) f g ∙ ctx_same t code spans t' code spans l (codeFrom t (suc l)) (runsFrom t (suc l)) wf (omega arith) (λ o h. same l o (omega arith) h) (λ i h. refl) (λ i h. refl))
+    (ap₂ (ctx_at t' code spans l) f g ∙ ctx_same t code spans t' code spans l (start_of_code t (suc l)) (start_of_runs t (suc l)) wf (omega arith) (λ o h. same l o (omega arith) h) (λ i h. refl) (λ i h. refl))
     (parents_named t t' l wf (omega arith) (λ k o a b. same k o (omega arith) b) (same l code_from_place (omega arith) (omega arith)) (same l runs_from_place (omega arith) (omega arith)) code spans)

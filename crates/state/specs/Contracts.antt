@@ -5,7 +5,7 @@ use Rattle.rules.specs.declared.Span.{Span}
 use Rattle.rules.specs.declared.Refusal.TheVariants.{AccessInsideInitializer, TooManyUpvalues}
 use Rattle.rules.specs.Chunk.{Chunk, Run, same_span, write_u8, write_constant, Written, at_place, no_room}
 use Rattle.rules.specs.Compiler.{Local, Upvalue, CompilerCtx, new_ctx, Found, at_slot, uninitialized, no_local, find_local, capture, Resolved, captured, nowhere, failed, add_upvalue, resolve_upvalue, declared_here, initialize}
-use Rattle.state.specs.Layout.{levels, code_end_at, image_at, codeFrom, locals_of, constant_of, runsFrom, codeEnd, runsEnd, run_at, chunkAt, ctxAt, parentsOf, type_of, Wf, Coded, upvalues_place, upvalue_count_place, constants_place, constant_count_place, depth_place, code_from_place, level_words, local_count_place}
+use Rattle.state.specs.Layout.{levels, code_end_at, image_at, start_of_code, locals_of, constant_of, start_of_runs, end_of_code, end_of_runs, run_at, chunk_at, ctx_at, parents_of, type_of, Wf, Coded, upvalues_place, upvalue_count_place, constants_place, constant_count_place, depth_place, code_from_place, level_words, local_count_place}
 use Rattle.state.specs.declared.Slot.{Slot}
 use Rattle.state.specs.declared.Slot.TheVariants as slot
 use Rattle.state.specs.declared.Up.{Up}
@@ -73,16 +73,16 @@ up_of span nm up.Full ctx parents = failed (TooManyUpvalues span)
 
 -- whatever the code is, and what is around
 pub record Added (t t' : List ℕ) (l : ℕ) (u : Upvalue) (r : Up) : Type 0 where
-  pub does : (span : Span) (nm : ℕ) (code spans : List ℕ) (ce re : ℕ) (above : List CompilerCtx) → up_of span nm r (ctxAt t' code spans l ce re) above ≡
-      add_upvalue u span (ctxAt t code spans l ce re) above
+  pub does : (span : Span) (nm : ℕ) (code spans : List ℕ) (ce re : ℕ) (above : List CompilerCtx) → up_of span nm r (ctx_at t' code spans l ce re) above ≡
+      add_upvalue u span (ctx_at t code spans l ce re) above
   pub some : r ≡ up.Nothing → ⊥
   pub kept : Kept (l * level_words + upvalues_place) (l * level_words + constants_place) t t'
   pub wf : Wf t'
 
 -- of the level and those around it only locals' marks and upvalues change
 pub record Captured (t t' : List ℕ) (l nm : ℕ) (r : Up) : Type 0 where
-  pub does : (span : Span) (code spans : List ℕ) (ce re : ℕ) → up_of span nm r (ctxAt t' code spans l ce re) (parentsOf t' code spans l) ≡ resolve_upvalue nm
-      span (ctxAt t code spans l ce re) (parentsOf t code spans l)
+  pub does : (span : Span) (code spans : List ℕ) (ce re : ℕ) → up_of span nm r (ctx_at t' code spans l ce re) (parents_of t' code spans l) ≡ resolve_upvalue nm
+      span (ctx_at t code spans l ce re) (parents_of t code spans l)
   pub quiet : r ≡ up.Nothing → t' ≡ t
   pub kept : Kept 0 (l * level_words + constants_place) t t'
   pub rest : (k i : ℕ) → k ≤ l → constants_place ≤ i → i < level_words → get_or t' (k * level_words + i) 0 ≡ get_or t (k * level_words + i) 0
@@ -99,16 +99,16 @@ last_grows spans first m span = ltb first m && grows span (run_at spans (m - 1))
 
 -- the innermost function's chunk
 abbrev pub top_chunk : (t code spans : List ℕ) → ℕ → Chunk
-top_chunk t code spans l = chunkAt t code spans l (codeEnd t) (runsEnd t)
+top_chunk t code spans l = chunk_at t code spans l (end_of_code t) (end_of_runs t)
 
 abbrev pub WroteAs : (t code spans t' code' spans' : List ℕ) → (l limit byte : ℕ) → Span → Emitted → Type 0
-WroteAs t code spans t' code' spans' l limit byte span emitted.Done = (codeEnd t < limit) × (top_chunk t' code' spans' l ≡ write_u8 (top_chunk t code spans l) byte span)
-WroteAs t code spans t' code' spans' l limit byte span emitted.Full = limit ≤ codeEnd t
+WroteAs t code spans t' code' spans' l limit byte span emitted.Done = (end_of_code t < limit) × (top_chunk t' code' spans' l ≡ write_u8 (top_chunk t code spans l) byte span)
+WroteAs t code spans t' code' spans' l limit byte span emitted.Full = limit ≤ end_of_code t
 
 pub record Wrote (t code spans t' code' spans' : List ℕ) (l limit byte : ℕ) (span : Span) (r : Emitted) : Type 0 where
   pub does : WroteAs t code spans t' code' spans' l limit byte span r
-  pub codeKept : (i : ℕ) → i < codeEnd t → get_or code' i 0 ≡ get_or code i 0
-  pub runsKept : (i : ℕ) → i < runsFrom t l * 3 → get_or spans' i 0 ≡ get_or spans i 0
+  pub code_kept : (i : ℕ) → i < end_of_code t → get_or code' i 0 ≡ get_or code i 0
+  pub runs_kept : (i : ℕ) → i < start_of_runs t l * 3 → get_or spans' i 0 ≡ get_or spans i 0
   pub kept : Kept code_end_at image_at t t'
   pub coded : Coded t' code' spans' l limit
   pub wf : Wf t'
@@ -118,7 +118,7 @@ written_as (constanted.At i) c = at_place i c
 written_as constanted.Full c = no_room
 
 pub record Constants (t t' : List ℕ) (l w : ℕ) (r : Constanted) : Type 0 where
-  pub does : (code spans : List ℕ) (ce re : ℕ) → written_as r (chunkAt t' code spans l ce re) ≡ write_constant (chunkAt t code spans l ce re) (constant_of w)
+  pub does : (code spans : List ℕ) (ce re : ℕ) → written_as r (chunk_at t' code spans l ce re) ≡ write_constant (chunk_at t code spans l ce re) (constant_of w)
   pub kept : Kept (l * level_words + constants_place) (l * level_words + depth_place) t t'
   pub wf : Wf t'
 
@@ -159,15 +159,15 @@ pub record Moved (t t' : List ℕ) (l depth : ℕ) : Type 0 where
 
 -- code and runs end where the level's begin
 pub record Closed (t t' : List ℕ) (l : ℕ) : Type 0 where
-  pub code : codeEnd t' ≡ codeFrom t l
-  pub runs : runsEnd t' ≡ runsFrom t l
+  pub code : end_of_code t' ≡ start_of_code t l
+  pub runs : end_of_runs t' ≡ start_of_runs t l
   pub kept : Kept code_end_at image_at t t'
   pub wf : Wf t'
 
 -- the context above level l, whatever the code and the runs are
 pub record Began (t t' : List ℕ) (l name arity type : ℕ) : Type 0 where
-  pub fresh : (code spans : List ℕ) → ctxAt t' code spans (suc l) (codeEnd t') (runsEnd t') ≡ new_ctx name arity (type_of type) (get_or t (l * level_words + depth_place) 0 + 1)
-  pub around : (code spans : List ℕ) → parentsOf t' code spans (suc l) ≡ ctxAt t code spans l (codeEnd t) (runsEnd t) ∷ parentsOf t code spans l
+  pub fresh : (code spans : List ℕ) → ctx_at t' code spans (suc l) (end_of_code t') (end_of_runs t') ≡ new_ctx name arity (type_of type) (get_or t (l * level_words + depth_place) 0 + 1)
+  pub around : (code spans : List ℕ) → parents_of t' code spans (suc l) ≡ ctx_at t code spans l (end_of_code t) (end_of_runs t) ∷ parents_of t code spans l
   pub coded : (code spans : List ℕ) (limit : ℕ) → Coded t code spans l limit → Coded t' code spans (suc l) limit
   pub kept : Kept (suc l * level_words) (suc l * level_words + level_words) t t'
   pub wf : Wf t'

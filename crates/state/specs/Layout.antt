@@ -96,8 +96,8 @@ module _ {A : Type 0} where
 -- ## One entry is one word
 
 -- a local: name, whether initialized, whether captured, depth
-abbrev pub localOf : ℕ → Local
-localOf w =
+abbrev pub local_of : ℕ → Local
+local_of w =
     record {
       name = w % 65536;
       depth = w / 65536 / 2 / 2;
@@ -105,8 +105,8 @@ localOf w =
       is_captured = eqb (w / 65536 / 2 % 2) 1;
     }
 
-abbrev pub upvalueOf : ℕ → Upvalue
-upvalueOf w = record { idx = w % 256; is_local = eqb (w / 256) 1 }
+abbrev pub upvalue_of : ℕ → Upvalue
+upvalue_of w = record { idx = w % 256; is_local = eqb (w / 256) 1 }
 
 -- a number's bits are below 2 ^ 63, then come names, then functions: two words are one constant where they are one word
 abbrev pub constant_of : ℕ → Constant
@@ -135,72 +135,72 @@ abbrev pub word : List ℕ → (level o : ℕ) → ℕ
 word t l o = get_or t (l * level_words + o) 0
 
 abbrev pub locals_of : List ℕ → ℕ → List Local
-locals_of t l = pile localOf t (l * level_words) (l * level_words + local_count_place)
+locals_of t l = pile local_of t (l * level_words) (l * level_words + local_count_place)
 
-abbrev pub upvaluesOf : List ℕ → ℕ → List Upvalue
-upvaluesOf t l = vec upvalueOf t (l * level_words + upvalues_place) (l * level_words + upvalue_count_place)
+abbrev pub upvalues_of : List ℕ → ℕ → List Upvalue
+upvalues_of t l = vec upvalue_of t (l * level_words + upvalues_place) (l * level_words + upvalue_count_place)
 
-abbrev pub constantsOf : List ℕ → ℕ → List Constant
-constantsOf t l = vec constant_of t (l * level_words + constants_place) (l * level_words + constant_count_place)
+abbrev pub level_constants : List ℕ → ℕ → List Constant
+level_constants t l = vec constant_of t (l * level_words + constants_place) (l * level_words + constant_count_place)
 
-abbrev pub codeFrom : List ℕ → ℕ → ℕ
-codeFrom t l = get_or t (l * level_words + code_from_place) 0
+abbrev pub start_of_code : List ℕ → ℕ → ℕ
+start_of_code t l = get_or t (l * level_words + code_from_place) 0
 
-abbrev pub runsFrom : List ℕ → ℕ → ℕ
-runsFrom t l = get_or t (l * level_words + runs_from_place) 0
+abbrev pub start_of_runs : List ℕ → ℕ → ℕ
+start_of_runs t l = get_or t (l * level_words + runs_from_place) 0
 
-abbrev pub codeEnd : List ℕ → ℕ
-codeEnd t = get_or t code_end_at 0
+abbrev pub end_of_code : List ℕ → ℕ
+end_of_code t = get_or t code_end_at 0
 
-abbrev pub runsEnd : List ℕ → ℕ
-runsEnd t = get_or t runs_end_at 0
+abbrev pub end_of_runs : List ℕ → ℕ
+end_of_runs t = get_or t runs_end_at 0
 
 -- a level's code and runs, which end at `ce` and `re`
-unfoldable pub chunkAt : (t code spans : List ℕ) → (level ce re : ℕ) → Chunk
-chunkAt t code spans l ce re =
+unfoldable pub chunk_at : (t code spans : List ℕ) → (level ce re : ℕ) → Chunk
+chunk_at t code spans l ce re =
     record {
-      ops = row (λ i. get_or code (codeFrom t l + i) 0) (ce - codeFrom t l);
-      constants = constantsOf t l;
-      spans = row (λ i. run_at spans (runsFrom t l + i)) (re - runsFrom t l);
+      ops = row (λ i. get_or code (start_of_code t l + i) 0) (ce - start_of_code t l);
+      constants = level_constants t l;
+      spans = row (λ i. run_at spans (start_of_runs t l + i)) (re - start_of_runs t l);
     }
 
-unfoldable pub ctxAt : (t code spans : List ℕ) → (level ce re : ℕ) → CompilerCtx
-ctxAt t code spans l ce re =
+unfoldable pub ctx_at : (t code spans : List ℕ) → (level ce re : ℕ) → CompilerCtx
+ctx_at t code spans l ce re =
     record {
       name = get_or t (l * level_words + name_place) 0;
       arity = get_or t (l * level_words + arity_place) 0;
       type = type_of (get_or t (l * level_words + type_place) 0);
-      chunk = chunkAt t code spans l ce re;
+      chunk = chunk_at t code spans l ce re;
       locals = locals_of t l;
-      upvalues = upvaluesOf t l;
+      upvalues = upvalues_of t l;
       scope_depth = get_or t (l * level_words + depth_place) 0;
     }
 
 -- the contexts around a level: each one's code and runs end where those of the next begin
-unfoldable pub parentsOf : (t code spans : List ℕ) → (level : ℕ) → List CompilerCtx
-parentsOf t code spans zero = []
-parentsOf t code spans (suc l) = ctxAt t code spans l (codeFrom t (suc l)) (runsFrom t (suc l)) ∷ parentsOf t code spans l
+unfoldable pub parents_of : (t code spans : List ℕ) → (level : ℕ) → List CompilerCtx
+parents_of t code spans zero = []
+parents_of t code spans (suc l) = ctx_at t code spans l (start_of_code t (suc l)) (start_of_runs t (suc l)) ∷ parents_of t code spans l
 
 -- ## What holds at all times
 
 pub record Wf (t : List ℕ) : Type 0 where
   pub size : length t ≡ table_words
-  pub fewLocals : (k : ℕ) → k < levels → get_or t (k * level_words + local_count_place) 0 ≤ 256
-  pub fewUpvalues : (k : ℕ) → k < levels → get_or t (k * level_words + upvalue_count_place) 0 ≤ 256
-  pub fewConstants : (k : ℕ) → k < levels → get_or t (k * level_words + constant_count_place) 0 ≤ 256
+  pub few_locals : (k : ℕ) → k < levels → get_or t (k * level_words + local_count_place) 0 ≤ 256
+  pub few_upvalues : (k : ℕ) → k < levels → get_or t (k * level_words + upvalue_count_place) 0 ≤ 256
+  pub few_constants : (k : ℕ) → k < levels → get_or t (k * level_words + constant_count_place) 0 ≤ 256
   pub shallow : (k : ℕ) → k < levels → get_or t (k * level_words + depth_place) 0 ≤ deepest
   -- an upvalue's word is an index, and 256 more of it where it is a local of the function around
   pub pairs : (k o : ℕ) → k < levels → upvalues_place ≤ o → o < upvalues_place + get_or t (k * level_words + upvalue_count_place) 0 → get_or t (k * level_words + o) 0 < 512
 
 -- the code and the runs of the open functions lie one after the other, within the limit
 pub record Coded (t code spans : List ℕ) (l limit : ℕ) : Type 0 where
-  pub roomCode : limit ≤ length code
-  pub roomRuns : limit * 3 ≤ length spans
-  pub within : codeEnd t ≤ limit
-  pub fewer : runsEnd t ≤ codeEnd t
-  pub fewerAt : (k : ℕ) → k ≤ l → runsFrom t k ≤ codeFrom t k
-  pub fromZero : codeFrom t 0 ≡ 0
-  pub top : codeFrom t l ≤ codeEnd t
-  pub topRuns : runsFrom t l ≤ runsEnd t
-  pub order : (k : ℕ) → k < l → codeFrom t k ≤ codeFrom t (suc k)
-  pub orderRuns : (k : ℕ) → k < l → runsFrom t k ≤ runsFrom t (suc k)
+  pub room_code : limit ≤ length code
+  pub room_runs : limit * 3 ≤ length spans
+  pub within : end_of_code t ≤ limit
+  pub fewer : end_of_runs t ≤ end_of_code t
+  pub fewer_at : (k : ℕ) → k ≤ l → start_of_runs t k ≤ start_of_code t k
+  pub from_zero : start_of_code t 0 ≡ 0
+  pub top : start_of_code t l ≤ end_of_code t
+  pub top_runs : start_of_runs t l ≤ end_of_runs t
+  pub order : (k : ℕ) → k < l → start_of_code t k ≤ start_of_code t (suc k)
+  pub order_runs : (k : ℕ) → k < l → start_of_runs t k ≤ start_of_runs t (suc k)

@@ -12,7 +12,7 @@ use lib.Dec.{ltb}
 use borrow.Author.Tests.{eq-eqb, ne_eqb, lt-ltb, le-ltb}
 use Rattle.rules.specs.Base.{position}
 use Rattle.rules.specs.Chunk.{Constant, CN, CS, CF, same_constant, written, write_constant, at_place}
-use Rattle.state.specs.Layout.{levels, constant_of, constantsOf, chunkAt, Wf, constants_place, constant_count_place, depth_place, level_words}
+use Rattle.state.specs.Layout.{levels, constant_of, level_constants, chunk_at, Wf, constants_place, constant_count_place, depth_place, level_words}
 use Rattle.state.specs.Contracts.{Kept, First, Constants}
 use Rattle.state.specs.declared.Constanted.TheVariants as constanted
 use Rattle.state.proofs.Laws.{length_row, position_at, position_none, push_vec, kept_set, kept_same, kept_then, if_true, if_false, lt_or_le, chunk_paths, wf_count, wf_plain}
@@ -52,27 +52,27 @@ apart v w ne =
     (λ g. ne_eqb (v - (2 ^ 63 + 2 ^ 32)) (w - (2 ^ 63 + 2 ^ 32)) (λ (e : v - (2 ^ 63 + 2 ^ 32) ≡ w - (2 ^ 63 + 2 ^ 32)). ne (omega arith))))
 
 module _ (t : List ℕ) (l w : ℕ) (low : l < levels) (wf : Wf t) (r : ℕ) (found : First t (l * level_words + constants_place) (get_or t (l * level_words + constant_count_place) 0) w r) where
-  by_place : (o : Option ℕ) → position (same_constant (constant_of w)) (constantsOf t l) ≡ o → (code spans : List ℕ) (ce re : ℕ) → write_constant
-      (chunkAt t code spans l ce re) (constant_of w) ≡ written o (chunkAt t code spans l ce re) (constant_of w)
-  unfolding write_constant chunkAt
-  by_place o e code spans ce re = ap (λ (x : Option ℕ). written x (chunkAt t code spans l ce re) (constant_of w)) e
+  by_place : (o : Option ℕ) → position (same_constant (constant_of w)) (level_constants t l) ≡ o → (code spans : List ℕ) (ce re : ℕ) → write_constant
+      (chunk_at t code spans l ce re) (constant_of w) ≡ written o (chunk_at t code spans l ce re) (constant_of w)
+  unfolding write_constant chunk_at
+  by_place o e code spans ce re = ap (λ (x : Option ℕ). written x (chunk_at t code spans l ce re) (constant_of w)) e
 
   pub there : r < get_or t (l * level_words + constant_count_place) 0 → Constants t t l w (constanted.At r)
   unfolding written
   there h =
-      let e : position (same_constant (constant_of w)) (constantsOf t l) ≡ some r = position_at _ _ r _ h (λ j g. apart w _ (found.none j g))
+      let e : position (same_constant (constant_of w)) (level_constants t l) ≡ some r = position_at _ _ r _ h (λ j g. apart w _ (found.none j g))
       (ap (λ (x : ℕ). same_constant (constant_of w) (constant_of x)) (found.here h) ∙ same_self (constant_of w)) in
       record { does = λ code spans ce re. sym (by_place (some r) e code spans ce re); kept = kept_same _ _ t; wf = wf }
 
   module _ (h : get_or t (l * level_words + constant_count_place) 0 ≤ r) where
-    none : position (same_constant (constant_of w)) (constantsOf t l) ≡ nothing
+    none : position (same_constant (constant_of w)) (level_constants t l) ≡ nothing
     none = position_none _ _ _ (λ j g. apart w _ (found.none j (omega arith)))
 
-    counted : (b : Bool) → ltb (get_or t (l * level_words + constant_count_place) 0) 256 ≡ b → ltb (length (constantsOf t l)) 256 ≡ b
+    counted : (b : Bool) → ltb (get_or t (l * level_words + constant_count_place) 0) 256 ≡ b → ltb (length (level_constants t l)) 256 ≡ b
     counted b e = ap (λ (k : ℕ). ltb k 256) (length_row _ _) ∙ e
 
     pub full : 256 ≤ get_or t (l * level_words + constant_count_place) 0 → Constants t t l w constanted.Full
-    unfolding written chunkAt
+    unfolding written chunk_at
     full m = record {
       does = λ code spans ce re. sym (by_place nothing none code spans ce re ∙ if_false _ _ _ (counted false (le-ltb _ _ m)));
       kept = kept_same _ _ t;
@@ -82,16 +82,16 @@ module _ (t : List ℕ) (l w : ℕ) (low : l < levels) (wf : Wf t) (r : ℕ) (fo
     pub pushed : get_or t (l * level_words + constant_count_place) 0 < 256 → Constants t
         (set (set t (l * level_words + constants_place + get_or t (l * level_words + constant_count_place) 0) w) (l * level_words + constant_count_place)
         (get_or t (l * level_words + constant_count_place) 0 + 1)) l w (constanted.At (get_or t (l * level_words + constant_count_place) 0))
-    unfolding written chunkAt
+    unfolding written chunk_at
     pushed m =
         let n : ℕ = get_or t (l * level_words + constant_count_place) 0 in
         let t₁ : List ℕ = set t (l * level_words + constants_place + n) w in
         let t' : List ℕ = set t₁ (l * level_words + constant_count_place) (n + 1) in
-        let cs : constantsOf t' l ≡ constantsOf t l ++ (constant_of w ∷ []) = push_vec constant_of t (l * level_words + constants_place)
+        let cs : level_constants t' l ≡ level_constants t l ++ (constant_of w ∷ []) = push_vec constant_of t (l * level_words + constants_place)
         (l * level_words + constant_count_place) w (omega arith) (omega (arith, wf.size)) in
         let e : l * level_words + (constants_place + n) ≡ l * level_words + constants_place + n = omega arith in
         let kp : Kept (l * level_words + constants_place) (l * level_words + depth_place) t t' = kept_then _ _ t t₁ _ _ (kept_set _ _ t _ _ (omega arith) (omega arith)) (omega arith) (omega arith) in
-        let len : length (constantsOf t l) ≡ n = length_row _ _ in
+        let len : length (level_constants t l) ≡ n = length_row _ _ in
         record {
           does = λ code spans ce re.
               ap₂ at_place (sym len) (chunk_paths t code spans t' code spans l ce re ce re _ cs (kp.above _ (omega arith)) (kp.above _ (omega arith)) _ refl _ refl)

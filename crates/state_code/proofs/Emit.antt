@@ -10,7 +10,7 @@ use lib.Seq.{get_or-set_same, get_or-set_other}
 use borrow.Author.Tests.{lt-ltb, le-ltb, ltb-true, eq-eqb, ne_eqb}
 use Rattle.rules.specs.declared.Span.{Span}
 use Rattle.rules.specs.Chunk.{Run, same_span, push_span, write_u8}
-use Rattle.state.specs.Layout.{levels, code_end_at, runs_end_at, image_at, row, codeFrom, runsFrom, codeEnd, runsEnd, run_at, chunkAt, Wf, Coded, code_from_place, runs_from_place, level_words}
+use Rattle.state.specs.Layout.{levels, code_end_at, runs_end_at, image_at, row, start_of_code, start_of_runs, end_of_code, end_of_runs, run_at, chunk_at, Wf, Coded, code_from_place, runs_from_place, level_words}
 use Rattle.state.specs.Contracts.{Kept, grows, last_grows, top_chunk, Wrote}
 use Rattle.state.specs.declared.Emitted.TheVariants as emitted
 use Rattle.state.proofs.Laws.{row_cong, row_snoc, run_same, kept_set, kept_same, kept_off, kept_then, if_true, if_false, constants_same, chunk_paths, wf_plain}
@@ -147,90 +147,90 @@ runs_fresh spans rs m span h r g =
 -- ## emit_u8's ways out
 
 module _ (t code spans : List ℕ) (l limit byte : ℕ) (span : Span) (low : l < levels) (wf : Wf t) (ok : Coded t code spans l limit) where
-  pub full : limit ≤ codeEnd t → Wrote t code spans t code spans l limit byte span emitted.Full
+  pub full : limit ≤ end_of_code t → Wrote t code spans t code spans l limit byte span emitted.Full
   full h = record {
     does = h;
-    codeKept = λ i z. refl;
-    runsKept = λ i z. refl;
+    code_kept = λ i z. refl;
+    runs_kept = λ i z. refl;
     kept = kept_same _ _ t;
     coded = ok;
     wf = wf;
   }
 
-  module _ (h : codeEnd t < limit) where
+  module _ (h : end_of_code t < limit) where
     -- whatever becomes of the runs
-    changed : (t' spans' : List ℕ) (re' : ℕ) → Kept code_end_at image_at t t' → row (λ i. run_at spans' (runsFrom t l + i)) (re' - runsFrom t l) ≡ push_span
-        (row (λ i. run_at spans (runsFrom t l + i)) (runsEnd t - runsFrom t l)) span → codeEnd t' ≡ codeEnd t + 1 → runsEnd t' ≡ re' → top_chunk t'
-        (set code (codeEnd t) byte) spans' l ≡ write_u8 (top_chunk t code spans l) byte span
-    unfolding chunkAt write_u8
+    changed : (t' spans' : List ℕ) (re' : ℕ) → Kept code_end_at image_at t t' → row (λ i. run_at spans' (start_of_runs t l + i)) (re' - start_of_runs t l) ≡ push_span
+        (row (λ i. run_at spans (start_of_runs t l + i)) (end_of_runs t - start_of_runs t l)) span → end_of_code t' ≡ end_of_code t + 1 → end_of_runs t' ≡ re' → top_chunk t'
+        (set code (end_of_code t) byte) spans' l ≡ write_u8 (top_chunk t code spans l) byte span
+    unfolding chunk_at write_u8
     changed t' spans' re' kp runs ce re =
         let at : (o : ℕ) → o < level_words → get_or t' (l * level_words + o) 0 ≡ get_or t (l * level_words + o) 0 = λ o b. kept_off _ _ t t' _ kp (λ x y. omega arith) in
-        ap₂ (chunkAt t' (set code (codeEnd t) byte) spans' l) ce re
-        ∙ chunk_paths t code spans t' (set code (codeEnd t) byte) spans' l (codeEnd t) (runsEnd t) (codeEnd t + 1) re' _
-        (constants_same t t' l (wf.fewConstants l low) (λ o a b. at o (omega arith))) (at code_from_place (omega arith)) (at runs_from_place (omega arith))
-        _ (code_more code (codeFrom t l) (codeEnd t) byte ok.top (omega (arith, ok.roomCode))) _ runs
+        ap₂ (chunk_at t' (set code (end_of_code t) byte) spans' l) ce re
+        ∙ chunk_paths t code spans t' (set code (end_of_code t) byte) spans' l (end_of_code t) (end_of_runs t) (end_of_code t + 1) re' _
+        (constants_same t t' l (wf.few_constants l low) (λ o a b. at o (omega arith))) (at code_from_place (omega arith)) (at runs_from_place (omega arith))
+        _ (code_more code (start_of_code t l) (end_of_code t) byte ok.top (omega (arith, ok.room_code))) _ runs
 
     -- the invariant, after
-    kept_coded : (t' spans' : List ℕ) (re' : ℕ) → Kept code_end_at image_at t t' → length spans' ≡ length spans → codeEnd t' ≡ codeEnd t + 1 → runsEnd t' ≡ re'
-        → runsEnd t ≤ re' → re' ≤ codeEnd t + 1 → Coded t' (set code (codeEnd t) byte) spans' l limit
+    kept_coded : (t' spans' : List ℕ) (re' : ℕ) → Kept code_end_at image_at t t' → length spans' ≡ length spans → end_of_code t' ≡ end_of_code t + 1 → end_of_runs t' ≡ re'
+        → end_of_runs t ≤ re' → re' ≤ end_of_code t + 1 → Coded t' (set code (end_of_code t) byte) spans' l limit
     kept_coded t' spans' re' kp ns ce re ge le =
         let at : (k o : ℕ) → k < levels → o < level_words → get_or t' (k * level_words + o) 0 ≡ get_or t (k * level_words + o) 0 = λ k o a b. kept_off _ _ t t' _ kp (λ x y. omega arith) in
         let f = at l code_from_place low (omega arith) in
         let g = at l runs_from_place low (omega arith) in
         record {
-          roomCode = omega (arith, length-set code (codeEnd t) byte, ok.roomCode);
-          roomRuns = omega (arith, ok.roomRuns);
+          room_code = omega (arith, length-set code (end_of_code t) byte, ok.room_code);
+          room_runs = omega (arith, ok.room_runs);
           within = omega arith;
           fewer = omega arith;
-          fewerAt = λ k z. omega (arith, at k code_from_place (omega arith) (omega arith), at k runs_from_place (omega arith) (omega arith), ok.fewerAt k z);
-          fromZero = at 0 code_from_place (omega arith) (omega arith) ∙ ok.fromZero;
+          fewer_at = λ k z. omega (arith, at k code_from_place (omega arith) (omega arith), at k runs_from_place (omega arith) (omega arith), ok.fewer_at k z);
+          from_zero = at 0 code_from_place (omega arith) (omega arith) ∙ ok.from_zero;
           top = omega (arith, ok.top);
-          topRuns = omega (arith, ok.topRuns);
+          top_runs = omega (arith, ok.top_runs);
           order = λ k z. omega (arith, at k code_from_place (omega arith) (omega arith), at (suc k) code_from_place (omega arith) (omega arith), ok.order k z);
-          orderRuns = λ k z. omega (arith, at k runs_from_place (omega arith) (omega arith), at (suc k) runs_from_place (omega arith) (omega arith), ok.orderRuns k z);
+          order_runs = λ k z. omega (arith, at k runs_from_place (omega arith) (omega arith), at (suc k) runs_from_place (omega arith) (omega arith), ok.order_runs k z);
         }
 
-    pub grown : last_grows spans (runsFrom t l) (runsEnd t) span ≡ true → Wrote t code spans (set t code_end_at (codeEnd t + 1)) (set code (codeEnd t) byte)
-        (set spans ((runsEnd t - 1) * 3 + 2) (get_or spans ((runsEnd t - 1) * 3 + 2) 0 + 1)) l limit byte span emitted.Done
+    pub grown : last_grows spans (start_of_runs t l) (end_of_runs t) span ≡ true → Wrote t code spans (set t code_end_at (end_of_code t + 1)) (set code (end_of_code t) byte)
+        (set spans ((end_of_runs t - 1) * 3 + 2) (get_or spans ((end_of_runs t - 1) * 3 + 2) 0 + 1)) l limit byte span emitted.Done
     grown g =
-        let t' : List ℕ = set t code_end_at (codeEnd t + 1) in
-        let v : ℕ = get_or spans ((runsEnd t - 1) * 3 + 2) 0 + 1 in
-        let spans' : List ℕ = set spans ((runsEnd t - 1) * 3 + 2) v in
+        let t' : List ℕ = set t code_end_at (end_of_code t + 1) in
+        let v : ℕ = get_or spans ((end_of_runs t - 1) * 3 + 2) 0 + 1 in
+        let spans' : List ℕ = set spans ((end_of_runs t - 1) * 3 + 2) v in
         let kp : Kept code_end_at image_at t t' = kept_set _ _ t _ _ (omega arith) (omega arith) in
-        let ce : codeEnd t' ≡ codeEnd t + 1 = get_or-set_same t code_end_at (codeEnd t + 1) 0 (omega (arith, wf.size)) in
-        let re : runsEnd t' ≡ runsEnd t = get_or-set_other t code_end_at runs_end_at (codeEnd t + 1) 0 (omega arith) in
-        let lt : runsFrom t l < runsEnd t = grew spans (runsFrom t l) (runsEnd t) span g in
-        let gr : grows span (run_at spans (runsEnd t - 1)) ≡ true = and_right (ltb (runsFrom t l) (runsEnd t)) _ g in
-        let room : runsEnd t * 3 ≤ length spans = omega (arith, ok.roomRuns, ok.fewer) in
+        let ce : end_of_code t' ≡ end_of_code t + 1 = get_or-set_same t code_end_at (end_of_code t + 1) 0 (omega (arith, wf.size)) in
+        let re : end_of_runs t' ≡ end_of_runs t = get_or-set_other t code_end_at runs_end_at (end_of_code t + 1) 0 (omega arith) in
+        let lt : start_of_runs t l < end_of_runs t = grew spans (start_of_runs t l) (end_of_runs t) span g in
+        let gr : grows span (run_at spans (end_of_runs t - 1)) ≡ true = and_right (ltb (start_of_runs t l) (end_of_runs t)) _ g in
+        let room : end_of_runs t * 3 ≤ length spans = omega (arith, ok.room_runs, ok.fewer) in
         record {
-          does = (h, changed t' spans' (runsEnd t) kp (runs_grow spans (runsFrom t l) (runsEnd t) span lt room gr) ce re);
-          codeKept = λ i z. get_or-set_other code (codeEnd t) i byte 0 (omega arith);
-          runsKept = λ i z. get_or-set_other spans ((runsEnd t - 1) * 3 + 2) i v 0 (omega arith);
+          does = (h, changed t' spans' (end_of_runs t) kp (runs_grow spans (start_of_runs t l) (end_of_runs t) span lt room gr) ce re);
+          code_kept = λ i z. get_or-set_other code (end_of_code t) i byte 0 (omega arith);
+          runs_kept = λ i z. get_or-set_other spans ((end_of_runs t - 1) * 3 + 2) i v 0 (omega arith);
           kept = kp;
-          coded = kept_coded t' spans' (runsEnd t) kp (length-set spans _ _) ce re (omega arith) (omega (arith, ok.fewer));
+          coded = kept_coded t' spans' (end_of_runs t) kp (length-set spans _ _) ce re (omega arith) (omega (arith, ok.fewer));
           wf = wf_plain t levels 0 _ (omega arith) (λ a b. omega arith) (λ z. omega arith) (λ z. omega arith) wf;
         }
 
-    pub fresh : last_grows spans (runsFrom t l) (runsEnd t) span ≡ false → Wrote t code spans
-        (set (set t code_end_at (codeEnd t + 1)) runs_end_at (runsEnd t + 1)) (set code (codeEnd t) byte)
-        (set (set (set spans (runsEnd t * 3) span.start) (runsEnd t * 3 + 1) span.end) (runsEnd t * 3 + 2) 1) l limit byte span emitted.Done
+    pub fresh : last_grows spans (start_of_runs t l) (end_of_runs t) span ≡ false → Wrote t code spans
+        (set (set t code_end_at (end_of_code t + 1)) runs_end_at (end_of_runs t + 1)) (set code (end_of_code t) byte)
+        (set (set (set spans (end_of_runs t * 3) span.start) (end_of_runs t * 3 + 1) span.end) (end_of_runs t * 3 + 2) 1) l limit byte span emitted.Done
     fresh g =
-        let m : ℕ = runsEnd t in
-        let t₂ : List ℕ = set t code_end_at (codeEnd t + 1) in
+        let m : ℕ = end_of_runs t in
+        let t₂ : List ℕ = set t code_end_at (end_of_code t + 1) in
         let t' : List ℕ = set t₂ runs_end_at (m + 1) in
         let s₁ : List ℕ = set spans (m * 3) span.start in
         let s₂ : List ℕ = set s₁ (m * 3 + 1) span.end in
         let spans' : List ℕ = set s₂ (m * 3 + 2) 1 in
         let ns : length spans' ≡ length spans = length-set s₂ _ _ ∙ length-set s₁ _ _ ∙ length-set spans _ _ in
         let kp : Kept code_end_at image_at t t' = kept_then _ _ t t₂ _ _ (kept_set _ _ t _ _ (omega arith) (omega arith)) (omega arith) (omega arith) in
-        let ce : codeEnd t' ≡ codeEnd t + 1 = get_or-set_other t₂ runs_end_at code_end_at (m + 1) 0 (omega arith) ∙ get_or-set_same t code_end_at (codeEnd t + 1) 0 (omega (arith, wf.size)) in
-        let re : runsEnd t' ≡ m + 1 = get_or-set_same t₂ runs_end_at (m + 1) 0 (omega (arith, wf.size, length-set t code_end_at (codeEnd t + 1))) in
-        let room : m * 3 + 3 ≤ length spans = omega (arith, ok.roomRuns, ok.fewer) in
+        let ce : end_of_code t' ≡ end_of_code t + 1 = get_or-set_other t₂ runs_end_at code_end_at (m + 1) 0 (omega arith) ∙ get_or-set_same t code_end_at (end_of_code t + 1) 0 (omega (arith, wf.size)) in
+        let re : end_of_runs t' ≡ m + 1 = get_or-set_same t₂ runs_end_at (m + 1) 0 (omega (arith, wf.size, length-set t code_end_at (end_of_code t + 1))) in
+        let room : m * 3 + 3 ≤ length spans = omega (arith, ok.room_runs, ok.fewer) in
         record {
-          does = (h, changed t' spans' (m + 1) kp (runs_fresh spans (runsFrom t l) m span ok.topRuns room g) ce re);
-          codeKept = λ i z. get_or-set_other code (codeEnd t) i byte 0 (omega arith);
-          runsKept = λ i z. get_or-set_other s₂ (m * 3 + 2) i 1 0 (omega (arith, ok.topRuns)) ∙ get_or-set_other s₁ (m * 3 + 1) i span.end 0
-              (omega (arith, ok.topRuns)) ∙ get_or-set_other spans (m * 3) i span.start 0 (omega (arith, ok.topRuns));
+          does = (h, changed t' spans' (m + 1) kp (runs_fresh spans (start_of_runs t l) m span ok.top_runs room g) ce re);
+          code_kept = λ i z. get_or-set_other code (end_of_code t) i byte 0 (omega arith);
+          runs_kept = λ i z. get_or-set_other s₂ (m * 3 + 2) i 1 0 (omega (arith, ok.top_runs)) ∙ get_or-set_other s₁ (m * 3 + 1) i span.end 0
+              (omega (arith, ok.top_runs)) ∙ get_or-set_other spans (m * 3) i span.start 0 (omega (arith, ok.top_runs));
           kept = kp;
           coded = kept_coded t' spans' (m + 1) kp ns ce re (omega arith) (omega (arith, ok.fewer));
           wf = wf_plain t₂ levels 1 _ (omega arith) (λ a b. omega arith) (λ z. omega arith) (λ z. omega arith)

@@ -68,9 +68,9 @@ blank t size all = record {
   empty = all;
   wf = record {
     size = size;
-    fewLocals = λ k h. omega (arith, (all k h).locals);
-    fewUpvalues = λ k h. omega (arith, (all k h).upvalues);
-    fewConstants = λ k h. omega (arith, (all k h).constants);
+    few_locals = λ k h. omega (arith, (all k h).locals);
+    few_upvalues = λ k h. omega (arith, (all k h).upvalues);
+    few_constants = λ k h. omega (arith, (all k h).constants);
     shallow = λ k h. omega (arith, (all k h).depth);
     pairs = λ k o h a b. absurd (omega (arith, (all k h).upvalues));
   };

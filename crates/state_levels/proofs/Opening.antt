@@ -8,7 +8,7 @@ use mathlib.Core.List.{List, [], ◌∷◌}
 use lib.ListN.{length, get_or, set, length-set}
 use lib.Seq.{get_or-set_same, get_or-set_other}
 use Rattle.rules.specs.Compiler.{new_ctx}
-use Rattle.state.specs.Layout.{levels, deepest, table_words, code_end_at, runs_end_at, row, stack, localOf, upvalueOf, constant_of, type_of, codeFrom, runsFrom, codeEnd, runsEnd, run_at, chunkAt, ctxAt, parentsOf, Wf, upvalues_place, upvalue_count_place, constants_place, constant_count_place, depth_place, code_from_place, runs_from_place, name_place, arity_place, type_place, level_words, local_count_place}
+use Rattle.state.specs.Layout.{levels, deepest, table_words, code_end_at, runs_end_at, row, stack, local_of, upvalue_of, constant_of, type_of, start_of_code, start_of_runs, end_of_code, end_of_runs, run_at, chunk_at, ctx_at, parents_of, Wf, upvalues_place, upvalue_count_place, constants_place, constant_count_place, depth_place, code_from_place, runs_from_place, name_place, arity_place, type_place, level_words, local_count_place}
 use Rattle.state.specs.Contracts.{Kept, Moved, Closed, Began}
 use Rattle.state.proofs.Laws.{kept_set, kept_then, ctx_same, parents_named, wf_count, wf_upvalues, wf_depth, wf_plain}
 use Rattle.state.proofs.Words.{none_row, none_stack}
@@ -20,12 +20,12 @@ moved t l depth low wf h = record {
   wf = wf_depth t l depth h wf;
 }
 
-pub closed : (t : List ℕ) (l : ℕ) → l < levels → Wf t → Closed t (set (set t code_end_at (codeFrom t l)) runs_end_at (runsFrom t l)) l
+pub closed : (t : List ℕ) (l : ℕ) → l < levels → Wf t → Closed t (set (set t code_end_at (start_of_code t l)) runs_end_at (start_of_runs t l)) l
 closed t l low wf =
-    let t₁ : List ℕ = set t code_end_at (codeFrom t l) in
+    let t₁ : List ℕ = set t code_end_at (start_of_code t l) in
     record {
-      code = get_or-set_other t₁ runs_end_at code_end_at (runsFrom t l) 0 (omega arith) ∙ get_or-set_same t code_end_at (codeFrom t l) 0 (omega (arith, wf.size));
-      runs = get_or-set_same t₁ runs_end_at (runsFrom t l) 0 (omega (arith, wf.size, length-set t code_end_at (codeFrom t l)));
+      code = get_or-set_other t₁ runs_end_at code_end_at (start_of_runs t l) 0 (omega arith) ∙ get_or-set_same t code_end_at (start_of_code t l) 0 (omega (arith, wf.size));
+      runs = get_or-set_same t₁ runs_end_at (start_of_runs t l) 0 (omega (arith, wf.size, length-set t code_end_at (start_of_code t l)));
       kept = kept_then _ _ t t₁ _ _ (kept_set _ _ t _ _ (omega arith) (omega arith)) (omega arith) (omega arith);
       wf = wf_plain t₁ levels 1 _ (omega arith) (λ a b. omega arith) (λ z. omega arith) (λ z. omega arith)
           (wf_plain t levels 0 _ (omega arith) (λ a b. omega arith) (λ z. omega arith) (λ z. omega arith) wf);
@@ -64,10 +64,10 @@ module _ (t : List ℕ) (l name arity kind : ℕ) (low : l + 1 < levels) (wf : W
   t₄ = put b t₃ depth_place (get_or t (l * level_words + depth_place) 0 + 1)
 
   abbrev t₅ : List ℕ
-  t₅ = put b t₄ code_from_place (codeEnd t)
+  t₅ = put b t₄ code_from_place (end_of_code t)
 
   abbrev t₆ : List ℕ
-  t₆ = put b t₅ runs_from_place (runsEnd t)
+  t₆ = put b t₅ runs_from_place (end_of_runs t)
 
   abbrev t₇ : List ℕ
   t₇ = put b t₆ name_place name
@@ -125,7 +125,7 @@ module _ (t : List ℕ) (l name arity kind : ℕ) (low : l + 1 < levels) (wf : W
   o₉ o h = put_other b t₈ type_place kind o (λ z. omega arith) ∙ put_other b t₇ arity_place arity o (λ z. omega arith) ∙ put_other b t₆ name_place name o (λ z. omega arith)
 
   o₆ : (o : ℕ) → o < depth_place → get_or t₆ (b + o) 0 ≡ get_or t₃ (b + o) 0
-  o₆ o h = put_other b t₅ runs_from_place (runsEnd t) o (λ z. omega arith) ∙ put_other b t₄ code_from_place (codeEnd t) o (λ z. omega arith) ∙ put_other b t₃
+  o₆ o h = put_other b t₅ runs_from_place (end_of_runs t) o (λ z. omega arith) ∙ put_other b t₄ code_from_place (end_of_code t) o (λ z. omega arith) ∙ put_other b t₃
       depth_place (get_or t (l * level_words + depth_place) 0 + 1) o (λ z. omega arith)
 
   v₁ : get_or t₉ (b + local_count_place) 0 ≡ 0
@@ -140,14 +140,14 @@ module _ (t : List ℕ) (l name arity kind : ℕ) (low : l + 1 < levels) (wf : W
   v₃ = o₉ constant_count_place (omega arith) ∙ o₆ constant_count_place (omega arith) ∙ put_same b t₂ constant_count_place 0 (omega (arith, n₂))
 
   v₄ : get_or t₉ (b + depth_place) 0 ≡ get_or t (l * level_words + depth_place) 0 + 1
-  v₄ = o₉ depth_place (omega arith) ∙ put_other b t₅ runs_from_place (runsEnd t) depth_place (λ z. omega arith) ∙ put_other b t₄ code_from_place (codeEnd t)
+  v₄ = o₉ depth_place (omega arith) ∙ put_other b t₅ runs_from_place (end_of_runs t) depth_place (λ z. omega arith) ∙ put_other b t₄ code_from_place (end_of_code t)
       depth_place (λ z. omega arith) ∙ put_same b t₃ depth_place (get_or t (l * level_words + depth_place) 0 + 1) (omega (arith, n₃))
 
-  v₅ : get_or t₉ (b + code_from_place) 0 ≡ codeEnd t
-  v₅ = o₉ code_from_place (omega arith) ∙ put_other b t₅ runs_from_place (runsEnd t) code_from_place (λ z. omega arith) ∙ put_same b t₄ code_from_place (codeEnd t) (omega (arith, n₄))
+  v₅ : get_or t₉ (b + code_from_place) 0 ≡ end_of_code t
+  v₅ = o₉ code_from_place (omega arith) ∙ put_other b t₅ runs_from_place (end_of_runs t) code_from_place (λ z. omega arith) ∙ put_same b t₄ code_from_place (end_of_code t) (omega (arith, n₄))
 
-  v₆ : get_or t₉ (b + runs_from_place) 0 ≡ runsEnd t
-  v₆ = o₉ runs_from_place (omega arith) ∙ put_same b t₅ runs_from_place (runsEnd t) (omega (arith, n₅))
+  v₆ : get_or t₉ (b + runs_from_place) 0 ≡ end_of_runs t
+  v₆ = o₉ runs_from_place (omega arith) ∙ put_same b t₅ runs_from_place (end_of_runs t) (omega (arith, n₅))
 
   v₇ : get_or t₉ (b + name_place) 0 ≡ name
   v₇ = put_other b t₈ type_place kind name_place (λ z. omega arith) ∙ put_other b t₇ arity_place arity name_place (λ z. omega arith) ∙ put_same b t₆ name_place name (omega (arith, n₆))
@@ -161,20 +161,20 @@ module _ (t : List ℕ) (l name arity kind : ℕ) (low : l + 1 < levels) (wf : W
   up_one : l + 1 ≡ suc l
   up_one = omega arith
 
-  ce : codeEnd t₉ ≡ codeEnd t
+  ce : end_of_code t₉ ≡ end_of_code t
   ce = kp.above code_end_at (omega arith)
 
-  re : runsEnd t₉ ≡ runsEnd t
+  re : end_of_runs t₉ ≡ end_of_runs t
   re = kp.above runs_end_at (omega arith)
 
-  fresh' : (code spans : List ℕ) → ctxAt t₉ code spans (l + 1) (codeEnd t₉) (runsEnd t₉) ≡ new_ctx name arity (type_of kind) (get_or t (l * level_words + depth_place) 0 + 1)
-  unfolding ctxAt chunkAt
+  fresh' : (code spans : List ℕ) → ctx_at t₉ code spans (l + 1) (end_of_code t₉) (end_of_runs t₉) ≡ new_ctx name arity (type_of kind) (get_or t (l * level_words + depth_place) 0 + 1)
+  unfolding ctx_at chunk_at
   fresh' code spans =
-      let ls = none_stack (λ i. localOf (get_or t₉ (b + i) 0)) _ v₁ in
-      let us = none_row (λ i. upvalueOf (get_or t₉ (b + upvalues_place + i) 0)) _ v₂ in
+      let ls = none_stack (λ i. local_of (get_or t₉ (b + i) 0)) _ v₁ in
+      let us = none_row (λ i. upvalue_of (get_or t₉ (b + upvalues_place + i) 0)) _ v₂ in
       let ks = none_row (λ i. constant_of (get_or t₉ (b + constants_place + i) 0)) _ v₃ in
-      let ops = none_row (λ i. get_or code (codeFrom t₉ (l + 1) + i) 0) (codeEnd t₉ - codeFrom t₉ (l + 1)) (omega (arith, v₅, ce)) in
-      let runs = none_row (λ i. run_at spans (runsFrom t₉ (l + 1) + i)) (runsEnd t₉ - runsFrom t₉ (l + 1)) (omega (arith, v₆, re)) in
+      let ops = none_row (λ i. get_or code (start_of_code t₉ (l + 1) + i) 0) (end_of_code t₉ - start_of_code t₉ (l + 1)) (omega (arith, v₅, ce)) in
+      let runs = none_row (λ i. run_at spans (start_of_runs t₉ (l + 1) + i)) (end_of_runs t₉ - start_of_runs t₉ (l + 1)) (omega (arith, v₆, re)) in
       λ i. record {
         name = v₇ i;
         arity = v₈ i;
@@ -189,45 +189,45 @@ module _ (t : List ℕ) (l name arity kind : ℕ) (low : l + 1 < levels) (wf : W
   same j o h a = kp.below _ (omega arith)
 
   pub began : Began t t₉ l name arity kind
-  unfolding parentsOf
+  unfolding parents_of
   began =
-      let cu : codeFrom t₉ (suc l) ≡ codeEnd t = ap (codeFrom t₉) (sym up_one) ∙ v₅ in
-      let ru : runsFrom t₉ (suc l) ≡ runsEnd t = ap (runsFrom t₉) (sym up_one) ∙ v₆ in
+      let cu : start_of_code t₉ (suc l) ≡ end_of_code t = ap (start_of_code t₉) (sym up_one) ∙ v₅ in
+      let ru : start_of_runs t₉ (suc l) ≡ end_of_runs t = ap (start_of_runs t₉) (sym up_one) ∙ v₆ in
       record {
-        fresh = λ code spans. ap (λ (m : ℕ). ctxAt t₉ code spans m (codeEnd t₉) (runsEnd t₉)) (sym up_one) ∙ fresh' code spans;
+        fresh = λ code spans. ap (λ (m : ℕ). ctx_at t₉ code spans m (end_of_code t₉) (end_of_runs t₉)) (sym up_one) ∙ fresh' code spans;
         around = λ code spans. ap₂ ◌∷◌
-            (ap₂ (ctxAt t₉ code spans l) cu ru ∙ ctx_same t code spans t₉ code spans l (codeEnd t) (runsEnd t) wf (omega arith)
+            (ap₂ (ctx_at t₉ code spans l) cu ru ∙ ctx_same t code spans t₉ code spans l (end_of_code t) (end_of_runs t) wf (omega arith)
             (λ o h. same l o (omega arith) (omega arith)) (λ i h. refl) (λ i h. refl))
             (parents_named t t₉ l wf (omega arith) (λ k o h g. same k o (omega arith) (omega arith)) (same l code_from_place (omega arith) (omega arith))
             (same l runs_from_place (omega arith) (omega arith)) code spans);
         coded = λ code spans limit ok. record {
-          roomCode = ok.roomCode;
-          roomRuns = ok.roomRuns;
+          room_code = ok.room_code;
+          room_runs = ok.room_runs;
           within = omega (arith, ok.within, ce);
           fewer = omega (arith, ok.fewer, ce, re);
-          fewerAt = λ j h. ⊎_elim (λ (q : j ≡ suc l). subst (λ (m : ℕ). runsFrom t₉ m ≤ codeFrom t₉ m) (sym q) (omega (arith, ok.fewer)))
+          fewer_at = λ j h. ⊎_elim (λ (q : j ≡ suc l). subst (λ (m : ℕ). start_of_runs t₉ m ≤ start_of_code t₉ m) (sym q) (omega (arith, ok.fewer)))
               (λ (q : j < suc l). omega (
                 arith,
                 same j code_from_place (omega arith) (omega arith),
                 same j runs_from_place (omega arith) (omega arith),
-                ok.fewerAt j (le_of_lt_suc j l q),
+                ok.fewer_at j (le_of_lt_suc j l q),
               )) (eq-or-lt_of_le h);
-          fromZero = same 0 code_from_place (omega arith) (omega arith) ∙ ok.fromZero;
+          from_zero = same 0 code_from_place (omega arith) (omega arith) ∙ ok.from_zero;
           top = omega (arith, ce);
-          topRuns = omega (arith, re);
-          order = λ j h. ⊎_elim (λ (q : j ≡ l). subst (λ (m : ℕ). codeFrom t₉ m ≤ codeFrom t₉ (suc m)) (sym q) (omega (arith, same l code_from_place (omega arith) (omega arith), ok.top)))
+          top_runs = omega (arith, re);
+          order = λ j h. ⊎_elim (λ (q : j ≡ l). subst (λ (m : ℕ). start_of_code t₉ m ≤ start_of_code t₉ (suc m)) (sym q) (omega (arith, same l code_from_place (omega arith) (omega arith), ok.top)))
               (λ (q : j < l). omega (
                 arith,
                 same j code_from_place (omega arith) (omega arith),
                 same (suc j) code_from_place (omega arith) (omega arith),
                 ok.order j q,
               )) (eq-or-lt_of_le (le_of_lt_suc j l h));
-          orderRuns = λ j h. ⊎_elim (λ (q : j ≡ l). subst (λ (m : ℕ). runsFrom t₉ m ≤ runsFrom t₉ (suc m)) (sym q) (omega (arith, same l runs_from_place (omega arith) (omega arith), ok.topRuns)))
+          order_runs = λ j h. ⊎_elim (λ (q : j ≡ l). subst (λ (m : ℕ). start_of_runs t₉ m ≤ start_of_runs t₉ (suc m)) (sym q) (omega (arith, same l runs_from_place (omega arith) (omega arith), ok.top_runs)))
               (λ (q : j < l). omega (
                 arith,
                 same j runs_from_place (omega arith) (omega arith),
                 same (suc j) runs_from_place (omega arith) (omega arith),
-                ok.orderRuns j q,
+                ok.order_runs j q,
               )) (eq-or-lt_of_le (le_of_lt_suc j l h));
         };
         kept = subst (λ (m : ℕ). Kept (m * level_words) (m * level_words + level_words) t t₉) up_one kp;

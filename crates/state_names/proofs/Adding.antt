@@ -15,7 +15,7 @@ use borrow.Author.Tests.{eq-eqb, eqb-true, eqb-false, lt-ltb, le-ltb}
 use Rattle.rules.specs.Base.{if◌then◌else◌, position}
 use Rattle.rules.specs.declared.Span.{Span}
 use Rattle.rules.specs.Compiler.{Upvalue, CompilerCtx, captured, with_upvalues, same_upvalue, added, add_upvalue}
-use Rattle.state.specs.Layout.{levels, upvalueOf, upvaluesOf, ctxAt, Wf, upvalues_place, upvalue_count_place, constants_place, depth_place, level_words}
+use Rattle.state.specs.Layout.{levels, upvalue_of, upvalues_of, ctx_at, Wf, upvalues_place, upvalue_count_place, constants_place, depth_place, level_words}
 use Rattle.state.specs.Contracts.{Kept, First, Added}
 use Rattle.state.specs.declared.Up.TheVariants as up
 use Rattle.state.proofs.Laws.{length_row, position_at, position_none, push_vec, kept_set, kept_same, kept_off, kept_then, if_true, if_false, locals_same, chunk_same, ctx_paths, lt_or_le, few_set, wf_upvalues, wf_entry}
@@ -53,14 +53,14 @@ module _ (t : List ℕ) (l a b : ℕ) (bit : a < 2) (small : b < 256) (low : l <
   abbrev u : Upvalue
   u = record { idx = b; is_local = eqb a 1 }
 
-  here : (w : ℕ) → w ≡ a * 256 + b → same_upvalue u (upvalueOf w) ≡ true
+  here : (w : ℕ) → w ≡ a * 256 + b → same_upvalue u (upvalue_of w) ≡ true
   unfolding same_upvalue
   here w e =
       let x : w / 256 ≡ a = ap (λ (k : ℕ). k / 256) e ∙ digits_div a small in
       let y : w % 256 ≡ b = ap (λ (k : ℕ). k % 256) e ∙ digits_mod a small in
       ap₂ ◌&&◌ (eq-eqb _ _ (sym y)) (ap (λ (k : ℕ). alike (eqb a 1) (eqb k 1)) x ∙ alike_self (eqb a 1))
 
-  other : (w : ℕ) → w < 512 → (w ≡ a * 256 + b → ⊥) → same_upvalue u (upvalueOf w) ≡ false
+  other : (w : ℕ) → w < 512 → (w ≡ a * 256 + b → ⊥) → same_upvalue u (upvalue_of w) ≡ false
   unfolding same_upvalue
   other w half ne = and_false _ _ (λ x y. let q : b ≡ w % 256 = eqb-true _ _ x in let p : a ≡ w / 256 = one_bit a (w / 256) bit (omega arith)
       (alike_same (eqb a 1) (eqb (w / 256) 1) y) in ne (omega arith))
@@ -71,15 +71,15 @@ module _ (t : List ℕ) (l a b : ℕ) (bit : a < 2) (small : b < 256) (low : l <
       (wf.pairs l (upvalues_place + j) low (omega arith) (omega arith))
 
   module _ (r : ℕ) (found : First t (l * level_words + upvalues_place) (get_or t (l * level_words + upvalue_count_place) 0) (a * 256 + b) r) where
-    by_place : (o : Option ℕ) → position (same_upvalue u) (upvaluesOf t l) ≡ o → (span : Span) (code spans : List ℕ) (ce re : ℕ) (above : List CompilerCtx) →
-        add_upvalue u span (ctxAt t code spans l ce re) above ≡ added o u span (ctxAt t code spans l ce re) above
-    unfolding add_upvalue ctxAt
-    by_place o e span code spans ce re above = ap (λ (x : Option ℕ). added x u span (ctxAt t code spans l ce re) above) e
+    by_place : (o : Option ℕ) → position (same_upvalue u) (upvalues_of t l) ≡ o → (span : Span) (code spans : List ℕ) (ce re : ℕ) (above : List CompilerCtx) →
+        add_upvalue u span (ctx_at t code spans l ce re) above ≡ added o u span (ctx_at t code spans l ce re) above
+    unfolding add_upvalue ctx_at
+    by_place o e span code spans ce re above = ap (λ (x : Option ℕ). added x u span (ctx_at t code spans l ce re) above) e
 
     pub there : r < get_or t (l * level_words + upvalue_count_place) 0 → Added t t l u (up.At r)
     unfolding added
     there h =
-        let e : position (same_upvalue u) (upvaluesOf t l) ≡ some r = position_at _ _ r _ h (λ j g. other _ (half j (omega arith)) (found.none j g)) (here _ (found.here h)) in
+        let e : position (same_upvalue u) (upvalues_of t l) ≡ some r = position_at _ _ r _ h (λ j g. other _ (half j (omega arith)) (found.none j g)) (here _ (found.here h)) in
         record {
           does = λ span nm code spans ce re above. sym (by_place (some r) e span code spans ce re above);
           some = λ e. let z : ◌≡◌ {A = ℕ} 0 1 = cc in omega arith;
@@ -88,14 +88,14 @@ module _ (t : List ℕ) (l a b : ℕ) (bit : a < 2) (small : b < 256) (low : l <
         }
 
     module _ (h : get_or t (l * level_words + upvalue_count_place) 0 ≤ r) where
-      none : position (same_upvalue u) (upvaluesOf t l) ≡ nothing
+      none : position (same_upvalue u) (upvalues_of t l) ≡ nothing
       none = position_none _ _ _ (λ j g. other _ (half j g) (found.none j (omega arith)))
 
-      counted : (b : Bool) → ltb (get_or t (l * level_words + upvalue_count_place) 0) 256 ≡ b → ltb (length (upvaluesOf t l)) 256 ≡ b
+      counted : (b : Bool) → ltb (get_or t (l * level_words + upvalue_count_place) 0) 256 ≡ b → ltb (length (upvalues_of t l)) 256 ≡ b
       counted b e = ap (λ (k : ℕ). ltb k 256) (length_row _ _) ∙ e
 
       pub full : 256 ≤ get_or t (l * level_words + upvalue_count_place) 0 → Added t t l u up.Full
-      unfolding added ctxAt
+      unfolding added ctx_at
       full m = record {
         does = λ span nm code spans ce re above. sym (by_place nothing none span code spans ce re above ∙ if_false _ _ _ (counted false (le-ltb _ _ m)));
         some = λ e. let z : ◌≡◌ {A = ℕ} 0 1 = cc in omega arith;
@@ -106,7 +106,7 @@ module _ (t : List ℕ) (l a b : ℕ) (bit : a < 2) (small : b < 256) (low : l <
       pub pushed : get_or t (l * level_words + upvalue_count_place) 0 < 256 → Added t
           (set (set t (l * level_words + upvalues_place + get_or t (l * level_words + upvalue_count_place) 0) (a * 256 + b))
           (l * level_words + upvalue_count_place) (get_or t (l * level_words + upvalue_count_place) 0 + 1)) l u (up.At (get_or t (l * level_words + upvalue_count_place) 0))
-      unfolding added ctxAt
+      unfolding added ctx_at
       pushed m =
           let c : ℕ = l * level_words + upvalue_count_place in
           let k : ℕ = get_or t c 0 in
@@ -117,8 +117,8 @@ module _ (t : List ℕ) (l a b : ℕ) (bit : a < 2) (small : b < 256) (low : l <
           (kept_set _ _ t _ _ (omega arith) (omega arith)) (omega arith) (omega arith) in
           let at : (o : ℕ) → (upvalues_place ≤ o → o < constants_place → ⊥) → get_or t' (l * level_words + o) 0 ≡ get_or t (l * level_words + o) 0 = λ o off.
           kept_off _ _ t t' _ kp (λ x y. off (omega arith) (omega arith)) in
-          let w : upvalueOf (a * 256 + b) ≡ u = λ i. record { idx = digits_mod a small i; is_local = eqb (digits_div a small i) 1 } in
-          let us : upvaluesOf t' l ≡ upvaluesOf t l ++ (u ∷ []) = push_vec upvalueOf t _ c (a * 256 + b) (omega arith) room ∙ ap (λ (x : Upvalue). upvaluesOf t l ++ (x ∷ [])) w in
+          let w : upvalue_of (a * 256 + b) ≡ u = λ i. record { idx = digits_mod a small i; is_local = eqb (digits_div a small i) 1 } in
+          let us : upvalues_of t' l ≡ upvalues_of t l ++ (u ∷ []) = push_vec upvalue_of t _ c (a * 256 + b) (omega arith) room ∙ ap (λ (x : Upvalue). upvalues_of t l ++ (x ∷ [])) w in
           let half' : (o : ℕ) → upvalues_place ≤ o → o < upvalues_place + (k + 1) → get_or t₁ (l * level_words + o) 0 < 512 = λ o x y.
           ⊎_elim (λ (g : o < upvalues_place + k). omega (
             arith,
@@ -128,11 +128,11 @@ module _ (t : List ℕ) (l a b : ℕ) (bit : a < 2) (small : b < 256) (low : l <
           (λ (g : upvalues_place + k ≤ o). let e : l * level_words + upvalues_place + k ≡ l * level_words + o = omega arith in subst
           (λ (j : ℕ). get_or t₁ j 0 < 512) e (omega (arith, get_or-set_same t (l * level_words + upvalues_place + k) (a * 256 + b) 0 (omega arith))))
           (lt_or_le o (upvalues_place + k)) in
-          let len : length (upvaluesOf t l) ≡ k = length_row _ _ in
-          let ctx : (code spans : List ℕ) (ce re : ℕ) → ctxAt t' code spans l ce re ≡ with_upvalues (ctxAt t code spans l ce re) (upvaluesOf t l ++ (u ∷ [])) = λ code spans ce re.
+          let len : length (upvalues_of t l) ≡ k = length_row _ _ in
+          let ctx : (code spans : List ℕ) (ce re : ℕ) → ctx_at t' code spans l ce re ≡ with_upvalues (ctx_at t code spans l ce re) (upvalues_of t l ++ (u ∷ [])) = λ code spans ce re.
           ctx_paths t code spans t' code spans l ce re ce re (λ o x y. at o (λ p q. omega arith))
-          (chunk_same t code spans t' code spans l ce re (wf.fewConstants l low) (λ o x y z. at o (λ p q. omega arith)) (λ i h. refl) (λ i h. refl))
-          (locals_same t t' l (wf.fewLocals l low) (λ o x. at o (λ p q. omega arith)))
+          (chunk_same t code spans t' code spans l ce re (wf.few_constants l low) (λ o x y z. at o (λ p q. omega arith)) (λ i h. refl) (λ i h. refl))
+          (locals_same t t' l (wf.few_locals l low) (λ o x. at o (λ p q. omega arith)))
           us (at depth_place (λ p q. omega arith)) in
           record {
             does = λ span nm code spans ce re above. ap₂ (λ (n : ℕ) (x : CompilerCtx). captured n x above) (sym len) (ctx code spans ce re) ∙ sym

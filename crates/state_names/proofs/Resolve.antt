@@ -11,7 +11,7 @@ use native.Mathlib.Nat.{add-mod_right, add-div_right}
 use lib.Seq.{get_or-set_same, get_or-set_other}
 use borrow.Author.Tests.{eq-eqb, ne_eqb}
 use Rattle.rules.specs.Compiler.{at_slot, uninitialized, find_local}
-use Rattle.state.specs.Layout.{levels, stack, localOf, locals_of, Wf, level_words, local_count_place}
+use Rattle.state.specs.Layout.{levels, stack, local_of, locals_of, Wf, level_words, local_count_place}
 use Rattle.state.specs.Contracts.{Topmost, Looked}
 use Rattle.state.specs.declared.Slot.TheVariants as slot
 use Rattle.state.proofs.Laws.{find_up, find_at, caught, capture_up, capture_at, kept_set, kept_same, if_true, if_false, wf_plain}
@@ -20,7 +20,7 @@ use Rattle.state.proofs.Laws.{find_up, find_at, caught, capture_up, capture_at, 
 abbrev word : List ℕ → ℕ → ℕ → ℕ
 word t l i = get_or t (l * level_words + i) 0
 
-mark_local : (w : ℕ) → w / 65536 / 2 % 2 ≡ 0 → localOf (w + 131072) ≡ caught (localOf w)
+mark_local : (w : ℕ) → w / 65536 / 2 % 2 ≡ 0 → local_of (w + 131072) ≡ caught (local_of w)
 mark_local w z =
     let a : (w + 131072) % 65536 ≡ w % 65536 = omega arith in
     let x : (w + 131072) / 65536 ≡ w / 65536 + 2 = omega arith in
@@ -31,7 +31,7 @@ mark_local w z =
     let b : (w + 131072) / 65536 / 2 / 2 ≡ w / 65536 / 2 / 2 = ap (λ (n : ℕ). n / 2) y' ∙ digits_div (w / 65536 / 2 / 2) (lit< tt) in
     λ i. record { name = a i; depth = b i; is_initialized = eqb (r i) 1; is_captured = eq-eqb _ _ q i }
 
-marked_local : (w : ℕ) → (w / 65536 / 2 % 2 ≡ 0 → ⊥) → localOf w ≡ caught (localOf w)
+marked_local : (w : ℕ) → (w / 65536 / 2 % 2 ≡ 0 → ⊥) → local_of w ≡ caught (local_of w)
 marked_local w z =
     let q : w / 65536 / 2 % 2 ≡ 1 = omega arith in
     λ i. record { name = w % 65536; depth = w / 65536 / 2 / 2; is_initialized = eqb (w / 65536 % 2) 1; is_captured = eq-eqb _ _ q i }
@@ -75,17 +75,17 @@ module _ (t : List ℕ) (l nm : ℕ) (low : l < levels) (wf : Wf t) where
 
       pub marked : word t l j / 65536 / 2 % 2 ≡ 0 → Looked t (set t (l * level_words + j) (word t l j + 131072)) l nm true (slot.At j)
       marked b =
-          let few : word t l local_count_place ≤ 256 = wf.fewLocals l low in
+          let few : word t l local_count_place ≤ 256 = wf.few_locals l low in
           let inside : j < 256 = omega (arith, top.within) in
           let t' : List ℕ = set t (l * level_words + j) (word t l j + 131072) in
           let other : (i : ℕ) → (i ≡ j → ⊥) → word t' l i ≡ word t l i = λ i ne. get_or-set_other t (l * level_words + j) (l * level_words + i) _ 0 (λ e. ne (omega arith)) in
           let count : word t' l local_count_place ≡ word t l local_count_place = other local_count_place (λ e. omega arith) in
-          let same : localOf (word t' l j) ≡ caught (localOf (word t l j)) = ap localOf (get_or-set_same t _ _ 0 (omega (arith, wf.size))) ∙ mark_local (word t l j) b in
+          let same : local_of (word t' l j) ≡ caught (local_of (word t l j)) = ap local_of (get_or-set_same t _ _ 0 (omega (arith, wf.size))) ∙ mark_local (word t l j) b in
           record {
             answer = found;
             locals = ap (stack _) count ∙ sym (capture_up _ _ nm (suc j) _ top.within top.none
-                (λ i a b. ap localOf (other i (λ e. omega arith)))
-                (capture_at _ _ nm j (top.here j refl) same (λ i a. ap localOf (other i (λ e. omega arith)))));
+                (λ i a b. ap local_of (other i (λ e. omega arith)))
+                (capture_at _ _ nm j (top.here j refl) same (λ i a. ap local_of (other i (λ e. omega arith)))));
             unmarked = λ e. let z : ◌≡◌ {A = ℕ} 0 1 = cc in absurd (omega arith);
             quiet = λ e. let z : ◌≡◌ {A = ℕ} 0 1 = cc in absurd (omega arith);
             kept = kept_set _ _ t _ _ (omega arith) (omega arith);

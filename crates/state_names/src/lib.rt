@@ -2,7 +2,7 @@
 #![tactic(auto)]
 ghost use Rattle.std.specs.Prelude.{◌≡◌, ◌+◌, ◌*◌, ◌-◌, ◌≤◌, ◌<◌, ltb, eqb, length, get_or};
 ghost use Rattle.rules.specs.Compiler.{declared_here};
-ghost use Rattle.state.specs.Layout.{levels, localOf, stack, Wf, level_words, local_count_place};
+ghost use Rattle.state.specs.Layout.{levels, local_of, stack, Wf, level_words, local_count_place};
 ghost use Rattle.state.specs.Contracts.{Looked, Added, Captured, DeclaredAt, DefinedAt, Dropped};
 
 use rules::Limit;
@@ -80,7 +80,7 @@ pub fn resolve_upvalue(t: &mut [u64], level: usize, name: u16) -> Up
 // One more than the place of the local that a declaration of this name at this depth clashes with, 0 where there is none.
 pub fn clashing(t: &[u64], base: usize, n: usize, depth: u64, name: u64) -> usize
     requires { base + n ≤ length t.now }
-    ensures { ltb 0 result ≡ declared_here depth name (stack (λ i. localOf (get_or t.now (base + i) 0)) n) }
+    ensures { ltb 0 result ≡ declared_here depth name (stack (λ i. local_of (get_or t.now (base + i) 0)) n) }
 {
     let mut i = n;
     let place = loop {
@@ -136,7 +136,7 @@ pub fn define_local(t: &mut [u64], level: usize)
 // The newest local goes.
 pub fn drop_local(t: &mut [u64], level: usize)
     requires { (level < levels) × (Wf t.old) × (0 < get_or t.old (level * level_words + local_count_place) 0) }
-    ensures { Dropped t.old t.new level (localOf (get_or t.old (level * level_words + (get_or t.old (level * level_words + local_count_place) 0 - 1)) 0)) }
+    ensures { Dropped t.old t.new level (local_of (get_or t.old (level * level_words + (get_or t.old (level * level_words + local_count_place) 0 - 1)) 0)) }
 {
     let count = level * Table::LEVEL_WORDS + Table::LOCAL_COUNT;
     t[count] = t[count] - 1;

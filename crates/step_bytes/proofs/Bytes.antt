@@ -11,7 +11,7 @@ use Rattle.rules.specs.declared.Span.{Span}
 use Rattle.rules.specs.declared.Refusal.TheVariants.{CodeFull, TooManyConstants}
 use Rattle.rules.specs.Chunk.{Chunk, empty_chunk, ObjectFunction, Constant, write_u8, write_constant, Written, at_place, no_room}
 use Rattle.rules.specs.Compiler.{Compiler, Outcome, ok, err, go_on, ◌>>=◌, ◌>>◌, the, need, refuse, update_ctx, with_chunk, with_ctx, open_code, emit_u8, emit_place, emit_constant, emit_op_constant, stopped}
-use Rattle.state.specs.Layout.{levels, image_at, constant_of, codeEnd, runsEnd, chunkAt, ctxAt, parentsOf, constants_place, depth_place, code_from_place, runs_from_place, name_place, level_words}
+use Rattle.state.specs.Layout.{levels, image_at, constant_of, end_of_code, end_of_runs, chunk_at, ctx_at, parents_of, constants_place, depth_place, code_from_place, runs_from_place, name_place, level_words}
 use Rattle.state.specs.Contracts.{top_chunk, Wrote, WroteAs, Constants, written_as}
 use Rattle.state.proofs.Laws.{kept_off, ctx_paths, locals_same, upvalues_same, parents_same}
 use Rattle.state.specs.declared.Emitted.{Emitted}
@@ -48,22 +48,22 @@ module _ (l limit byte : ℕ) (span : Span) (t code spans t' code' spans' : List
   as_done : r ≡ emitted.Done → WroteAs t code spans t' code' spans' l limit byte span emitted.Done
   as_done q = subst (λ (e : Emitted). WroteAs t code spans t' code' spans' l limit byte span e) q w.does
 
-  as_full : r ≡ emitted.Full → limit ≤ codeEnd t
+  as_full : r ≡ emitted.Full → limit ≤ end_of_code t
   as_full q = subst (λ (e : Emitted). WroteAs t code spans t' code' spans' l limit byte span e) q w.does
 
   view_now : r ≡ emitted.Done → (rest : Rest) → with_ctx (view (mem t code spans) l rest)
       (with_chunk (view (mem t code spans) l rest).ctx (write_u8 (view (mem t code spans) l rest).ctx.chunk byte span)) ≡ view (mem t' code' spans') l rest
-  unfolding view ctxAt
+  unfolding view ctx_at
   view_now q rest =
       let low = fit.low in
       let ok' = fit.coded in
-      let c : ctxAt t' code' spans' l (codeEnd t') (runsEnd t') ≡ with_chunk (ctxAt t code spans l (codeEnd t) (runsEnd t)) (write_u8 (top_chunk t code spans l) byte span) =
-      ctx_paths t code spans t' code' spans' l (codeEnd t) (runsEnd t) (codeEnd t') (runsEnd t') (λ o a b. at l o low (omega arith)) (as_done q).1
-      (locals_same t t' l (fit.wf.fewLocals l low) (λ o a. at l o low (omega arith)))
-      (upvalues_same t t' l (fit.wf.fewUpvalues l low) (λ o a b. at l o low (omega arith))) (at l depth_place low (omega arith)) in
-      let ps : parentsOf t' code' spans' l ≡ parentsOf t code spans l =
+      let c : ctx_at t' code' spans' l (end_of_code t') (end_of_runs t') ≡ with_chunk (ctx_at t code spans l (end_of_code t) (end_of_runs t)) (write_u8 (top_chunk t code spans l) byte span) =
+      ctx_paths t code spans t' code' spans' l (end_of_code t) (end_of_runs t) (end_of_code t') (end_of_runs t') (λ o a b. at l o low (omega arith)) (as_done q).1
+      (locals_same t t' l (fit.wf.few_locals l low) (λ o a. at l o low (omega arith)))
+      (upvalues_same t t' l (fit.wf.few_upvalues l low) (λ o a b. at l o low (omega arith))) (at l depth_place low (omega arith)) in
+      let ps : parents_of t' code' spans' l ≡ parents_of t code spans l =
       parents_same t code spans t' code' spans' l fit.wf low (λ k o a b. at k o (omega arith) (omega arith)) (at l code_from_place low (omega arith))
-      (at l runs_from_place low (omega arith)) ok'.order ok'.orderRuns (λ i h. w.codeKept i (omega (arith, ok'.top))) w.runsKept in
+      (at l runs_from_place low (omega arith)) ok'.order ok'.order_runs (λ i h. w.code_kept i (omega (arith, ok'.top))) w.runs_kept in
       sym (λ i. record { ctx = c i; parents = ps i; class_ctx = rest.classes; functions = rest.functions })
 
   ops_more : r ≡ emitted.Done → code_len (mem t' code' spans') l ≡ code_len (mem t code spans) l + 1
@@ -150,9 +150,9 @@ module _ (l limit w : ℕ) (span : Span) (t code spans t' : List ℕ) (r : Const
   pub constant_fit : Fit (mem t' code spans) l limit
   constant_fit = constant_ahead.fit
 
-  does_as : (s : Constanted) → r ≡ s → (rest : Rest) → write_constant (view (mem t code spans) l rest).ctx.chunk (constant_of w) ≡ written_as s (chunkAt t' code spans l (codeEnd t) (runsEnd t))
-  unfolding view ctxAt
-  does_as s q rest = sym (c.does code spans (codeEnd t) (runsEnd t)) ∙ ap (λ (s : Constanted). written_as s (chunkAt t' code spans l (codeEnd t) (runsEnd t))) q
+  does_as : (s : Constanted) → r ≡ s → (rest : Rest) → write_constant (view (mem t code spans) l rest).ctx.chunk (constant_of w) ≡ written_as s (chunk_at t' code spans l (end_of_code t) (end_of_runs t))
+  unfolding view ctx_at
+  does_as s q rest = sym (c.does code spans (end_of_code t) (end_of_runs t)) ∙ ap (λ (s : Constanted). written_as s (chunk_at t' code spans l (end_of_code t) (end_of_runs t))) q
 
   constant_view : (i : ℕ) → r ≡ constanted.At i → (rest : Rest) → emit_constant limit (constant_of w) span (view (mem t code spans) l rest) ≡ emit_u8 limit i span (view (mem t' code spans) l rest)
   constant_view i q rest =

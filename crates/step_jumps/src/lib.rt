@@ -2,7 +2,7 @@
 #![tactic(auto)]
 ghost use Rattle.std.specs.Prelude.{◌≡◌, ℕ, ◌+◌, ◌≤◌, ◌<◌, length};
 ghost use Rattle.rules.specs.Compiler.{emit_jump, patch_jump, emit_loop};
-ghost use Rattle.state.specs.Layout.{levels, table_words, codeFrom, codeEnd};
+ghost use Rattle.state.specs.Layout.{levels, table_words, start_of_code, end_of_code};
 ghost use Rattle.steps.specs.View.{mem, Fit, code_len, steady, Did, Opened, Measured};
 
 use op::Op;
@@ -13,7 +13,7 @@ use steps::{Step, Why};
 
 // Where the innermost function's next byte goes: also where a loop starts.
 pub fn code_length(t: &[u64], level: usize) -> usize
-    requires { (level < levels) × (length t.now ≡ table_words) × (codeFrom t.now level ≤ codeEnd t.now) }
+    requires { (level < levels) × (length t.now ≡ table_words) × (start_of_code t.now level ≤ end_of_code t.now) }
     ensures { Measured t.now level result }
 {
     let from = t[level * Table::LEVEL_WORDS + Table::CODE_FROM] as usize;

@@ -11,7 +11,7 @@ use Rattle.rules.specs.Tree.{this_name}
 use Rattle.rules.specs.declared.Span.{Span}
 use Rattle.rules.specs.declared.Refusal.TheVariants.{ThisOutsideClass}
 use Rattle.rules.specs.Compiler.{Compiler, ok, go_on, ◌>>=◌, ◌>>◌, return, refuse, need, get, the, put_ctxs, Found, at_slot, uninitialized, no_local, find_local, Resolved, resolve_upvalue, Place, local_at, upvalue_at, global_named, resolved, resolve, get_place, get_variable}
-use Rattle.state.specs.Layout.{levels, code_end_at, runs_end_at, codeEnd, runsEnd, ctxAt, parentsOf, depth_place, name_place, word}
+use Rattle.state.specs.Layout.{levels, code_end_at, runs_end_at, end_of_code, end_of_runs, ctx_at, parents_of, depth_place, name_place, word}
 use Rattle.state.specs.Contracts.{found, Looked, up_of, Captured}
 use Rattle.state.specs.declared.Slot.{Slot}
 use Rattle.state.specs.declared.Slot.TheVariants as slot
@@ -40,7 +40,7 @@ stays nm span m v fit h = record { comes = λ rest _. h rest; agrees = λ rest q
 
 module _ (l nm : ℕ) (span : Span) (t t₁ : List ℕ) (s : Slot) (res : Looked t t₁ l nm false s) where
   finds : (x : Slot) → s ≡ x → (code spans : List ℕ) (rest : Rest) → find_local nm (view (mem t code spans) l rest).ctx.locals ≡ found x
-  unfolding view ctxAt
+  unfolding view ctx_at
   finds x e code spans rest = sym res.answer ∙ ap found e
 
   pub at_local : (i : ℕ) → s ≡ slot.At i → Placed l nm span t t₁ (Local i)
@@ -63,22 +63,22 @@ module _ (l nm : ℕ) (span : Span) (t t₁ : List ℕ) (s : Slot) (res : Looked
     cap = subst (λ (x : List ℕ). Captured x t₂ l nm u) (res.unmarked refl) cap₁
 
     outer : (y : Up) → u ≡ y → (code spans : List ℕ) (rest : Rest) → resolve nm span (view (mem t code spans) l rest) ≡ resolved no_local
-        (up_of span nm y (ctxAt t₂ code spans l (codeEnd t) (runsEnd t)) (parentsOf t₂ code spans l)) nm span (view (mem t code spans) l rest)
+        (up_of span nm y (ctx_at t₂ code spans l (end_of_code t) (end_of_runs t)) (parents_of t₂ code spans l)) nm span (view (mem t code spans) l rest)
     unfolding view
     outer y q code spans rest =
         resolve_is nm span (view (mem t code spans) l rest) no_local _ (finds slot.Nothing e code spans rest)
-        (sym (cap.does span code spans (codeEnd t) (runsEnd t)) ∙ ap (λ (y : Up). up_of span nm y (ctxAt t₂ code spans l (codeEnd t) (runsEnd t)) (parentsOf t₂ code spans l)) q)
+        (sym (cap.does span code spans (end_of_code t) (end_of_runs t)) ∙ ap (λ (y : Up). up_of span nm y (ctx_at t₂ code spans l (end_of_code t) (end_of_runs t)) (parents_of t₂ code spans l)) q)
 
     pub at_upvalue : (i : ℕ) → l < levels → u ≡ up.At i → Placed l nm span t t₂ (Upvalue i)
     unfolding resolved return put_ctxs ◌>>◌ go_on view
     at_upvalue i low q = record {
       gives = λ class limit code spans fit.
-          let ce : codeEnd t₂ ≡ codeEnd t = cap.kept.above code_end_at (omega arith) in
-          let re : runsEnd t₂ ≡ runsEnd t = cap.kept.above runs_end_at (omega arith) in
-          let c = ap₂ (ctxAt t₂ code spans l) ce re in
+          let ce : end_of_code t₂ ≡ end_of_code t = cap.kept.above code_end_at (omega arith) in
+          let re : end_of_runs t₂ ≡ end_of_runs t = cap.kept.above runs_end_at (omega arith) in
+          let c = ap₂ (ctx_at t₂ code spans l) ce re in
           record {
             comes = λ rest _. outer (up.At i) q code spans rest ∙ ap (ok (upvalue_at i))
-                (sym (λ j. record { ctx = c j; parents = parentsOf t₂ code spans l; class_ctx = rest.classes; functions = rest.functions }));
+                (sym (λ j. record { ctx = c j; parents = parents_of t₂ code spans l; class_ctx = rest.classes; functions = rest.functions }));
             agrees = λ rest h. still_agrees (cap.kept.above _ (omega arith)) h;
             ahead = ahead_named steady t code spans t₂ l limit fit cap.wf (cap.rest l depth_place (omega arith) (omega arith) (omega arith))
                 (λ o a b. cap.rest l o (omega arith) (omega arith) (omega arith)) (λ k o a b d. cap.rest k o (omega arith) (omega arith) (omega arith)) (λ j a. cap.kept.above j (omega arith));

@@ -13,7 +13,7 @@ use Rattle.rules.specs.Op as op
 use Rattle.rules.specs.declared.Span.{Span}
 use Rattle.rules.specs.declared.Refusal.TheVariants.{SuperOutsideClass, SuperWithoutSuperclass}
 use Rattle.rules.specs.Compiler.{Compiler, ok, err, go_on, ◌>>=◌, ◌>>◌, done, return, refuse, need, the, stopped, innermost_has_super, need_super, ends_in_return, emit_op, emit_op_u8, compile_value, return_value, compile_return, implicit_return}
-use Rattle.state.specs.Layout.{row, type_of, codeFrom, codeEnd, chunkAt, ctxAt, type_place, level_words}
+use Rattle.state.specs.Layout.{row, type_of, start_of_code, end_of_code, chunk_at, ctx_at, type_place, level_words}
 use Rattle.state.proofs.Laws.{row_snoc}
 use Rattle.steps.specs.View.{Mem, mem, t_of, Rest, view, top_class, Fit, steady, Refused, DidAs, Did, Told, Judged, Ending}
 use Rattle.steps.specs.declared.Step.{Step}
@@ -83,16 +83,16 @@ row_empty : (f : ℕ → ℕ) (n : ℕ) → n ≡ 0 → ends_in_return (row f n)
 unfolding row ends_in_return
 row_empty f n e = ap (λ (n : ℕ). ends_in_return (row f n)) e
 
-pub ends_not : (t code : List ℕ) (l : ℕ) → codeEnd t ≤ codeFrom t l → Ending t code l false
-unfolding view ctxAt chunkAt
-ends_not t code l h = record { is = λ spans rest. row_empty (λ i. get_or code (codeFrom t l + i) 0) (codeEnd t - codeFrom t l) (omega arith) }
+pub ends_not : (t code : List ℕ) (l : ℕ) → end_of_code t ≤ start_of_code t l → Ending t code l false
+unfolding view ctx_at chunk_at
+ends_not t code l h = record { is = λ spans rest. row_empty (λ i. get_or code (start_of_code t l + i) 0) (end_of_code t - start_of_code t l) (omega arith) }
 
-pub ends_by : (t code : List ℕ) (l : ℕ) (r : Bool) → codeFrom t l < codeEnd t → r ≡ eqb (get_or code (codeEnd t - 1) 0) 36 → Ending t code l r
-unfolding view ctxAt chunkAt
+pub ends_by : (t code : List ℕ) (l : ℕ) (r : Bool) → start_of_code t l < end_of_code t → r ≡ eqb (get_or code (end_of_code t - 1) 0) 36 → Ending t code l r
+unfolding view ctx_at chunk_at
 ends_by t code l r h e =
-    let q : codeFrom t l + (codeEnd t - 1 - codeFrom t l) ≡ codeEnd t - 1 = omega arith in
+    let q : start_of_code t l + (end_of_code t - 1 - start_of_code t l) ≡ end_of_code t - 1 = omega arith in
     record {
-      is = λ spans rest. row_ends (λ i. get_or code (codeFrom t l + i) 0) (codeEnd t - codeFrom t l) (codeEnd t - 1 - codeFrom t l) (omega arith) ∙ ap
+      is = λ spans rest. row_ends (λ i. get_or code (start_of_code t l + i) 0) (end_of_code t - start_of_code t l) (end_of_code t - 1 - start_of_code t l) (omega arith) ∙ ap
           (λ (k : ℕ). eqb (get_or code k 0) 36) q ∙ sym e;
     }
 
@@ -113,7 +113,7 @@ no_value_init (suc (suc zero)) limit span h = absurd (omega arith)
 no_value_init (suc (suc (suc k))) limit span h = refl
 
 pub told_type : {class : ℕ} (t code spans : List ℕ) (l : ℕ) → Told class l (the λ s. s.ctx.type) (type_of (get_or t (l * level_words + type_place) 0)) (mem t code spans)
-unfolding the view ctxAt
+unfolding the view ctx_at
 told_type t code spans l = record { says = λ rest h. refl }
 
 pub no_return : {class l : ℕ} (kind limit : ℕ) (span : Span) {m : Mem} → kind ≡ 0 → Refused class l (return_value limit (type_of kind) none span) m

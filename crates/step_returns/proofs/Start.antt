@@ -7,7 +7,7 @@ use mathlib.Core.Logic.{⊎_elim}
 use mathlib.Core.List.{List, []}
 use lib.ListN.{get_or, set, get_or-eq_default}
 use lib.Seq.{get_or-set_same, get_or-set_other}
-use Rattle.state.specs.Layout.{levels, code_end_at, runs_end_at, image_at, row, stack, localOf, upvalueOf, constant_of, run_at, type_of, codeFrom, runsFrom, codeEnd, runsEnd, chunkAt, ctxAt, parentsOf, Wf, upvalues_place, upvalue_count_place, constants_place, constant_count_place, depth_place, code_from_place, runs_from_place, name_place, arity_place, type_place, level_words}
+use Rattle.state.specs.Layout.{levels, code_end_at, runs_end_at, image_at, row, stack, local_of, upvalue_of, constant_of, run_at, type_of, start_of_code, start_of_runs, end_of_code, end_of_runs, chunk_at, ctx_at, parents_of, Wf, upvalues_place, upvalue_count_place, constants_place, constant_count_place, depth_place, code_from_place, runs_from_place, name_place, arity_place, type_place, level_words}
 use Rattle.state.specs.Contracts.{Blank}
 use Rattle.state.proofs.Laws.{wf_plain}
 use Rattle.state_levels.proofs.Clearing.{zero_still}
@@ -147,30 +147,30 @@ module _ (t : List ℕ) (blank : Blank t) where
       (eq-or-lt_of_le h)
 
   pub started : Started t₉
-  unfolding view ctxAt chunkAt parentsOf type_of
+  unfolding view ctx_at chunk_at parents_of type_of
   started = record {
     fit = λ code spans limit h g. record {
       low = omega arith;
       wf = wf₉;
       coded = record {
-        roomCode = h;
-        roomRuns = g;
+        room_code = h;
+        room_runs = g;
         within = omega (arith, code_end);
         fewer = omega (arith, code_end, runs_end);
-        fewerAt = λ k z. let e : 0 ≡ k = omega arith in subst (λ (k : ℕ). runsFrom t₉ k ≤ codeFrom t₉ k) e (omega (arith, runs_from));
-        fromZero = code_from;
+        fewer_at = λ k z. let e : 0 ≡ k = omega arith in subst (λ (k : ℕ). start_of_runs t₉ k ≤ start_of_code t₉ k) e (omega (arith, runs_from));
+        from_zero = code_from;
         top = omega (arith, code_from);
-        topRuns = omega (arith, runs_from);
+        top_runs = omega (arith, runs_from);
         order = λ k z. absurd (omega arith);
-        orderRuns = λ k z. absurd (omega arith);
+        order_runs = λ k z. absurd (omega arith);
       };
     };
     is = λ code spans.
-        let ls = none_stack (λ i. localOf (get_or t₉ (0 * level_words + i) 0)) (get_or t₉ 256 0) locals in
-        let us = none_row (λ i. upvalueOf (get_or t₉ (0 * level_words + upvalues_place + i) 0)) (get_or t₉ upvalue_count_place 0) upvalues in
+        let ls = none_stack (λ i. local_of (get_or t₉ (0 * level_words + i) 0)) (get_or t₉ 256 0) locals in
+        let us = none_row (λ i. upvalue_of (get_or t₉ (0 * level_words + upvalues_place + i) 0)) (get_or t₉ upvalue_count_place 0) upvalues in
         let ks = none_row (λ i. constant_of (get_or t₉ (0 * level_words + constants_place + i) 0)) (get_or t₉ constant_count_place 0) constants in
-        let os = none_row (λ i. get_or code (codeFrom t₉ 0 + i) 0) (codeEnd t₉ - codeFrom t₉ 0) (omega (arith, code_end)) in
-        let rs = none_row (λ i. run_at spans (runsFrom t₉ 0 + i)) (runsEnd t₉ - runsFrom t₉ 0) (omega (arith, runs_end)) in
+        let os = none_row (λ i. get_or code (start_of_code t₉ 0 + i) 0) (end_of_code t₉ - start_of_code t₉ 0) (omega (arith, code_end)) in
+        let rs = none_row (λ i. run_at spans (start_of_runs t₉ 0 + i)) (end_of_runs t₉ - start_of_runs t₉ 0) (omega (arith, runs_end)) in
         λ i. record {
           ctx = record {
             name = name i;

@@ -3,7 +3,7 @@
 ghost use Rattle.std.specs.Prelude.{◌≡◌, ℕ, ◌+◌, ◌≤◌, ◌<◌, length};
 ghost use Rattle.std.proofs.Math.Option.{none};
 ghost use Rattle.rules.specs.Compiler.{need_super, return_value, compile_return, implicit_return, emit_upvalues};
-ghost use Rattle.state.specs.Layout.{levels, table_words, type_of, codeEnd, upvaluesOf};
+ghost use Rattle.state.specs.Layout.{levels, table_words, type_of, end_of_code, upvalues_of};
 ghost use Rattle.steps.specs.View.{mem, Fit, steady, Did, Judged, Ending, Started, PairedAt};
 
 use op::Op;
@@ -44,7 +44,7 @@ pub fn need_super(level: usize, class: u8, span: Span, next: usize) -> Step
 
 // The code's last byte is RETURN's, an operand or not.
 pub fn ends_in_return(t: &[u64], code: &[u8], level: usize) -> bool
-    requires { (level < levels) × (length t.now ≡ table_words) × (codeEnd t.now ≤ length code.now) }
+    requires { (level < levels) × (length t.now ≡ table_words) × (end_of_code t.now ≤ length code.now) }
     ensures { Ending t.now code.now level result }
 {
     let from = t[level * Table::LEVEL_WORDS + Table::CODE_FROM] as usize;
@@ -160,7 +160,7 @@ pub fn emit_upvalues(
     next: usize,
 ) -> Step
     requires { (Fit (mem t.old code.old spans.old) level limit) × (level + 1 < levels) }
-    ensures { (class : ℕ) → Did class limit level next steady (emit_upvalues limit (upvaluesOf t.old (level + 1)) span) (mem t.old code.old spans.old) (mem t.new code.new spans.new) result }
+    ensures { (class : ℕ) → Did class limit level next steady (emit_upvalues limit (upvalues_of t.old (level + 1)) span) (mem t.old code.old spans.old) (mem t.new code.new spans.new) result }
 {
     let n = t[(level + 1) * Table::LEVEL_WORDS + Table::UPVALUE_COUNT] as usize;
     let mut i = 0;

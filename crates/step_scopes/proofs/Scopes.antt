@@ -13,7 +13,7 @@ use Rattle.rules.specs.declared.Span.{Span}
 use Rattle.rules.specs.Compiler.{Local, CompilerCtx, Compiler, with_ctx, with_locals, with_scope_depth, Outcome, ok, Compile, go_on, ◌>>=◌, ◌>>◌, done, return, the, update_ctx, declare_local, define_local, is_global, begin_scope, begin_ctx, emit_u8, emit_op, pop_locals, end_scope, end_ctx, back_to}
 use Rattle.rules.proofs.Slips as slips
 use Rattle.rules.proofs.Slips.{enough_locals, already_declared}
-use Rattle.state.specs.Layout.{levels, stack, localOf, locals_of, codeEnd, runsEnd, ctxAt, codeFrom, runsFrom, upvaluesOf, parentsOf, Wf, upvalues_place, depth_place, code_from_place, runs_from_place, name_place, level_words, local_count_place, word}
+use Rattle.state.specs.Layout.{levels, stack, local_of, locals_of, end_of_code, end_of_runs, ctx_at, start_of_code, start_of_runs, upvalues_of, parents_of, Wf, upvalues_place, depth_place, code_from_place, runs_from_place, name_place, level_words, local_count_place, word}
 use Rattle.state.specs.Contracts.{DeclaredAs, DeclaredAt, DefinedAt, Moved, Began, Wrote, Dropped, Closed}
 use Rattle.state.specs.declared.Declared.{Declared}
 use Rattle.state.specs.declared.Declared.TheVariants as decl
@@ -37,7 +37,7 @@ moved_gave : (e : Turn) (m : Compile Unit) (l d : ℕ) (t t' : List ℕ) → ((x
     → ((x : Compiler) → m x ≡ ok tt (with_ctx x (with_scope_depth x.ctx (e.depth x.ctx.scope_depth))))
     → Moved t t' l d → d ≡ e.depth (get_or t (l * level_words + depth_place) 0) → {class limit : ℕ} (code spans : List ℕ) → Fit (mem t code spans) l limit → Gave
     class limit l e m tt (mem t code spans) (mem t' code spans)
-unfolding view ctxAt
+unfolding view ctx_at
 moved_gave e m l d t t' ec er is w q {class} {limit} code spans fit =
     let low = fit.low in
     let kp = w.kept in
@@ -63,7 +63,7 @@ unfolding update_ctx
 lowered l d t t' w q code spans fit = moved_gave shallower lower l d t t' (λ x. refl) (λ x. refl) (λ x. refl) w q code spans fit
 
 pub global_asked : (l : ℕ) (t : List ℕ) (r : Bool) → r ≡ eqb (get_or t (l * level_words + depth_place) 0) 0 → Asked l is_global r t
-unfolding is_global the view ctxAt
+unfolding is_global the view ctx_at
 global_asked l t r e = record { says = λ code spans. record { says = λ rest _. ap (λ (b : Bool). ok b (view (mem t code spans) l rest)) (sym e) } }
 
 -- ## Locals
@@ -76,20 +76,20 @@ module _ (l n name : ℕ) (span : Span) (t t' : List ℕ) (r : Declared) (w : De
   named = w.kept.above _ (omega arith)
 
   pub declared_again : r ≡ decl.Already → Tried l n steady (declare_local name span) t t' (Stop (already_defined l span name))
-  unfolding view ctxAt refusal_of
+  unfolding view ctx_at refusal_of
   declared_again q = record {
     gives = λ code spans fit. stop _ (refuses_in (already_defined l span name) refl t' named (λ rest _. already_declared name span (view (mem t code spans) l rest) (does_as decl.Already q)));
   }
 
   pub declared_full : r ≡ decl.Full → Tried l n steady (declare_local name span) t t' (Stop (too_many_locals l span))
-  unfolding view ctxAt refusal_of
+  unfolding view ctx_at refusal_of
   declared_full q = record {
     gives = λ code spans fit. stop _ (refuses_in (too_many_locals l span) refl t' named
         (λ rest _. slips.too_many_locals name span (view (mem t code spans) l rest) (does_as decl.Full q).0 (does_as decl.Full q).1));
   }
 
   pub declared_new : r ≡ decl.Done → Tried l n steady (declare_local name span) t t' (Next n)
-  unfolding view ctxAt
+  unfolding view ctx_at
   declared_new q = record {
     gives = λ {class} {limit} code spans fit. next (record {
       comes = λ rest _. enough_locals name span (view (mem t code spans) l rest) (does_as decl.Done q).0 (does_as decl.Done q).1 ∙ ap (ok tt)
@@ -100,7 +100,7 @@ module _ (l n name : ℕ) (span : Span) (t t' : List ℕ) (r : Declared) (w : De
   }
 
 pub defined : (l : ℕ) (t t' : List ℕ) → DefinedAt t t' l → Changed l steady define_local t t'
-unfolding define_local update_ctx view ctxAt
+unfolding define_local update_ctx view ctx_at
 defined l t t' w = record {
   gives = λ {class} {limit} code spans fit. record {
     comes = λ rest _. ap (ok tt) (sym (view_locals t code spans t' l local_count_place _ fit.wf fit.low w.kept (omega arith) w.does rest));
@@ -143,10 +143,10 @@ seq_after limit byte span m x y e = ap (λ (o : Outcome Unit). go_on o (λ _. m)
 
 module _ (l limit : ℕ) (span : Span) (t code spans : List ℕ) (fit : Fit (mem t code spans) l limit) where
   pub popped_none : get_or t (l * level_words + local_count_place) 0 ≡ 0 → PoppedAt limit l span (mem t code spans) (mem t code spans) popped.Stop
-  unfolding view ctxAt stack
+  unfolding view ctx_at stack
   popped_none z = record {
     does = λ class. record {
-      comes = λ rest _. pop_none limit span (view (mem t code spans) l rest) (ap (stack (λ i. localOf (get_or t (l * level_words + i) 0))) z);
+      comes = λ rest _. pop_none limit span (view (mem t code spans) l rest) (ap (stack (λ i. local_of (get_or t (l * level_words + i) 0))) z);
       agrees = λ rest h. h;
       ahead = ahead_none fit;
     };
@@ -154,16 +154,16 @@ module _ (l limit : ℕ) (span : Span) (t code spans : List ℕ) (fit : Fit (mem
 
   -- the newest local
   abbrev newest : Local
-  newest = localOf (get_or t (l * level_words + (get_or t (l * level_words + local_count_place) 0 - 1)) 0)
+  newest = local_of (get_or t (l * level_words + (get_or t (l * level_words + local_count_place) 0 - 1)) 0)
 
   module _ (some : get_or t (l * level_words + local_count_place) 0 ≡ 0 → ⊥) where
-    peel : locals_of t l ≡ newest ∷ stack (λ i. localOf (get_or t (l * level_words + i) 0)) (get_or t (l * level_words + local_count_place) 0 - 1)
+    peel : locals_of t l ≡ newest ∷ stack (λ i. local_of (get_or t (l * level_words + i) 0)) (get_or t (l * level_words + local_count_place) 0 - 1)
     unfolding stack
     peel = let e : get_or t (l * level_words + local_count_place) 0 ≡ suc (get_or t (l * level_words + local_count_place) 0 - 1) = omega arith in ap
-        (stack (λ i. localOf (get_or t (l * level_words + i) 0))) e
+        (stack (λ i. local_of (get_or t (l * level_words + i) 0))) e
 
     pub popped_stop : newest.depth ≤ get_or t (l * level_words + depth_place) 0 → PoppedAt limit l span (mem t code spans) (mem t code spans) popped.Stop
-    unfolding view ctxAt
+    unfolding view ctx_at
     popped_stop h = record {
       does = λ class. record {
         comes = λ rest _. pop_stop limit span (view (mem t code spans) l rest) newest _ peel h;
@@ -175,13 +175,13 @@ module _ (l limit : ℕ) (span : Span) (t code spans : List ℕ) (fit : Fit (mem
     module _ (deep : get_or t (l * level_words + depth_place) 0 < newest.depth) (byte : ℕ) (is : byte ≡ dropping newest) (t₁ code₁ spans₁ : List ℕ) (r : Emitted)
         (w : Wrote t code spans t₁ code₁ spans₁ l limit byte span r) where
       pub popped_full : r ≡ emitted.Full → PoppedAt limit l span (mem t code spans) (mem t₁ code₁ spans₁) popped.Full
-      unfolding view ctxAt emit_op
+      unfolding view ctx_at emit_op
       popped_full q = record {
         does = λ class. record {
           refuses = λ rest h. pop_more limit span (view (mem t code spans) l rest) newest _ peel deep
               ∙ ap (λ (b : ℕ). (emit_u8 limit b span >> (update_ctx
-              (λ c. with_locals c (stack (λ i. localOf (get_or t (l * level_words + i) 0)) (get_or t (l * level_words + local_count_place) 0 - 1))) >>
-              pop_locals limit (stack (λ i. localOf (get_or t (l * level_words + i) 0)) (get_or t (l * level_words + local_count_place) 0 - 1)) span)) (view (mem t code spans) l rest)) (sym is)
+              (λ c. with_locals c (stack (λ i. local_of (get_or t (l * level_words + i) 0)) (get_or t (l * level_words + local_count_place) 0 - 1))) >>
+              pop_locals limit (stack (λ i. local_of (get_or t (l * level_words + i) 0)) (get_or t (l * level_words + local_count_place) 0 - 1)) span)) (view (mem t code spans) l rest)) (sym is)
               ∙ (refused_seq (byte_full l limit byte span t code spans t₁ code₁ spans₁ r fit w {class = class} q) _).refuses rest h;
         };
       }
@@ -189,19 +189,19 @@ module _ (l limit : ℕ) (span : Span) (t code spans : List ℕ) (fit : Fit (mem
       pub still_some : 0 < get_or t₁ (l * level_words + local_count_place) 0
       still_some = let low = fit.low in omega (arith, kept_off _ _ t t₁ (l * level_words + local_count_place) w.kept (λ x y. omega arith))
 
-      module _ (t₂ : List ℕ) (d : Dropped t₁ t₂ l (localOf (get_or t₁ (l * level_words + (get_or t₁ (l * level_words + local_count_place) 0 - 1)) 0))) where
+      module _ (t₂ : List ℕ) (d : Dropped t₁ t₂ l (local_of (get_or t₁ (l * level_words + (get_or t₁ (l * level_words + local_count_place) 0 - 1)) 0))) where
         at : (o : ℕ) → o < level_words → get_or t₁ (l * level_words + o) 0 ≡ get_or t (l * level_words + o) 0
         at o h = let low = fit.low in kept_off _ _ t t₁ _ w.kept (λ x y. omega arith)
 
         count : get_or t₁ (l * level_words + local_count_place) 0 ≡ get_or t (l * level_words + local_count_place) 0
         count = at local_count_place (omega arith)
 
-        same_newest : localOf (get_or t₁ (l * level_words + (get_or t₁ (l * level_words + local_count_place) 0 - 1)) 0) ≡ newest
-        same_newest = let few = fit.wf.fewLocals l fit.low in ap (λ (k : ℕ). localOf (get_or t₁ (l * level_words + (k - 1)) 0)) count ∙ ap localOf
+        same_newest : local_of (get_or t₁ (l * level_words + (get_or t₁ (l * level_words + local_count_place) 0 - 1)) 0) ≡ newest
+        same_newest = let few = fit.wf.few_locals l fit.low in ap (λ (k : ℕ). local_of (get_or t₁ (l * level_words + (k - 1)) 0)) count ∙ ap local_of
             (at (get_or t (l * level_words + local_count_place) 0 - 1) (omega arith))
 
         split : locals_of t l ≡ newest ∷ locals_of t₂ l
-        split = sym (locals_same t t₁ l (fit.wf.fewLocals l fit.low) (λ o h. at o (omega arith))) ∙ d.does ∙ ap (λ (a : Local). a ∷ locals_of t₂ l) same_newest
+        split = sym (locals_same t t₁ l (fit.wf.few_locals l fit.low) (λ o h. at o (omega arith))) ∙ d.does ∙ ap (λ (a : Local). a ∷ locals_of t₂ l) same_newest
 
         dropped_view : (rest : Rest) → with_ctx (view (mem t₁ code₁ spans₁) l rest) (with_locals (view (mem t₁ code₁ spans₁) l rest).ctx (locals_of t₂ l)) ≡ view (mem t₂ code₁ spans₁) l rest
         dropped_view rest = sym (view_locals t₁ code₁ spans₁ t₂ l upvalues_place _ w.wf fit.low
@@ -209,11 +209,11 @@ module _ (l limit : ℕ) (span : Span) (t code spans : List ℕ) (fit : Fit (mem
 
         after : (rest : Rest) → (update_ctx (λ c. with_locals c (locals_of t₂ l)) >> pop_locals limit (locals_of t₂ l) span) (view (mem t₁ code₁ spans₁) l rest) ≡
             pops limit span (view (mem t₂ code₁ spans₁) l rest)
-        unfolding ◌>>◌ update_ctx go_on ◌>>=◌ the view ctxAt
+        unfolding ◌>>◌ update_ctx go_on ◌>>=◌ the view ctx_at
         after rest = ap (pop_locals limit (locals_of t₂ l) span) (dropped_view rest)
 
         pub popped_more : r ≡ emitted.Done → PoppedAt limit l span (mem t code spans) (mem t₂ code₁ spans₁) popped.More
-        unfolding view ctxAt emit_op
+        unfolding view ctx_at emit_op
         popped_more q =
             let low = fit.low in
             let gb : (class : ℕ) → Gave class limit l steady (emit_u8 limit byte span) tt (mem t code spans) (mem t₁ code₁ spans₁) = λ class. byte_gave l limit
@@ -262,8 +262,8 @@ module _ (l limit d : ℕ) (span : Span) (t code spans t₁ : List ℕ) (fit : F
 
 -- ## A context
 
-scope_of : (t code spans : List ℕ) (l : ℕ) (c : CompilerCtx) → ctxAt t code spans l (codeEnd t) (runsEnd t) ≡ c → get_or t (l * level_words + depth_place) 0 ≡ c.scope_depth
-unfolding ctxAt
+scope_of : (t code spans : List ℕ) (l : ℕ) (c : CompilerCtx) → ctx_at t code spans l (end_of_code t) (end_of_runs t) ≡ c → get_or t (l * level_words + depth_place) 0 ≡ c.scope_depth
+unfolding ctx_at
 scope_of t code spans l c e = ap (λ (c : CompilerCtx). c.scope_depth) e
 
 pub entered : (l name arity kind : ℕ) (t t' : List ℕ) → l + 1 < levels → Began t t' l name arity kind → Entered l name arity kind t t'
@@ -277,13 +277,13 @@ entered l name arity kind t t' low w = record {
 }
 
 -- the level above l is left
-leave_is : (l : ℕ) (t code spans : List ℕ) (rest : Rest) → end_ctx (view (mem t code spans) (suc l) rest) ≡ ok (length rest.functions, upvaluesOf t (suc l)) (record {
-  ctx = ctxAt t code spans l (codeFrom t (suc l)) (runsFrom t (suc l));
-  parents = parentsOf t code spans l;
+leave_is : (l : ℕ) (t code spans : List ℕ) (rest : Rest) → end_ctx (view (mem t code spans) (suc l) rest) ≡ ok (length rest.functions, upvalues_of t (suc l)) (record {
+  ctx = ctx_at t code spans l (start_of_code t (suc l)) (start_of_runs t (suc l));
+  parents = parents_of t code spans l;
   class_ctx = rest.classes;
   functions = (finished (mem t code spans) (suc l) rest).functions;
 })
-unfolding end_ctx back_to ◌>>=◌ the go_on view parentsOf ctxAt
+unfolding end_ctx back_to ◌>>=◌ the go_on view parents_of ctx_at
 leave_is l t code spans rest = refl
 
 left_up : (l : ℕ) (t t' : List ℕ) → suc l < levels → Wf t → Closed t t' (suc l) → Left (suc l) t t'
@@ -298,29 +298,29 @@ left_up l t t' low wf w =
             low = omega arith;
             wf = w.wf;
             coded = record {
-              roomCode = ok'.roomCode;
-              roomRuns = ok'.roomRuns;
+              room_code = ok'.room_code;
+              room_runs = ok'.room_runs;
               within = omega (arith, w.code, ok'.top, ok'.within);
-              fewer = omega (arith, w.code, w.runs, ok'.fewerAt (suc l) (omega arith));
-              fewerAt = λ k z. omega (arith, at k code_from_place (omega arith) (omega arith), at k runs_from_place (omega arith) (omega arith), ok'.fewerAt k (omega arith));
-              fromZero = at 0 code_from_place (omega arith) (omega arith) ∙ ok'.fromZero;
+              fewer = omega (arith, w.code, w.runs, ok'.fewer_at (suc l) (omega arith));
+              fewer_at = λ k z. omega (arith, at k code_from_place (omega arith) (omega arith), at k runs_from_place (omega arith) (omega arith), ok'.fewer_at k (omega arith));
+              from_zero = at 0 code_from_place (omega arith) (omega arith) ∙ ok'.from_zero;
               top = omega (arith, w.code, at l code_from_place (omega arith) (omega arith), ok'.order l (omega arith));
-              topRuns = omega (arith, w.runs, at l runs_from_place (omega arith) (omega arith), ok'.orderRuns l (omega arith));
+              top_runs = omega (arith, w.runs, at l runs_from_place (omega arith) (omega arith), ok'.order_runs l (omega arith));
               order = λ k z. omega (arith, at k code_from_place (omega arith) (omega arith), at (suc k) code_from_place (omega arith) (omega arith), ok'.order k (omega arith));
-              orderRuns = λ k z. omega (arith, at k runs_from_place (omega arith) (omega arith), at (suc k) runs_from_place (omega arith) (omega arith), ok'.orderRuns k (omega arith));
+              order_runs = λ k z. omega (arith, at k runs_from_place (omega arith) (omega arith), at (suc k) runs_from_place (omega arith) (omega arith), ok'.order_runs k (omega arith));
             };
           });
       comes = λ code spans rest.
-          let c : ctxAt t code spans l (codeFrom t (suc l)) (runsFrom t (suc l)) ≡ ctxAt t' code spans l (codeEnd t') (runsEnd t') =
-          sym (ap₂ (ctxAt t' code spans l) w.code w.runs ∙ ctx_same t code spans t' code spans l (codeFrom t (suc l)) (runsFrom t (suc l)) wf
+          let c : ctx_at t code spans l (start_of_code t (suc l)) (start_of_runs t (suc l)) ≡ ctx_at t' code spans l (end_of_code t') (end_of_runs t') =
+          sym (ap₂ (ctx_at t' code spans l) w.code w.runs ∙ ctx_same t code spans t' code spans l (start_of_code t (suc l)) (start_of_runs t (suc l)) wf
           (omega arith) (λ o h. at l o (omega arith) (omega arith)) (λ i h. refl) (λ i h. refl)) in
-          let ps : parentsOf t code spans l ≡ parentsOf t' code spans l = sym
+          let ps : parents_of t code spans l ≡ parents_of t' code spans l = sym
           (parents_named t t' l wf (omega arith) (λ k o a b. at k o (omega arith) (omega arith)) (at l code_from_place (omega arith) (omega arith))
           (at l runs_from_place (omega arith) (omega arith)) code spans) in
           leave_is l t code spans rest
-          ∙ ap (ok (length rest.functions, upvaluesOf t (suc l)))
+          ∙ ap (ok (length rest.functions, upvalues_of t (suc l)))
           (λ i. record { ctx = c i; parents = ps i; class_ctx = rest.classes; functions = (finished (mem t code spans) (suc l) rest).functions })
-          ∙ ap (λ (k : ℕ). ok (length rest.functions, upvaluesOf t (suc l)) (view (mem t' code spans) k (finished (mem t code spans) (suc l) rest))) (sym q);
+          ∙ ap (λ (k : ℕ). ok (length rest.functions, upvalues_of t (suc l)) (view (mem t' code spans) k (finished (mem t code spans) (suc l) rest))) (sym q);
       kept = w.kept;
     }
 

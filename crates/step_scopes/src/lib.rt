@@ -4,7 +4,7 @@ ghost use Rattle.std.specs.Prelude.{◌≡◌, ℕ, ◌+◌, ◌*◌, ◌<◌, g
 ghost use Rattle.rules.specs.Compiler.{declare_local, define_local, is_global, begin_scope, end_scope};
 ghost use Rattle.rules.specs.Op as ops;
 ghost use Rattle.rules.specs.Base.{if◌then◌else◌};
-ghost use Rattle.state.specs.Layout.{levels, deepest, localOf, Wf, depth_place, level_words};
+ghost use Rattle.state.specs.Layout.{levels, deepest, local_of, Wf, depth_place, level_words};
 ghost use Rattle.steps.specs.View.{mem, Fit, steady, deeper, shallower, Did, Changed, Tried, Asked, PoppedAt, Entered, Left};
 
 use op::Op;
@@ -58,7 +58,7 @@ pub fn define_local(t: &mut [u64], level: usize)
 
 // The instruction that drops a local: CLOSE_UPVALUE where it was captured.
 pub fn drop_op(w: u64) -> u8
-    ensures { result ≡ (if (localOf w).is_captured then ops.CLOSE_UPVALUE else ops.POP) }
+    ensures { result ≡ (if (local_of w).is_captured then ops.CLOSE_UPVALUE else ops.POP) }
 {
     if w / 65536 / 2 % 2 == 1 {
         return Op::CLOSE_UPVALUE;

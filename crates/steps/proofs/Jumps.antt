@@ -10,7 +10,7 @@ use Rattle.rules.specs.declared.Span.{Span}
 use Rattle.steps.specs.Why.{jump_too_large, refusal_of, told}
 use Rattle.rules.specs.Compiler.{ok, go_on, ◌>>=◌, the, return, code_length, set_u16, patch_jump}
 use Rattle.rules.proofs.Slips.{with_operand, near_ahead, too_far_ahead}
-use Rattle.state.specs.Layout.{row, constantsOf, codeFrom, codeEnd, runsEnd, chunkAt, ctxAt, parentsOf}
+use Rattle.state.specs.Layout.{row, level_constants, start_of_code, end_of_code, end_of_runs, chunk_at, ctx_at, parents_of}
 use Rattle.state.proofs.Laws.{row_cong, chunk_paths, ctx_paths, parents_same}
 use Rattle.steps.specs.View.{Mem, mem, Rest, view, Fit, code_len, depth_at, steady, Ahead, Gave, Refused, Opened, Told, Measured}
 use Rattle.steps.specs.declared.Step.TheVariants.{Next}
@@ -23,7 +23,7 @@ pub told_length : {class l : ℕ} {m : Mem} (n : ℕ) → n ≡ code_len m l →
 unfolding code_length the
 told_length {l = l} {m = m} n e = record { says = λ rest q. ap (λ (k : ℕ). ok k (view m l rest)) (view_len m l rest ∙ sym e) }
 
-pub measured : (t : List ℕ) (l n : ℕ) → n ≡ codeEnd t - codeFrom t l → Measured t l n
+pub measured : (t : List ℕ) (l n : ℕ) → n ≡ end_of_code t - start_of_code t l → Measured t l n
 unfolding code_len
 measured t l n e = record { is = λ code spans. e; says = λ class code spans. told_length n e }
 
@@ -69,26 +69,26 @@ rows_set code from n p d h g =
     ∙ ap (λ (xs : List ℕ). set xs (p + 1) (d / 256)) (row_at code from n p (d % 256) (omega arith) (omega arith))
 
 module _ {limit : ℕ} (l place d : ℕ) (span : Span) (t code spans : List ℕ) (fit : Fit (mem t code spans) l limit)
-    (inside : place + 2 ≤ code_len (mem t code spans) l) (is : codeEnd t - codeFrom t l - 2 - place ≡ d) where
+    (inside : place + 2 ≤ code_len (mem t code spans) l) (is : end_of_code t - start_of_code t l - 2 - place ≡ d) where
   abbrev code' : List ℕ
-  code' = set (set code (codeFrom t l + place) (d % 256)) (codeFrom t l + place + 1) (d / 256)
+  code' = set (set code (start_of_code t l + place) (d % 256)) (start_of_code t l + place + 1) (d / 256)
 
   len : (rest : Rest) → length (view (mem t code spans) l rest).ctx.chunk.ops - 2 - place ≡ d
   unfolding code_len
   len rest = ap (λ (k : ℕ). k - 2 - place) (view_len (mem t code spans) l rest) ∙ is
 
   view_after : (rest : Rest) → with_operand (view (mem t code spans) l rest) place d ≡ view (mem t code' spans) l rest
-  unfolding view ctxAt chunkAt code_len
+  unfolding view ctx_at chunk_at code_len
   view_after rest =
       let ok' = fit.coded in
-      let rs = rows_set code (codeFrom t l) (codeEnd t - codeFrom t l) place d inside (omega (arith, ok'.roomCode, ok'.within, ok'.top)) in
-      let c : chunkAt t code' spans l (codeEnd t) (runsEnd t) ≡ record
-      { ops = set_u16 (chunkAt t code spans l (codeEnd t) (runsEnd t)).ops place d; constants = constantsOf t l; spans = (chunkAt t code spans l (codeEnd t) (runsEnd t)).spans } =
-      chunk_paths t code spans t code' spans l (codeEnd t) (runsEnd t) (codeEnd t) (runsEnd t) _ refl refl refl _ rs _ refl in
-      let x = ctx_paths t code spans t code' spans l (codeEnd t) (runsEnd t) (codeEnd t) (runsEnd t) (λ o a b. refl) c refl refl refl in
-      let ps : parentsOf t code' spans l ≡ parentsOf t code spans l = parents_same t code spans t code' spans l fit.wf fit.low (λ k o a b. refl) refl refl ok'.order ok'.orderRuns
-      (λ i h. get_or-set_other (set code (codeFrom t l + place) (d % 256)) (codeFrom t l + place + 1) i (d / 256) 0 (λ z. omega arith) ∙ get_or-set_other code
-      (codeFrom t l + place) i (d % 256) 0 (λ z. omega arith)) (λ i h. refl) in
+      let rs = rows_set code (start_of_code t l) (end_of_code t - start_of_code t l) place d inside (omega (arith, ok'.room_code, ok'.within, ok'.top)) in
+      let c : chunk_at t code' spans l (end_of_code t) (end_of_runs t) ≡ record
+      { ops = set_u16 (chunk_at t code spans l (end_of_code t) (end_of_runs t)).ops place d; constants = level_constants t l; spans = (chunk_at t code spans l (end_of_code t) (end_of_runs t)).spans } =
+      chunk_paths t code spans t code' spans l (end_of_code t) (end_of_runs t) (end_of_code t) (end_of_runs t) _ refl refl refl _ rs _ refl in
+      let x = ctx_paths t code spans t code' spans l (end_of_code t) (end_of_runs t) (end_of_code t) (end_of_runs t) (λ o a b. refl) c refl refl refl in
+      let ps : parents_of t code' spans l ≡ parents_of t code spans l = parents_same t code spans t code' spans l fit.wf fit.low (λ k o a b. refl) refl refl ok'.order ok'.order_runs
+      (λ i h. get_or-set_other (set code (start_of_code t l + place) (d % 256)) (start_of_code t l + place + 1) i (d / 256) 0 (λ z. omega arith) ∙ get_or-set_other code
+      (start_of_code t l + place) i (d % 256) 0 (λ z. omega arith)) (λ i h. refl) in
       sym (λ i. record { ctx = x i; parents = ps i; class_ctx = rest.classes; functions = rest.functions })
 
   pub patched : {class : ℕ} → d ≤ 65535 → Gave class limit l steady (patch_jump place span) tt (mem t code spans) (mem t code' spans)
@@ -104,16 +104,16 @@ module _ {limit : ℕ} (l place d : ℕ) (span : Span) (t code spans : List ℕ)
             low = fit.low;
             wf = fit.wf;
             coded = record {
-              roomCode = omega (arith, ok'.roomCode, length-set code (codeFrom t l + place) (d % 256), length-set (set code (codeFrom t l + place) (d % 256)) (codeFrom t l + place + 1) (d / 256));
-              roomRuns = ok'.roomRuns;
+              room_code = omega (arith, ok'.room_code, length-set code (start_of_code t l + place) (d % 256), length-set (set code (start_of_code t l + place) (d % 256)) (start_of_code t l + place + 1) (d / 256));
+              room_runs = ok'.room_runs;
               within = ok'.within;
               fewer = ok'.fewer;
-              fewerAt = ok'.fewerAt;
-              fromZero = ok'.fromZero;
+              fewer_at = ok'.fewer_at;
+              from_zero = ok'.from_zero;
               top = ok'.top;
-              topRuns = ok'.topRuns;
+              top_runs = ok'.top_runs;
               order = ok'.order;
-              orderRuns = ok'.orderRuns;
+              order_runs = ok'.order_runs;
             };
           };
           up = le_refl _;

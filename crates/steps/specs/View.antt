@@ -5,7 +5,7 @@ use Rattle.rules.specs.declared.Stopped.{Stopped}
 use Rattle.rules.specs.Chunk.{ObjectFunction}
 use Rattle.rules.specs.Compiler.{Upvalue as Captured}
 use Rattle.rules.specs.Compiler.{emit_upvalues, Compiler, new, new_ctx, finish, end_ctx, ends_in_return, ok, err, Compile, ◌>>=◌, the, local_at, upvalue_at, global_named, resolve, code_length, begin_ctx, pop_locals}
-use Rattle.state.specs.Layout.{levels, image_at, codeFrom, codeEnd, runsEnd, ctxAt, parentsOf, type_of, Wf, Coded, code_end_at, upvalueOf, upvaluesOf, depth_place, code_from_place, type_place, level_words, local_count_place}
+use Rattle.state.specs.Layout.{levels, image_at, start_of_code, end_of_code, end_of_runs, ctx_at, parents_of, type_of, Wf, Coded, code_end_at, upvalue_of, upvalues_of, depth_place, code_from_place, type_place, level_words, local_count_place}
 use Rattle.state.specs.Contracts.{Kept}
 use Rattle.steps.specs.Why.{code_full, told}
 use Rattle.steps.specs.declared.Why.{Why}
@@ -39,8 +39,8 @@ pub record Rest : Type 0 where
 unfoldable pub view : Mem → (level : ℕ) → Rest → Compiler
 view (mem t code spans) l rest =
     record {
-      ctx = ctxAt t code spans l (codeEnd t) (runsEnd t);
-      parents = parentsOf t code spans l;
+      ctx = ctx_at t code spans l (end_of_code t) (end_of_runs t);
+      parents = parents_of t code spans l;
       class_ctx = rest.classes;
       functions = rest.functions;
     }
@@ -65,7 +65,7 @@ pub record Fit (m : Mem) (l limit : ℕ) : Type 0 where
 
 -- how much code a level has where it is the innermost
 unfoldable pub code_len : Mem → ℕ → ℕ
-code_len (mem t code spans) l = codeEnd t - codeFrom t l
+code_len (mem t code spans) l = end_of_code t - start_of_code t l
 
 unfoldable pub depth_at : Mem → ℕ → ℕ
 depth_at (mem t code spans) l = get_or t (l * level_words + depth_place) 0
@@ -219,7 +219,7 @@ finished m l rest = record { classes = rest.classes; functions = rest.functions 
 
 pub record Left (l : ℕ) (t t' : List ℕ) : Type 0 where
   pub fit : {limit : ℕ} (code spans : List ℕ) → Fit (mem t code spans) l limit → Fit (mem t' code spans) (l - 1) limit
-  pub comes : (code spans : List ℕ) (rest : Rest) → end_ctx (view (mem t code spans) l rest) ≡ ok (length rest.functions, upvaluesOf t l)
+  pub comes : (code spans : List ℕ) (rest : Rest) → end_ctx (view (mem t code spans) l rest) ≡ ok (length rest.functions, upvalues_of t l)
       (view (mem t' code spans) (l - 1) (finished (mem t code spans) l rest))
   -- only the ends of code and runs are changed
   pub kept : Kept code_end_at image_at t t'
@@ -233,8 +233,8 @@ pub record Turning (limit l : ℕ) (p q : Compile Unit) (before now : Mem) : Typ
   pub ahead : Ahead l limit steady before now
 
 abbrev pub PairedAs : (limit l w : ℕ) → Span → (before now : Mem) → Step → Type 0
-PairedAs limit l w span before now (Next v) = (us : List Captured) → Turning limit l (emit_upvalues limit (upvalueOf w ∷ us) span) (emit_upvalues limit us span) before now
-PairedAs limit l w span before now (Stop x) = (us : List Captured) (class : ℕ) → Refused class l (emit_upvalues limit (upvalueOf w ∷ us) span) before (told (t_of now) x)
+PairedAs limit l w span before now (Next v) = (us : List Captured) → Turning limit l (emit_upvalues limit (upvalue_of w ∷ us) span) (emit_upvalues limit us span) before now
+PairedAs limit l w span before now (Stop x) = (us : List Captured) (class : ℕ) → Refused class l (emit_upvalues limit (upvalue_of w ∷ us) span) before (told (t_of now) x)
 
 -- the first of the upvalues that are left is emitted
 pub record PairedAt (limit l w : ℕ) (span : Span) (before now : Mem) (r : Step) : Type 0 where

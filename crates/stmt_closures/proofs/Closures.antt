@@ -7,7 +7,7 @@ use Rattle.rules.specs.declared.Span.{Span}
 use Rattle.rules.specs.Op as op
 use Rattle.rules.specs.Chunk.{Constant, CF}
 use Rattle.rules.specs.Compiler.{Upvalue, emit_op, emit_constant, emit_upvalues, emit_closure}
-use Rattle.state.specs.Layout.{levels, upvaluesOf, constant_of}
+use Rattle.state.specs.Layout.{levels, upvalues_of, constant_of}
 use Rattle.state.proofs.Laws.{upvalues_same}
 use Rattle.steps.specs.View.{Mem, t_of, Fit, steady, Ahead, Did}
 use Rattle.steps.specs.declared.Step.{Step}
@@ -21,9 +21,9 @@ constant_as : {class limit l n : ℕ} (span : Span) {before now : Mem} {r : Step
 constant_as {class} {limit} {l} {n} span {before} {now} {r} q d = subst (λ (k : Constant). Did class limit l n steady (emit_constant limit k span) before now r) q d
 
 -- the upvalues of the level above are as they were after a step
-above_same : {l limit : ℕ} {before now : Mem} → l + 1 < levels → Fit before l limit → Ahead l limit steady before now → upvaluesOf (t_of now) (l + 1) ≡ upvaluesOf (t_of before) (l + 1)
+above_same : {l limit : ℕ} {before now : Mem} → l + 1 < levels → Fit before l limit → Ahead l limit steady before now → upvalues_of (t_of now) (l + 1) ≡ upvalues_of (t_of before) (l + 1)
 above_same {l} {before = before} {now = now} low fit a =
-    upvalues_same (t_of before) (t_of now) (l + 1) (fit.wf.fewUpvalues (l + 1) low) (λ o h g. a.over refl _ (omega arith) (omega arith))
+    upvalues_same (t_of before) (t_of now) (l + 1) (fit.wf.few_upvalues (l + 1) low) (λ o h g. a.over refl _ (omega arith) (omega arith))
 
 module _ (class limit l n number : ℕ) (span : Span) (us : List Upvalue) where
   pub closure_first : {k : ℕ} {before now : Mem} {r : Step} {x : Why} → Did class limit l k steady (emit_op limit op.CLOSURE span) before now r → r ≡ Stop x
@@ -37,9 +37,9 @@ module _ (class limit l n number : ℕ) (span : Span) (us : List Upvalue) where
     unfolding emit_closure emit_op
     closure_second d' q' = then_on _ d q (halt _ (constant_as span is d') q')
 
-    pub closure_last : {j u : ℕ} {late now : Mem} {r' r'' : Step} → l + 1 < levels → Fit before l limit → us ≡ upvaluesOf (t_of before) (l + 1)
+    pub closure_last : {j u : ℕ} {late now : Mem} {r' r'' : Step} → l + 1 < levels → Fit before l limit → us ≡ upvalues_of (t_of before) (l + 1)
         → Did class limit l j steady (emit_constant limit (constant_of w) span) mid late r' → r' ≡ Next u → Did class limit l n steady
-        (emit_upvalues limit (upvaluesOf (t_of late) (l + 1)) span) late now r''
+        (emit_upvalues limit (upvalues_of (t_of late) (l + 1)) span) late now r''
         → Did class limit l n steady (emit_closure limit number us span) before now r''
     unfolding emit_closure emit_op
     closure_last low fit e d' q' f =

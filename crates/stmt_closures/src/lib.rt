@@ -2,7 +2,7 @@
 #![tactic(auto)]
 ghost use Rattle.std.specs.Prelude.{ℕ, ◌+◌, ◌<◌};
 ghost use Rattle.rules.specs.Compiler.{emit_closure};
-ghost use Rattle.state.specs.Layout.{levels, upvaluesOf};
+ghost use Rattle.state.specs.Layout.{levels, upvalues_of};
 ghost use Rattle.steps.specs.View.{mem, Fit, steady, Did};
 
 use op::Op;
@@ -23,7 +23,7 @@ pub fn emit_closure(
     next: usize,
 ) -> Step
     requires { (Fit (mem t.old code.old spans.old) level limit) × (level + 1 < levels) }
-    ensures { (class : ℕ) → Did class limit level next steady (emit_closure limit number (upvaluesOf t.old (level + 1)) span) (mem t.old code.old spans.old) (mem t.new code.new spans.new) result }
+    ensures { (class : ℕ) → Did class limit level next steady (emit_closure limit number (upvalues_of t.old (level + 1)) span) (mem t.old code.old spans.old) (mem t.new code.new spans.new) result }
 {
     let a = emit_op(t, code, spans, level, limit, Op::CLOSURE, span, next);
     let Step::Next(_) = a else {

@@ -10,7 +10,7 @@ use lib.ListN.{length, get_or, length-append}
 use Rattle.rules.specs.declared.Span.{Span}
 use Rattle.rules.specs.Chunk.{ObjectFunction}
 use Rattle.rules.specs.Compiler.{Upvalue, Compiler, ok, err, finish, emit_closure, implicit_return, end_ctx, end_function}
-use Rattle.state.specs.Layout.{levels, image_at, codeFrom, codeEnd, upvaluesOf, depth_place, code_from_place, type_place, level_words}
+use Rattle.state.specs.Layout.{levels, image_at, start_of_code, end_of_code, upvalues_of, depth_place, code_from_place, type_place, level_words}
 use Rattle.state.specs.Contracts.{Closed as LevelLeft}
 use Rattle.state.proofs.Laws.{upvalues_same}
 use Rattle.steps.specs.View.{Mem, mem, t_of, Rest, view, Agrees, Fit, code_len, depth_at, steady, Gave, DidAs, Did, Left, finished}
@@ -77,14 +77,14 @@ module _ (class limit l : ℕ) (span : Span) (before : Mem) where
         let e = view_same t₁ t₂ f.kept code₁ spans₁ (suc l) rest fit₁.wf low in
         ap (λ (x : Compiler). record { classes = rest.classes; functions = rest.functions ++ (finish x.ctx ∷ []) }) e
 
-    upvalues_after : upvaluesOf t₂ (suc l) ≡ upvaluesOf t₃ (suc l)
-    upvalues_after = sym (upvalues_same t₂ t₃ (suc l) (f.wf.fewUpvalues (suc l) low) (λ o a b. c.kept.below _ (omega arith)))
+    upvalues_after : upvalues_of t₂ (suc l) ≡ upvalues_of t₃ (suc l)
+    upvalues_after = sym (upvalues_same t₂ t₃ (suc l) (f.wf.few_upvalues (suc l) low) (λ o a b. c.kept.below _ (omega arith)))
 
-    leaves : (rest : Rest) → end_ctx (view (mem t₁ code₁ spans₁) (suc l) rest) ≡ ok (length rest.functions, upvaluesOf t₃ (suc l)) (view (mem t₃ code₁ spans₁) l (more (done ∷ []) rest))
+    leaves : (rest : Rest) → end_ctx (view (mem t₁ code₁ spans₁) (suc l) rest) ≡ ok (length rest.functions, upvalues_of t₃ (suc l)) (view (mem t₃ code₁ spans₁) l (more (done ∷ []) rest))
     leaves rest =
         ap end_ctx (sym (view_same t₁ t₂ f.kept code₁ spans₁ (suc l) rest fit₁.wf low)) ∙ outside.comes code₁ spans₁ rest
         ∙ ap₂ (λ (us : List Upvalue) (k : ℕ). ok (length rest.functions, us) (view (mem t₃ code₁ spans₁) k (finished (mem t₂ code₁ spans₁) (suc l) rest))) upvalues_after one_less
-        ∙ ap (λ (z : Rest). ok (length rest.functions, upvaluesOf t₃ (suc l)) (view (mem t₃ code₁ spans₁) l z)) (rest_after rest)
+        ∙ ap (λ (z : Rest). ok (length rest.functions, upvalues_of t₃ (suc l)) (view (mem t₃ code₁ spans₁) l z)) (rest_after rest)
 
     agrees_after : (rest : Rest) → Agrees class before rest → Agrees class (mem t₃ code₁ spans₁) (more (done ∷ []) rest)
     agrees_after rest h =
@@ -96,16 +96,16 @@ module _ (class limit l : ℕ) (span : Span) (before : Mem) where
 
     module _ (number : ℕ) (is : number ≡ get_or t₁ image_at 0) where
       comes_to : (rest : Rest) → Agrees class before rest
-          → close_function limit span (view before (suc l) rest) ≡ emit_closure limit number (upvaluesOf t₃ (suc l)) span (view (mem t₃ code₁ spans₁) l (more (done ∷ []) rest))
+          → close_function limit span (view before (suc l) rest) ≡ emit_closure limit number (upvalues_of t₃ (suc l)) span (view (mem t₃ code₁ spans₁) l (more (done ∷ []) rest))
       comes_to rest h =
           close_then limit span (view before (suc l) rest) (g.comes rest h) (leaves rest)
-          ∙ ap (λ (k : ℕ). emit_closure limit k (upvaluesOf t₃ (suc l)) span (view (mem t₃ code₁ spans₁) l (more (done ∷ []) rest))) ((g.agrees rest h).made ∙ sym is)
+          ∙ ap (λ (k : ℕ). emit_closure limit k (upvalues_of t₃ (suc l)) span (view (mem t₃ code₁ spans₁) l (more (done ∷ []) rest))) ((g.agrees rest h).made ∙ sym is)
 
-      module _ {t₄ code₄ spans₄ : List ℕ} (e : Gave class limit l steady (emit_closure limit number (upvaluesOf t₃ (suc l)) span) tt (mem t₃ code₁ spans₁) (mem t₄ code₄ spans₄)) where
-        up_to : codeFrom (t_of before) (suc l) ≤ codeEnd t₄
+      module _ {t₄ code₄ spans₄ : List ℕ} (e : Gave class limit l steady (emit_closure limit number (upvalues_of t₃ (suc l)) span) tt (mem t₃ code₁ spans₁) (mem t₄ code₄ spans₄)) where
+        up_to : start_of_code (t_of before) (suc l) ≤ end_of_code t₄
         unfolding code_len
         up_to =
-            let h = no_shorter (codeEnd t₃) (codeEnd t₄) (codeFrom t₃ l) (codeFrom t₄ l) fit_after.coded.top e.ahead.fit.coded.top
+            let h = no_shorter (end_of_code t₃) (end_of_code t₄) (start_of_code t₃ l) (start_of_code t₄ l) fit_after.coded.top e.ahead.fit.coded.top
             (e.ahead.head code_from_place (omega arith) (omega arith)) e.ahead.up in
             omega (arith, c.code, f.kept (suc l * level_words + code_from_place) (omega arith), g.ahead.head code_from_place (omega arith) (omega arith))
 
@@ -145,12 +145,12 @@ module _ (class limit l : ℕ) (span : Span) (before : Mem) where
           bytes = omega (arith, beyond_all (image_at + 1) (omega arith), f.bytes, first_words (image_at + 1) (omega arith));
         }
 
-      last_as : (n : ℕ) (t₄ code₄ spans₄ : List ℕ) (r : Step) → DidAs class limit l n steady (emit_closure limit number (upvaluesOf t₃ (suc l)) span) (mem t₃ code₁ spans₁) (mem t₄ code₄ spans₄) r
+      last_as : (n : ℕ) (t₄ code₄ spans₄ : List ℕ) (r : Step) → DidAs class limit l n steady (emit_closure limit number (upvalues_of t₃ (suc l)) span) (mem t₃ code₁ spans₁) (mem t₄ code₄ spans₄) r
           → FunctionClosedAs class limit l n span before out (mem t₄ code₄ spans₄) out' r
       last_as n t₄ code₄ spans₄ (Next v) d = (complete d.0, d.1)
       last_as n t₄ code₄ spans₄ (Stop x) d = λ rest h. comes_to rest h ∙ d.refuses (more (done ∷ []) rest) (agrees_after rest h)
 
-      pub closed_last : {n : ℕ} {t₄ code₄ spans₄ : List ℕ} {r : Step} → Did class limit l n steady (emit_closure limit number (upvaluesOf t₃ (suc l)) span)
+      pub closed_last : {n : ℕ} {t₄ code₄ spans₄ : List ℕ} {r : Step} → Did class limit l n steady (emit_closure limit number (upvalues_of t₃ (suc l)) span)
           (mem t₃ code₁ spans₁) (mem t₄ code₄ spans₄) r
           → FunctionClosed class limit l n span before out (mem t₄ code₄ spans₄) out' r
       closed_last {n} {t₄} {code₄} {spans₄} {r} d = record { does = last_as n t₄ code₄ spans₄ r d.does }
@@ -172,10 +172,10 @@ module _ (limit l : ℕ) (span : Span) (before : Mem) where
 
     pub closed_last_at : {class n : ℕ} {t₄ code₄ spans₄ : List ℕ} {r : Step} (number : ℕ) → number ≡ get_or t₁ image_at 0 → l + 1 < levels
         → Gave class limit (l + 1) steady (implicit_return limit) tt before (mem t₁ code₁ spans₁) → Filed (l + 1) t₁ code₁ spans₁ out t₂ out' → LevelLeft t₂ t₃ (l + 1)
-        → Did class limit l n steady (emit_closure limit number (upvaluesOf t₃ (l + 1)) span) (mem t₃ code₁ spans₁) (mem t₄ code₄ spans₄) r
+        → Did class limit l n steady (emit_closure limit number (upvalues_of t₃ (l + 1)) span) (mem t₃ code₁ spans₁) (mem t₄ code₄ spans₄) r
         → FunctionClosed class limit l n span before out (mem t₄ code₄ spans₄) out' r
     closed_last_at {class} {n} {t₄} {code₄} {spans₄} {r} number is =
         subst (λ (j : ℕ). j < levels → Gave class limit j steady (implicit_return limit) tt before (mem t₁ code₁ spans₁) → Filed j t₁ code₁ spans₁ out t₂ out' → LevelLeft t₂ t₃ j
-        → Did class limit l n steady (emit_closure limit number (upvaluesOf t₃ j) span) (mem t₃ code₁ spans₁) (mem t₄ code₄ spans₄) r → FunctionClosed class
+        → Did class limit l n steady (emit_closure limit number (upvalues_of t₃ j) span) (mem t₃ code₁ spans₁) (mem t₄ code₄ spans₄) r → FunctionClosed class
         limit l n span before out (mem t₄ code₄ spans₄) out' r)
         (sym (add-one l)) (λ low g f c d. closed_last class limit l span before t₁ code₁ spans₁ out t₂ out' t₃ low g f c number is d)

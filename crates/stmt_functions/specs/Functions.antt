@@ -7,7 +7,7 @@ use Rattle.std.specs.Prelude.{◌≡◌, List, [], ◌∷◌, ◌++◌, ℕ, suc
 use Rattle.rules.specs.declared.Span.{Span}
 use Rattle.rules.specs.Chunk.{ObjectFunction}
 use Rattle.rules.specs.Compiler.{ok, err}
-use Rattle.state.specs.Layout.{image_at, codeFrom, codeEnd, depth_place, type_place, level_words}
+use Rattle.state.specs.Layout.{image_at, start_of_code, end_of_code, depth_place, type_place, level_words}
 use Rattle.steps.specs.View.{Mem, t_of, Rest, view, Agrees, Fit}
 use Rattle.steps.specs.declared.Step.{Step}
 use Rattle.steps.specs.declared.Step.TheVariants.{Next, Stop}
@@ -20,7 +20,7 @@ pub record Finished (class limit l : ℕ) (span : Span) (before : Mem) (out : Li
   pub comes : (rest : Rest) → Agrees class before rest → close_function limit span (view before (suc l) rest) ≡ ok tt (view now l (more (function ∷ []) rest))
   pub agrees : (rest : Rest) → Agrees class before rest → Agrees class now (more (function ∷ []) rest)
   pub fit : Fit now l limit
-  pub up : codeFrom (t_of before) (suc l) ≤ codeEnd (t_of now)
+  pub up : start_of_code (t_of before) (suc l) ≤ end_of_code (t_of now)
   pub under : (k o : ℕ) → k ≤ l → depth_place ≤ o → o ≤ type_place → get_or (t_of now) (k * level_words + o) 0 ≡ get_or (t_of before) (k * level_words + o) 0
   pub put : (functions : List ObjectFunction) → Holds (t_of before) out functions → Holds (t_of now) out' (functions ++ (function ∷ []))
   pub count : get_or (t_of now) image_at 0 ≡ get_or (t_of before) image_at 0 + 1

@@ -18,7 +18,7 @@ use Rattle.rules.specs.Compiler.{Compiler, Compile, ok, err, ◌>>◌, FunctionT
 use Rattle.fields.specs.Words.{word16, letters, span_of}
 use Rattle.tree_laws.proofs.Statements.{FunAt, fun_of, FunStmtAt, fun_stmt_at, MethodAt, method_at}
 use Rattle.tree_laws.proofs.Later.{later_names, later_stmts, within_stmts}
-use Rattle.state.specs.Layout.{levels, deepest, image_at, codeFrom, codeEnd, type_of, depth_place, code_from_place, type_place, level_words}
+use Rattle.state.specs.Layout.{levels, deepest, image_at, start_of_code, end_of_code, type_of, depth_place, code_from_place, type_place, level_words}
 use Rattle.steps.specs.View.{Mem, mem, t_of, Rest, view, Agrees, Fit, code_len, depth_at, steady, Ahead, Gave, Refused, Did}
 use Rattle.steps.specs.declared.Step.{Step}
 use Rattle.steps.specs.declared.Step.TheVariants.{Next, Stop}
@@ -74,7 +74,7 @@ less_one h = omega arith
 never : {A : Type 0} → false ≡ true → A
 never h = let z : ◌≡◌ {A = ℕ} 0 1 = cc in absurd (omega arith)
 
-code_up : (t code spans : List ℕ) (now : Mem) (l : ℕ) → codeEnd t ≤ codeEnd (t_of now) → codeFrom (t_of now) l ≡ codeFrom t l → code_len (mem t code spans) l ≤ code_len now l
+code_up : (t code spans : List ℕ) (now : Mem) (l : ℕ) → end_of_code t ≤ end_of_code (t_of now) → start_of_code (t_of now) l ≡ start_of_code t l → code_len (mem t code spans) l ≤ code_len now l
 unfolding code_len
 code_up t code spans (mem t' code' spans') l h q = omega arith
 
@@ -191,7 +191,7 @@ module _ (tree : List ℕ) (l at left kind : ℕ) (span : Span) where
                 → get_or (t_of now) (k * level_words + o) 0 ≡ get_or t (k * level_words + o) 0
             same h d k o p q r = d.under k o p q r ∙ (grew h).gave.ahead.under k o (lower p) q r ∙ (inside h).0.kept.below (k * level_words + o) (below_level l k o p r)
 
-            longer : {f : Fun} {n : ℕ} (h : fun_at tree left l at ≡ got f n) → Finished class limit l span m2 out2 now out3 → codeEnd t ≤ codeEnd (t_of now)
+            longer : {f : Fun} {n : ℕ} (h : fun_at tree left l at ≡ got f n) → Finished class limit l span m2 out2 now out3 → end_of_code t ≤ end_of_code (t_of now)
             longer h d = let p = (grew h).gave.ahead.head code_from_place (omega arith) (omega arith) in let q = (inside h).0.from in let u = d.up in omega (arith, p, q, u)
 
             added_function : {f : Fun} {n : ℕ} (h : fun_at tree left l at ≡ got f n) (d : Finished class limit l span m2 out2 now out3)

@@ -8,7 +8,7 @@ use Rattle.rules.specs.declared.Span.{Span}
 use Rattle.rules.specs.Reader.{got}
 use Rattle.rules.specs.Compiler.{Compiler, ok, err, Compile, ◌>>◌, done, return, update_ctx, slot_zero, declare_local, define_local, declare_params}
 use Rattle.fields.specs.Words.{word16}
-use Rattle.state.specs.Layout.{levels, ctxAt, type_of, Wf, upvalues_place, name_place, level_words, local_count_place, word}
+use Rattle.state.specs.Layout.{levels, ctx_at, type_of, Wf, upvalues_place, name_place, level_words, local_count_place, word}
 use Rattle.state.specs.Contracts.{Kept, DeclaredAs, DeclaredAt, DefinedAt}
 use Rattle.state.specs.declared.Declared.{Declared}
 use Rattle.state.specs.declared.Declared.TheVariants as decl
@@ -53,7 +53,7 @@ kept_on a b x y = record {
 -- ## One local
 
 define_is : (t t' code spans : List ℕ) (l : ℕ) (rest : Rest) → l < levels → Wf t → DefinedAt t t' l → define_local (view (mem t code spans) l rest) ≡ ok tt (view (mem t' code spans) l rest)
-unfolding define_local update_ctx view ctxAt
+unfolding define_local update_ctx view ctx_at
 define_is t t' code spans l rest low wf w = ap (ok tt) (sym (view_locals t code spans t' l local_count_place _ wf low w.kept (omega arith) w.does rest))
 
 module _ (l n name : ℕ) (span : Span) (t t₁ : List ℕ) (r : Declared) (w : DeclaredAt t t₁ l name r) where
@@ -64,7 +64,7 @@ module _ (l n name : ℕ) (span : Span) (t t₁ : List ℕ) (r : Declared) (w : 
   own_name = w.kept.above _ (omega arith)
 
   pub named_again : r ≡ decl.Already → Named l n (declare_named name span) t t₁ (Stop (already_defined l span name))
-  unfolding view ctxAt refusal_of
+  unfolding view ctx_at refusal_of
   named_again q = record {
     does = λ code spans rest.
         seq_err (declare_local name span) (view (mem t code spans) l rest) define_local (already_declared name span (view (mem t code spans) l rest) (does_as decl.Already q))
@@ -72,7 +72,7 @@ module _ (l n name : ℕ) (span : Span) (t t₁ : List ℕ) (r : Declared) (w : 
   }
 
   pub named_full : r ≡ decl.Full → Named l n (declare_named name span) t t₁ (Stop (too_many_locals l span))
-  unfolding view ctxAt refusal_of
+  unfolding view ctx_at refusal_of
   named_full q = record {
     does = λ code spans rest.
         seq_err (declare_local name span) (view (mem t code spans) l rest) define_local
@@ -81,7 +81,7 @@ module _ (l n name : ℕ) (span : Span) (t t₁ : List ℕ) (r : Declared) (w : 
   }
 
   declare_is : l < levels → Wf t → r ≡ decl.Done → (code spans : List ℕ) (rest : Rest) → declare_local name span (view (mem t code spans) l rest) ≡ ok tt (view (mem t₁ code spans) l rest)
-  unfolding view ctxAt
+  unfolding view ctx_at
   declare_is low wf q code spans rest =
       enough_locals name span (view (mem t code spans) l rest) (does_as decl.Done q).0 (does_as decl.Done q).1
       ∙ ap (ok tt) (sym (view_locals t code spans t₁ l upvalues_place _ wf low w.kept (omega arith) (does_as decl.Done q).2 rest))

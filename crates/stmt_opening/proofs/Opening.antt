@@ -12,7 +12,7 @@ use Rattle.rules.specs.declared.Refusal.TheVariants.{TreeForm, TooManyParams}
 use Rattle.rules.specs.Reader.{got}
 use Rattle.rules.specs.Compiler.{FunctionType, Compiler, CompilerCtx, new_ctx, ok, err, stopped, Compile, ◌>>=◌, ◌>>◌, go_on, need, the, slot_zero, begin_ctx, declare_local, define_local, declare_params}
 use Rattle.fields.specs.Words.{word16}
-use Rattle.state.specs.Layout.{levels, code_end_at, runs_end_at, codeFrom, runsFrom, codeEnd, runsEnd, chunkAt, ctxAt, type_of, Wf, upvalues_place, depth_place, code_from_place, runs_from_place, level_words}
+use Rattle.state.specs.Layout.{levels, code_end_at, runs_end_at, start_of_code, start_of_runs, end_of_code, end_of_runs, chunk_at, ctx_at, type_of, Wf, upvalues_place, depth_place, code_from_place, runs_from_place, level_words}
 use Rattle.state.specs.Contracts.{Kept, Began}
 use Rattle.state.proofs.Laws.{length_row}
 use Rattle.tree_laws.proofs.Statements.{names_length}
@@ -55,14 +55,14 @@ no_more : (a b : ℕ) → a - b ≡ 0 → a ≤ b
 no_more a b h = omega arith
 
 module _ (l name arity kind : ℕ) (t t' : List ℕ) (low : l + 1 < levels) (b : Began t t' l name arity kind) where
-  no_code : codeEnd t' ≤ codeFrom t' (suc l)
-  unfolding ctxAt chunkAt
-  no_code = no_more (codeEnd t') (codeFrom t' (suc l)) (sym (length_row (λ i. get_or [] (codeFrom t' (suc l) + i) 0) (codeEnd t' - codeFrom t' (suc l))) ∙ ap
+  no_code : end_of_code t' ≤ start_of_code t' (suc l)
+  unfolding ctx_at chunk_at
+  no_code = no_more (end_of_code t') (start_of_code t' (suc l)) (sym (length_row (λ i. get_or [] (start_of_code t' (suc l) + i) 0) (end_of_code t' - start_of_code t' (suc l))) ∙ ap
       (λ (c : CompilerCtx). length c.chunk.ops) (b.fresh [] []))
 
-  no_runs : runsEnd t' ≤ runsFrom t' (suc l)
-  unfolding ctxAt chunkAt
-  no_runs = no_more (runsEnd t') (runsFrom t' (suc l)) (sym (length_row _ (runsEnd t' - runsFrom t' (suc l))) ∙ ap (λ (c : CompilerCtx). length c.chunk.spans) (b.fresh [] []))
+  no_runs : end_of_runs t' ≤ start_of_runs t' (suc l)
+  unfolding ctx_at chunk_at
+  no_runs = no_more (end_of_runs t') (start_of_runs t' (suc l)) (sym (length_row _ (end_of_runs t' - start_of_runs t' (suc l))) ∙ ap (λ (c : CompilerCtx). length c.chunk.spans) (b.fresh [] []))
 
 -- ## The whole
 
@@ -77,7 +77,7 @@ module _ (l kind name : ℕ) (params : List ℕ) (span : Span) (t t₁ : List �
   begun = entered l name (length params) kind t t₁ low b
 
   begun_is : (code spans : List ℕ) (rest : Rest) → whole (view (mem t code spans) l rest) ≡ (first >> declare_params params span) (view (mem t₁ code spans) (suc l) rest)
-  unfolding view depth_at ctxAt
+  unfolding view depth_at ctx_at
   begun_is code spans rest = open_is (type_of kind) name params span (view (mem t code spans) l rest) few (begun.comes code spans rest)
 
   pub opened_stop : (n : ℕ) {k : ℕ} {t₂ : List ℕ} {r : Step} {x : Why} → Named (suc l) k first t₁ t₂ r → r ≡ Stop x → FunctionOpenedAs l n whole t t₂ r

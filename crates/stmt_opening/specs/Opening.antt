@@ -7,7 +7,7 @@ use Rattle.rules.specs.Reader.{Read, got, many}
 use Rattle.rules.specs.TreeFile.{name}
 use Rattle.rules.specs.Compiler.{Compile, ok, err, ◌>>◌, declare_local, define_local, declare_params}
 use Rattle.fields.specs.Words.{word16}
-use Rattle.state.specs.Layout.{codeFrom, runsFrom, codeEnd, runsEnd, type_of, Wf, upvalues_place, level_words}
+use Rattle.state.specs.Layout.{start_of_code, start_of_runs, end_of_code, end_of_runs, type_of, Wf, upvalues_place, level_words}
 use Rattle.state.specs.Contracts.{Kept}
 use Rattle.steps.specs.View.{mem, Rest, view, Fit, depth_at}
 use Rattle.steps.specs.declared.Step.{Step}
@@ -65,8 +65,8 @@ pub record Inside (l : ℕ) (m : Compile Unit) (t t' : List ℕ) : Type 0 where
   pub deep : (code spans : List ℕ) → depth_at (mem t' code spans) (suc l) ≡ depth_at (mem t code spans) l + 1
   pub kept : Kept (suc l * level_words) (suc l * level_words + level_words) t t'
   -- its code and its runs start no earlier than those of the function around end
-  pub from : codeEnd t ≤ codeFrom t' (suc l)
-  pub runs_from : runsEnd t ≤ runsFrom t' (suc l)
+  pub from : end_of_code t ≤ start_of_code t' (suc l)
+  pub runs_from : end_of_runs t ≤ start_of_runs t' (suc l)
 
 abbrev pub FunctionOpenedAs : (l n : ℕ) → Compile Unit → (t t' : List ℕ) → Step → Type 0
 FunctionOpenedAs l n m t t' (Next v) = Inside l m t t' × (v ≡ n)

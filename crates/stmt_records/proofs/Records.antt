@@ -11,7 +11,7 @@ use Rattle.rules.specs.Limits.{max_code}
 use Rattle.rules.specs.Chunk.{Run, ObjectFunction}
 use Rattle.rules.specs.Image.{join, constant_bytes, run_bytes, function_bytes}
 use Rattle.rules.specs.Compiler.{finish}
-use Rattle.state.specs.Layout.{levels, image_at, constant_of, run_at, codeFrom, runsFrom, codeEnd, runsEnd, chunkAt, ctxAt, constants_place, constant_count_place, level_words}
+use Rattle.state.specs.Layout.{levels, image_at, constant_of, run_at, start_of_code, start_of_runs, end_of_code, end_of_runs, chunk_at, ctx_at, constants_place, constant_count_place, level_words}
 use Rattle.state.proofs.Laws.{length_row, wf_plain}
 use Rattle.writer.specs.Put.{padded, Put, Closed, Counted, AllCounted}
 use Rattle.writer.proofs.Padding.{length_run, constant_short}
@@ -55,11 +55,11 @@ record_short f c r b =
 -- what a level's function can have
 parts_most : (t code spans : List ℕ) (l : ℕ) → Closed t code spans l → (length (function_at t code spans l).chunk.constants ≤ 256) ×
     (length (function_at t code spans l).chunk.spans ≤ max_code) × (length (function_at t code spans l).chunk.ops ≤ max_code)
-unfolding function_at finish ctxAt chunkAt
+unfolding function_at finish ctx_at chunk_at
 parts_most t code spans l c = (
-  omega (arith, length_row (λ i. constant_of (get_or t (l * level_words + constants_place + i) 0)) (get_or t (l * level_words + constant_count_place) 0), c.wf.fewConstants l c.low),
-  omega (arith, length_row (λ i. run_at spans (runsFrom t l + i)) (runsEnd t - runsFrom t l), c.runs_few, c.code_small),
-  omega (arith, length_row (λ i. get_or code (codeFrom t l + i) 0) (codeEnd t - codeFrom t l), c.code_small),
+  omega (arith, length_row (λ i. constant_of (get_or t (l * level_words + constants_place + i) 0)) (get_or t (l * level_words + constant_count_place) 0), c.wf.few_constants l c.low),
+  omega (arith, length_row (λ i. run_at spans (start_of_runs t l + i)) (end_of_runs t - start_of_runs t l), c.runs_few, c.code_small),
+  omega (arith, length_row (λ i. get_or code (start_of_code t l + i) 0) (end_of_code t - start_of_code t l), c.code_small),
 )
 
 pub function_short : (t code spans : List ℕ) (l : ℕ) → Closed t code spans l → length (function_bytes (function_at t code spans l)) ≤ largest
@@ -81,7 +81,7 @@ less_six : (r w n : ℕ) → r ≡ 6 + w + n → r - 6 ≡ w + n
 less_six r w n e = omega arith
 
 module _ (l : ℕ) (t code spans out out' : List ℕ) (r : ℕ) (c : Closed t code spans l)
-    (p : Put out out' (6 + get_or t (image_at + 1) 0) (function_bytes (finish (ctxAt t code spans l (codeEnd t) (runsEnd t)))) r) where
+    (p : Put out out' (6 + get_or t (image_at + 1) 0) (function_bytes (finish (ctx_at t code spans l (end_of_code t) (end_of_runs t)))) r) where
   abbrev longer : List ℕ
   longer = set t (image_at + 1) (r - 6)
 

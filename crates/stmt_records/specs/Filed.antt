@@ -2,12 +2,12 @@
 use Rattle.std.specs.Prelude.{◌≡◌, List, [], ◌∷◌, ◌++◌, ℕ, ◌+◌, ◌≤◌, ◌<◌, get_or}
 use Rattle.rules.specs.Chunk.{ObjectFunction}
 use Rattle.rules.specs.Compiler.{finish}
-use Rattle.state.specs.Layout.{image_at, codeEnd, runsEnd, ctxAt, Wf}
+use Rattle.state.specs.Layout.{image_at, end_of_code, end_of_runs, ctx_at, Wf}
 use Rattle.stmt_output_laws.specs.Output.{largest, Holds}
 
 -- the function that stands at a level
 unfoldable pub function_at : (t code spans : List ℕ) → (level : ℕ) → ObjectFunction
-function_at t code spans l = finish (ctxAt t code spans l (codeEnd t) (runsEnd t))
+function_at t code spans l = finish (ctx_at t code spans l (end_of_code t) (end_of_runs t))
 
 -- it is put behind the others, and counted
 pub record Filed (l : ℕ) (t code spans out t' out' : List ℕ) : Type 0 where

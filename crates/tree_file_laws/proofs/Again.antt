@@ -26,13 +26,13 @@ use Rattle.rules.specs.TreeFile as t
 use Rattle.rules.specs.TreeEncode as w
 use Rattle.rules.specs.TreeEncode.{byte, opening, bit, has, has_stmt, count_stmts, count_methods, if_some, expr_bytes, exprs_bytes, superclass_bytes}
 use Rattle.rules.specs.TreeEncode.{stmt_bytes, stmts_bytes, fun_bytes, methods_bytes, name_bytes, encode}
-use Rattle.rules_laws.proofs.Facts.{All, Bytes, getD_small}
+use Rattle.rules_laws.proofs.Facts.{All, Bytes, get_or_small}
 use Rattle.rules_laws.proofs.Lookups as l
 use Rattle.rules_laws.proofs.Lookups.{Makes, return, byte_at}
 use Rattle.rules_laws.proofs.ReadBack.{Narrow, Left, base, le_parts}
-use Rattle.rules_laws.proofs.Trees.{If_some, option_size}
-use Rattle.tree_file_laws.proofs.Fits.{Count, Known, Fits_literal, Fits_expr, Fits_exprs, Fits_superclass, Fits_stmt, Fits_stmts, Fits_fun, Fits_methods}
-use Rattle.tree_file_laws.proofs.Fits.{Fits_text, Above, Rising, Fits_file}
+use Rattle.rules_laws.proofs.Trees.{IfSome, option_size}
+use Rattle.tree_file_laws.proofs.Fits.{Count, Known, FitsLiteral, FitsExpr, FitsExprs, FitsSuperclass, FitsStmt, FitsStmts, FitsFun, FitsMethods}
+use Rattle.tree_file_laws.proofs.Fits.{FitsText, Above, Rising, FitsFile}
 use Rattle.tree_file_laws.proofs.Fits.{expr_depth, exprs_depth, stmt_depth, record_depth, fun_depth, methods_depth}
 use Rattle.tree_file_laws.proofs.Fits.{stmt_nesting, nested_funs, fun_nesting, methods_nesting}
 use Rattle.tree_file_laws.proofs.Names.{names_of}
@@ -219,7 +219,7 @@ module _ (tree : List ℕ) (bytes : Bytes tree) where
           let y : b ≡ x = h.1 ∙ z in
           record {
             after = xs;
-            fits = rw h.1 (getD_small tree at bytes);
+            fits = rw h.1 (get_or_small tree at bytes);
             was =
                 record {
                   split = rw y;
@@ -303,7 +303,7 @@ module _ (tree : List ℕ) (bytes : Bytes tree) where
 
   maybe : {A : Type 0} (b : Bool) {one : Reader A} (P : A → Type 0) (depth-of : A → ℕ) (deep : ℕ) (f : A → List ℕ) →
       Takes one (λ (a : A). P a × (depth-of a ≤ deep)) f →
-      Takes (t.maybe b one) (λ (v : Option A). (has v ≡ b) × If_some P v × (option_size depth-of v ≤ deep)) (if_some f)
+      Takes (t.maybe b one) (λ (v : Option A). (has v ≡ b) × IfSome P v × (option_size depth-of v ≤ deep)) (if_some f)
   unfolding t.maybe has if_some
   maybe false P depth-of deep f h at left p = return none (took (refl, tt, omega arith) (nothing p))
   maybe true P depth-of deep f h at left p =
@@ -332,11 +332,11 @@ module _ (tree : List ℕ) (bytes : Bytes tree) where
 
     -- ## Expressions
 
-    abbrev In_expr : (depth : ℕ) → Expr → Type 0
-    In_expr depth e = Fits_expr names e × (expr_depth e ≤ depth)
+    abbrev InExpr : (depth : ℕ) → Expr → Type 0
+    InExpr depth e = FitsExpr names e × (expr_depth e ≤ depth)
 
-    read_exprs : (count depth : ℕ) {one : Reader Expr} → Takes one (In_expr depth) expr_bytes →
-        Takes (t.read_exprs count one) (λ es. (count_exprs es ≡ count) × Fits_exprs names es × (exprs_depth es ≤ depth)) exprs_bytes
+    read_exprs : (count depth : ℕ) {one : Reader Expr} → Takes one (InExpr depth) expr_bytes →
+        Takes (t.read_exprs count one) (λ es. (count_exprs es ≡ count) × FitsExprs names es × (exprs_depth es ≤ depth)) exprs_bytes
     unfolding t.read_exprs exprs_bytes count_exprs
     read_exprs zero depth h at left p = return []ᵉ (took (refl, tt, omega arith) (nothing p))
     read_exprs (suc count) depth h at left p =
@@ -346,7 +346,7 @@ module _ (tree : List ℕ) (bytes : Bytes tree) where
         (took (ap suc o.fits.0, (q.fits.0, o.fits.1), omega (arith, q.fits.1, o.fits.2)) (both q.was o.was))))
 
     literal_of : (fault : Refusal) (k : t.LiteralKind) (at : ℕ) (whole left : List ℕ) (p : Was whole (kind_code k) left at) →
-        Makes (t.literal_of tree names fault k) at (Took whole (Fits_literal names) w.literal_bytes)
+        Makes (t.literal_of tree names fault k) at (Took whole (FitsLiteral names) w.literal_bytes)
     unfolding t.literal_of w.literal_bytes byte
     literal_of fault t.a_false at whole left p = return _ (took tt p)
     literal_of fault t.a_true at whole left p = return _ (took tt p)
@@ -358,9 +358,9 @@ module _ (tree : List ℕ) (bytes : Bytes tree) where
         first (name fault at left p.leaves) (λ n i q. return (LitString n) (took q.fits (both p q.was)))
 
     -- what follows the span, where `o` is what stands before it
-    expr_fields : (expr : Reader Expr) (depth : ℕ) → Takes expr (In_expr depth) expr_bytes → (fault : Refusal) (k : t.ExprMark) (s : Span) → Narrow s →
+    expr_fields : (expr : Reader Expr) (depth : ℕ) → Takes expr (InExpr depth) expr_bytes → (fault : Refusal) (k : t.ExprMark) (s : Span) → Narrow s →
         (whole left : List ℕ) (at : ℕ) (o : Was whole (opening 0x45 (expr_letter k) s) left at) →
-        Makes (t.expr_fields tree names expr fault k s) at (Took whole (In_expr (suc depth)) expr_bytes)
+        Makes (t.expr_fields tree names expr fault k s) at (Took whole (InExpr (suc depth)) expr_bytes)
     unfolding t.expr_fields t.assign_fields t.call_fields t.get_fields t.infix_fields t.literal_fields t.prefix_fields t.set_fields t.super_fields t.var_fields expr_bytes
     expr_fields expr depth h fault t.EA s n whole left at o =
         first (name fault at left o.leaves) (λ m i p.
@@ -402,7 +402,7 @@ module _ (tree : List ℕ) (bytes : Bytes tree) where
     expr_fields expr depth h fault t.EV s n whole left at o =
         first (name fault at left o.leaves) (λ m i p. return (ExprVar s m) (took ((n, p.fits), omega arith) (both o p.was)))
 
-    read_expr : (depth : ℕ) → Takes (t.read_expr tree names depth) (In_expr depth) expr_bytes
+    read_expr : (depth : ℕ) → Takes (t.read_expr tree names depth) (InExpr depth) expr_bytes
     unfolding t.read_expr t.expr_mark t.expr_record
     read_expr zero at left p = here _ (first (marked t.expr_marks _ expr_rows (TreeForm at) at left p) (λ k j q. refuse _))
     read_expr (suc depth) at left p =
@@ -411,7 +411,7 @@ module _ (tree : List ℕ) (bytes : Bytes tree) where
         expr_fields (t.read_expr tree names depth) depth (read_expr depth) (TreeForm at) k s u.fits left u.after j
         (opened 0x45 (expr_letter k) s q.was u.was))))
 
-    read_superclass : (depth : ℕ) → Takes (t.read_superclass tree names depth) (λ sup. Fits_superclass names sup × (1 ≤ depth)) superclass_bytes
+    read_superclass : (depth : ℕ) → Takes (t.read_superclass tree names depth) (λ sup. FitsSuperclass names sup × (1 ≤ depth)) superclass_bytes
     unfolding t.read_superclass superclass_bytes
     read_superclass zero at left p = here _ (next (mark_is (TreeForm at) 0x4556 at left p) (λ _ j q. refuse _))
     read_superclass (suc depth) at left p =
@@ -422,24 +422,24 @@ module _ (tree : List ℕ) (bytes : Bytes tree) where
 
     -- ## Statements
 
-    abbrev In_stmt : (depth funs : ℕ) → Stmt → Type 0
-    In_stmt depth funs e = Fits_stmt names e × (stmt_depth e ≤ depth) × (stmt_nesting e ≤ funs)
+    abbrev InStmt : (depth funs : ℕ) → Stmt → Type 0
+    InStmt depth funs e = FitsStmt names e × (stmt_depth e ≤ depth) × (stmt_nesting e ≤ funs)
 
-    abbrev In_stmts : (depth funs : ℕ) → Stmts → Type 0
-    In_stmts depth funs ts = Fits_stmts names ts × (record_depth ts ≤ depth) × (nested_funs ts ≤ funs)
+    abbrev InStmts : (depth funs : ℕ) → Stmts → Type 0
+    InStmts depth funs ts = FitsStmts names ts × (record_depth ts ≤ depth) × (nested_funs ts ≤ funs)
 
-    abbrev In_fun : (depth funs : ℕ) → Fun → Type 0
-    In_fun depth funs f = Fits_fun names f × (fun_depth f ≤ depth) × (fun_nesting f ≤ funs)
+    abbrev InFun : (depth funs : ℕ) → Fun → Type 0
+    InFun depth funs f = FitsFun names f × (fun_depth f ≤ depth) × (fun_nesting f ≤ funs)
 
     -- a method's record: its own `SF` counts
-    abbrev In_method : (depth funs : ℕ) → Span × Fun → Type 0
-    In_method depth funs m = Narrow m.0 × Fits_fun names m.1 × (suc (fun_depth m.1) ≤ depth) × (suc (fun_nesting m.1) ≤ funs)
+    abbrev InMethod : (depth funs : ℕ) → Span × Fun → Type 0
+    InMethod depth funs m = Narrow m.0 × FitsFun names m.1 × (suc (fun_depth m.1) ≤ depth) × (suc (fun_nesting m.1) ≤ funs)
 
     abbrev method_bytes : Span × Fun → List ℕ
     method_bytes m = opening 0x53 0x46 m.0 ++ fun_bytes m.1
 
-    read_stmts : (count depth funs : ℕ) {one : Reader Stmt} → Takes one (In_stmt depth funs) stmt_bytes →
-        Takes (t.read_stmts count one) (λ ts. (count_stmts ts ≡ count) × In_stmts depth funs ts) stmts_bytes
+    read_stmts : (count depth funs : ℕ) {one : Reader Stmt} → Takes one (InStmt depth funs) stmt_bytes →
+        Takes (t.read_stmts count one) (λ ts. (count_stmts ts ≡ count) × InStmts depth funs ts) stmts_bytes
     unfolding t.read_stmts stmts_bytes count_stmts
     read_stmts zero depth funs h at left p = return []ˢ (took (refl, (tt, omega arith, omega arith)) (nothing p))
     read_stmts (suc count) depth funs h at left p =
@@ -450,8 +450,8 @@ module _ (tree : List ℕ) (bytes : Bytes tree) where
         (ap suc o.fits.0, ((q.fits.0, o.fits.1.0), omega (arith, q.fits.1, o.fits.1.1), omega (arith, q.fits.2, o.fits.1.2)))
         (both q.was o.was))))
 
-    maybe_stmt : (b : Bool) (depth funs : ℕ) {one : Reader Stmt} → Takes one (In_stmt depth funs) stmt_bytes →
-        Takes (t.maybe_stmt b one) (λ ts. (has_stmt ts ≡ b) × (count_stmts ts ≤ 1) × In_stmts depth funs ts) stmts_bytes
+    maybe_stmt : (b : Bool) (depth funs : ℕ) {one : Reader Stmt} → Takes one (InStmt depth funs) stmt_bytes →
+        Takes (t.maybe_stmt b one) (λ ts. (has_stmt ts ≡ b) × (count_stmts ts ≤ 1) × InStmts depth funs ts) stmts_bytes
     unfolding t.maybe_stmt stmts_bytes count_stmts has_stmt
     maybe_stmt false depth funs h at left p = return []ˢ (took (refl, omega arith, (tt, omega arith, omega arith)) (nothing p))
     maybe_stmt true depth funs h at left p =
@@ -460,9 +460,9 @@ module _ (tree : List ℕ) (bytes : Bytes tree) where
         (took (refl, omega arith, ((q.fits.0, tt), omega (arith, q.fits.1), omega (arith, q.fits.2)))
         (put_as (sym (append-nil (stmt_bytes e))) q.was)))
 
-    read_methods : (count depth funs : ℕ) {one : Reader (Span × Fun)} → Takes one (In_method depth funs) method_bytes →
+    read_methods : (count depth funs : ℕ) {one : Reader (Span × Fun)} → Takes one (InMethod depth funs) method_bytes →
         Takes (t.read_methods count one)
-        (λ ms. (count_methods ms ≡ count) × Fits_methods names ms × (methods_depth ms ≤ depth) × (methods_nesting ms ≤ funs)) methods_bytes
+        (λ ms. (count_methods ms ≡ count) × FitsMethods names ms × (methods_depth ms ≤ depth) × (methods_nesting ms ≤ funs)) methods_bytes
     unfolding t.read_methods methods_bytes count_methods
     read_methods zero depth funs h at left p = return []ᵐ (took (refl, tt, omega arith, omega arith) (nothing p))
     read_methods (suc count) depth funs h at left p =
@@ -473,8 +473,8 @@ module _ (tree : List ℕ) (bytes : Bytes tree) where
         (ap suc o.fits.0, (q.fits.0, q.fits.1, o.fits.1), omega (arith, q.fits.2, o.fits.2), omega (arith, q.fits.3, o.fits.3))
         (both q.was o.was))))
 
-    fun_fields : (inner : Reader Stmt) (depth funs : ℕ) → Takes inner (In_stmt depth funs) stmt_bytes → (fault : Refusal) →
-        Takes (t.fun_fields tree names inner fault) (In_fun depth funs) fun_bytes
+    fun_fields : (inner : Reader Stmt) (depth funs : ℕ) → Takes inner (InStmt depth funs) stmt_bytes → (fault : Refusal) →
+        Takes (t.fun_fields tree names inner fault) (InFun depth funs) fun_bytes
     unfolding t.fun_fields fun_bytes
     fun_fields inner depth funs h fault at left p =
         first (name fault at left p) (λ m i q.
@@ -489,16 +489,16 @@ module _ (tree : List ℕ) (bytes : Bytes tree) where
         (put_as (ap (le 2) (sym x.fits.0)) v.was)) x.was)))))))
 
     -- what reads the children, where `depth` records and `funs` functions more may be opened
-    record Take_children (read : t.Children) (depth funs : ℕ) : Type 0 where
-      expr : Takes read.expr (In_expr depth) expr_bytes
-      superclass : Takes read.superclass (λ sup. Fits_superclass names sup × (1 ≤ depth)) superclass_bytes
-      stmt : Takes read.stmt (In_stmt depth funs) stmt_bytes
-      inner : Takes read.inner (In_stmt depth (funs - 1)) stmt_bytes
-      one_method : Takes read.one_method (In_method depth funs) method_bytes
+    record TakeChildren (read : t.Children) (depth funs : ℕ) : Type 0 where
+      expr : Takes read.expr (InExpr depth) expr_bytes
+      superclass : Takes read.superclass (λ sup. FitsSuperclass names sup × (1 ≤ depth)) superclass_bytes
+      stmt : Takes read.stmt (InStmt depth funs) stmt_bytes
+      inner : Takes read.inner (InStmt depth (funs - 1)) stmt_bytes
+      one_method : Takes read.one_method (InMethod depth funs) method_bytes
 
-    stmt_fields : (read : t.Children) (depth funs : ℕ) → Take_children read depth funs → (fault : Refusal) (k : t.StmtMark) → T (t.may_open k funs) →
+    stmt_fields : (read : t.Children) (depth funs : ℕ) → TakeChildren read depth funs → (fault : Refusal) (k : t.StmtMark) → T (t.may_open k funs) →
         (s : Span) → Narrow s → (whole left : List ℕ) (at : ℕ) (o : Was whole (opening 0x53 (stmt_letter k) s) left at) →
-        Makes (t.stmt_fields tree names read fault k s) at (Took whole (In_stmt (suc depth) funs) stmt_bytes)
+        Makes (t.stmt_fields tree names read fault k s) at (Took whole (InStmt (suc depth) funs) stmt_bytes)
     unfolding t.stmt_fields t.block_fields t.class_fields t.expression_fields t.if_fields t.for_fields t.print_fields t.return_fields t.var_stmt_fields t.while_fields t.may_open stmt_bytes
     stmt_fields read depth funs h fault t.SB y s n whole left at o =
         first (u16 fault at left o.leaves) (λ count i p.
@@ -510,7 +510,7 @@ module _ (tree : List ℕ) (bytes : Bytes tree) where
         first (name fault at left o.leaves) (λ m i p.
         first (on (flag fault) p) (λ has_super j q.
         first (on (u16 fault) q) (λ count k u.
-        first (on (maybe has_super (Fits_superclass names) (λ _. 1) depth superclass_bytes h.superclass) u) (λ sup a v.
+        first (on (maybe has_super (FitsSuperclass names) (λ _. 1) depth superclass_bytes h.superclass) u) (λ sup a v.
         first (on (read_methods count depth funs h.one_method) v) (λ ms b x.
         return (StmtClass s m sup ms)
         (took
@@ -537,9 +537,9 @@ module _ (tree : List ℕ) (bytes : Bytes tree) where
         first (u8 fault at left o.leaves) (λ parts i p.
         checked (ltb parts 8) fault (λ small.
         first (on (maybe_stmt (eqb (parts % 2) 1) depth funs h.stmt) p) (λ a j q.
-        first (on (maybe (eqb (parts / 2 % 2) 1) (Fits_expr names) expr_depth depth expr_bytes h.expr) q) (λ c k u.
+        first (on (maybe (eqb (parts / 2 % 2) 1) (FitsExpr names) expr_depth depth expr_bytes h.expr) q) (λ c k u.
         first (on h.stmt u) (λ b l v.
-        first (on (maybe (eqb (parts / 4) 1) (Fits_expr names) expr_depth depth expr_bytes h.expr) v) (λ d m x.
+        first (on (maybe (eqb (parts / 4) 1) (FitsExpr names) expr_depth depth expr_bytes h.expr) v) (λ d m x.
         return (StmtFor s a c b d)
         (took (
           (n, q.fits.1, q.fits.2.0, u.fits.1, v.fits.0, x.fits.1),
@@ -558,14 +558,14 @@ module _ (tree : List ℕ) (bytes : Bytes tree) where
         return (StmtPrint s e) (took ((n, p.fits.0), omega (arith, p.fits.1), omega arith) (both o p.was)))
     stmt_fields read depth funs h fault t.SR y s n whole left at o =
         first (flag fault at left o.leaves) (λ has_value i p.
-        first (on (maybe has_value (Fits_expr names) expr_depth depth expr_bytes h.expr) p) (λ v j q.
+        first (on (maybe has_value (FitsExpr names) expr_depth depth expr_bytes h.expr) p) (λ v j q.
         return (StmtReturn s v)
         (took ((n, q.fits.1), omega (arith, q.fits.2), omega arith)
         (both (both o (put_as (ap (λ (b : Bool). byte (bit b)) (sym q.fits.0)) p.was)) q.was))))
     stmt_fields read depth funs h fault t.SV y s n whole left at o =
         first (name fault at left o.leaves) (λ m i p.
         first (on (flag fault) p) (λ has_value j q.
-        first (on (maybe has_value (Fits_expr names) expr_depth depth expr_bytes h.expr) q) (λ v k u.
+        first (on (maybe has_value (FitsExpr names) expr_depth depth expr_bytes h.expr) q) (λ v k u.
         return (StmtVar s m v)
         (took ((n, p.fits, u.fits.1), omega (arith, u.fits.2), omega arith)
         (both (both (both o p.was) (put_as (ap (λ (b : Bool). byte (bit b)) (sym u.fits.0)) q.was)) u.was)))))
@@ -578,7 +578,7 @@ module _ (tree : List ℕ) (bytes : Bytes tree) where
     mutual
       unfolding t.read_stmt t.stmt_mark t.stmt_record t.method_record
 
-      read_stmt : (depth funs : ℕ) → Takes (t.read_stmt tree names depth funs) (In_stmt depth funs) stmt_bytes
+      read_stmt : (depth funs : ℕ) → Takes (t.read_stmt tree names depth funs) (InStmt depth funs) stmt_bytes
       read_stmt zero funs at left p = here _ (first (marked t.stmt_marks _ stmt_rows (TreeForm at) at left p) (λ k j q. refuse _))
       read_stmt (suc depth) funs at left p =
           here _ (first (marked t.stmt_marks _ stmt_rows (TreeForm at) at left p) (λ k i q.
@@ -594,7 +594,7 @@ module _ (tree : List ℕ) (bytes : Bytes tree) where
           })
           (TreeForm at) k y s u.fits left u.after j (opened 0x53 (stmt_letter k) s q.was u.was)))))
 
-      read_method : (depth funs : ℕ) → Takes (t.read_method tree names depth funs) (In_method depth funs) method_bytes
+      read_method : (depth funs : ℕ) → Takes (t.read_method tree names depth funs) (InMethod depth funs) method_bytes
       read_method zero funs at left p = here _ (next (mark_is (TreeForm at) 0x5346 at left p) (λ _ j q. refuse _))
       read_method (suc depth) funs at left p =
           here _ (next (mark_is (TreeForm at) 0x5346 at left p) (λ _ i q.
@@ -615,7 +615,7 @@ module _ (tree : List ℕ) (bytes : Bytes tree) where
       first (on (text_bytes count fault) q) (λ bs j o.
       return (b ∷ bs) (took (ap suc o.fits.0, (q.fits, o.fits.1)) (both q.was o.was))))
 
-  read_name : (last : Option (List ℕ)) → Takes (t.read_name tree last) (λ text. Fits_text text × Above last text) name_bytes
+  read_name : (last : Option (List ℕ)) → Takes (t.read_name tree last) (λ text. FitsText text × Above last text) name_bytes
   unfolding t.read_name name_bytes
   read_name last at left p =
       here _ (next (mark_is (TreeForm at) 0x4E4D at left p) (λ _ i q.
@@ -633,7 +633,7 @@ module _ (tree : List ℕ) (bytes : Bytes tree) where
     texts : List (List ℕ)
     after : List ℕ
     count_is : length texts ≡ count
-    each : All Fits_text texts
+    each : All FitsText texts
     rising : Rising last texts
     was : Was left (join name_bytes texts) after next
 
@@ -654,14 +654,14 @@ module _ (tree : List ℕ) (bytes : Bytes tree) where
       }))
 
 -- with some names, the file is what the encoder writes for the program
-record Encoded_so (tree : List ℕ) (depth funs : ℕ) (stmts : Stmts) (next : ℕ) : Type 0 where
+record EncodedSo (tree : List ℕ) (depth funs : ℕ) (stmts : Stmts) (next : ℕ) : Type 0 where
   names : List (List ℕ)
-  fits : Fits_file depth funs names stmts
+  fits : FitsFile depth funs names stmts
   again : encode names stmts ≡ tree
   end : next ≡ length tree
 
 module _ (tree : List ℕ) (bytes : Bytes tree) where
-  read_file : (depth funs : ℕ) → Makes (t.read_file tree depth funs) 0 (Encoded_so tree depth funs)
+  read_file : (depth funs : ℕ) → Makes (t.read_file tree depth funs) 0 (EncodedSo tree depth funs)
   unfolding t.read_file encode
   read_file depth funs =
       next (mark_is tree bytes (TreeForm 0) 0x5452 0 tree (record { passed = []; all_of = refl; place = refl })) (λ _ i p.
@@ -680,7 +680,7 @@ module _ (tree : List ℕ) (bytes : Bytes tree) where
               each_name = u.each;
               rising = u.rising;
               count = omega (arith, o.fits, v.fits.0);
-              each_stmt = subst⁻¹ (λ (names : ℕ). Fits_stmts names ts) u.count_is v.fits.1.0;
+              each_stmt = subst⁻¹ (λ (names : ℕ). FitsStmts names ts) u.count_is v.fits.1.0;
               within_depth = v.fits.1.1;
               within_funs = v.fits.1.2;
             };
@@ -707,7 +707,7 @@ module _ (tree : List ℕ) (bytes : Bytes tree) where
 
 -- the file is what the encoder writes for the program and the names that stand in the file; these fit, and are within the limits
 pub record Encoded (tree : List ℕ) (depth funs : ℕ) (stmts : Stmts) (next : ℕ) : Type 0 where
-  pub fits : Fits_file depth funs (names_of tree) stmts
+  pub fits : FitsFile depth funs (names_of tree) stmts
   pub again : encode (names_of tree) stmts ≡ tree
   pub end : next ≡ length tree
 
@@ -719,7 +719,7 @@ encoded_again tree bytes depth funs stmts next e =
     let h = (read_file tree bytes depth funs).run stmts next e in
     let z : names_of tree ≡ h.names = ap names_of (sym h.again) ∙ names_of_encoded depth funs h.names stmts h.fits in
     record {
-      fits = subst⁻¹ (λ (names : List (List ℕ)). Fits_file depth funs names stmts) z h.fits;
+      fits = subst⁻¹ (λ (names : List (List ℕ)). FitsFile depth funs names stmts) z h.fits;
       again = ap (λ (names : List (List ℕ)). encode names stmts) z ∙ h.again;
       end = h.end;
     }
@@ -737,8 +737,8 @@ accepted_exactly tree bytes depth funs stmts next = (encoded_again tree bytes de
 -- ## What an encoding says
 
 -- what fits under some limits fits under others that it is within
-other_limits : (depth funs more-depth more-funs : ℕ) (names : List (List ℕ)) (stmts : Stmts) → Fits_file depth funs names stmts →
-    record_depth stmts ≤ more-depth → nested_funs stmts ≤ more-funs → Fits_file more-depth more-funs names stmts
+other_limits : (depth funs more-depth more-funs : ℕ) (names : List (List ℕ)) (stmts : Stmts) → FitsFile depth funs names stmts →
+    record_depth stmts ≤ more-depth → nested_funs stmts ≤ more-funs → FitsFile more-depth more-funs names stmts
 other_limits depth funs more-depth more-funs names stmts h l g =
     record {
       few_names = h.few_names;
@@ -751,8 +751,8 @@ other_limits depth funs more-depth more-funs names stmts h l g =
     }
 
 -- no file says two things
-pub one_meaning : (depth funs : ℕ) (names other-names : List (List ℕ)) (stmts other-stmts : Stmts) → Fits_file depth funs names stmts →
-    Fits_file depth funs other-names other-stmts → encode names stmts ≡ encode other-names other-stmts → (names ≡ other-names) × (stmts ≡ other-stmts)
+pub one_meaning : (depth funs : ℕ) (names other-names : List (List ℕ)) (stmts other-stmts : Stmts) → FitsFile depth funs names stmts →
+    FitsFile depth funs other-names other-stmts → encode names stmts ≡ encode other-names other-stmts → (names ≡ other-names) × (stmts ≡ other-stmts)
 one_meaning depth funs names other-names stmts other-stmts h k e = (same_names, same_stmts)
   where
     same_names : names ≡ other-names

@@ -16,7 +16,7 @@ use Rattle.rules.specs.TreeFile.{fixed_names}
 use Rattle.rules.specs.TreeEncode.{count_stmts, count_methods}
 use Rattle.rules_laws.proofs.Facts.{All, Bytes}
 use Rattle.rules_laws.proofs.ReadBack.{Narrow}
-use Rattle.rules_laws.proofs.Trees.{If_some, option_size}
+use Rattle.rules_laws.proofs.Trees.{IfSome, option_size}
 
 -- ## How many records stand in one another, a statement of the file being 1
 
@@ -102,65 +102,65 @@ module _ (names : ℕ) where
   abbrev pub Known : ℕ → Type 0
   Known n = n < 4 + names
 
-  abbrev pub Fits_literal : ExprLiteral → Type 0
-  Fits_literal (LitBool b) = Unit {0}
-  Fits_literal LitNil = Unit {0}
-  Fits_literal (LitNumber bits) = bits ≤ max_bits
-  Fits_literal (LitString name) = Known name
+  abbrev pub FitsLiteral : ExprLiteral → Type 0
+  FitsLiteral (LitBool b) = Unit {0}
+  FitsLiteral LitNil = Unit {0}
+  FitsLiteral (LitNumber bits) = bits ≤ max_bits
+  FitsLiteral (LitString name) = Known name
 
   abbrev mutual
-    pub Fits_expr : Expr → Type 0
-    Fits_expr (ExprAssign s name value) = Narrow s × Known name × Fits_expr value
-    Fits_expr (ExprCall s callee args) = Narrow s × Count (count_exprs args) × Fits_expr callee × Fits_exprs args
-    Fits_expr (ExprGet s name object) = Narrow s × Known name × Fits_expr object
-    Fits_expr (ExprInfix s op lt rt) = Narrow s × Fits_expr lt × Fits_expr rt
-    Fits_expr (Literal s literal) = Narrow s × Fits_literal literal
-    Fits_expr (ExprPrefix s op rt) = Narrow s × Fits_expr rt
-    Fits_expr (ExprSet s name value object) = Narrow s × Known name × Fits_expr value × Fits_expr object
-    Fits_expr (ExprSuper s name) = Narrow s × Known name
-    Fits_expr (ExprVar s name) = Narrow s × Known name
+    pub FitsExpr : Expr → Type 0
+    FitsExpr (ExprAssign s name value) = Narrow s × Known name × FitsExpr value
+    FitsExpr (ExprCall s callee args) = Narrow s × Count (count_exprs args) × FitsExpr callee × FitsExprs args
+    FitsExpr (ExprGet s name object) = Narrow s × Known name × FitsExpr object
+    FitsExpr (ExprInfix s op lt rt) = Narrow s × FitsExpr lt × FitsExpr rt
+    FitsExpr (Literal s literal) = Narrow s × FitsLiteral literal
+    FitsExpr (ExprPrefix s op rt) = Narrow s × FitsExpr rt
+    FitsExpr (ExprSet s name value object) = Narrow s × Known name × FitsExpr value × FitsExpr object
+    FitsExpr (ExprSuper s name) = Narrow s × Known name
+    FitsExpr (ExprVar s name) = Narrow s × Known name
 
-    pub Fits_exprs : Exprs → Type 0
-    Fits_exprs []ᵉ = Unit {0}
-    Fits_exprs (e ∷ᵉ es) = Fits_expr e × Fits_exprs es
+    pub FitsExprs : Exprs → Type 0
+    FitsExprs []ᵉ = Unit {0}
+    FitsExprs (e ∷ᵉ es) = FitsExpr e × FitsExprs es
 
-  pub record Fits_superclass (sup : Superclass) : Type 0 where
+  pub record FitsSuperclass (sup : Superclass) : Type 0 where
     pub span : Narrow sup.span
     pub name : Known sup.name
 
   -- the statement before a `for` and the one after an `else` are none or one
   abbrev mutual
-    pub Fits_stmt : Stmt → Type 0
-    Fits_stmt (StmtBlock s stmts) = Narrow s × Count (count_stmts stmts) × Fits_stmts stmts
-    Fits_stmt (StmtClass s name sup methods) =
-        Narrow s × Known name × Count (count_methods methods) × If_some Fits_superclass sup × Fits_methods methods
-    Fits_stmt (StmtExpr s value) = Narrow s × Fits_expr value
-    Fits_stmt (StmtFor s init cond body incr) =
-        Narrow s × (count_stmts init ≤ 1) × Fits_stmts init × If_some Fits_expr cond × Fits_stmt body × If_some Fits_expr incr
-    Fits_stmt (StmtFun s f) = Narrow s × Fits_fun f
-    Fits_stmt (StmtIf s cond yes_part no_part) =
-        Narrow s × (count_stmts no_part ≤ 1) × Fits_expr cond × Fits_stmt yes_part × Fits_stmts no_part
-    Fits_stmt (StmtPrint s value) = Narrow s × Fits_expr value
-    Fits_stmt (StmtReturn s value) = Narrow s × If_some Fits_expr value
-    Fits_stmt (StmtVar s name value) = Narrow s × Known name × If_some Fits_expr value
-    Fits_stmt (StmtWhile s cond body) = Narrow s × Fits_expr cond × Fits_stmt body
+    pub FitsStmt : Stmt → Type 0
+    FitsStmt (StmtBlock s stmts) = Narrow s × Count (count_stmts stmts) × FitsStmts stmts
+    FitsStmt (StmtClass s name sup methods) =
+        Narrow s × Known name × Count (count_methods methods) × IfSome FitsSuperclass sup × FitsMethods methods
+    FitsStmt (StmtExpr s value) = Narrow s × FitsExpr value
+    FitsStmt (StmtFor s init cond body incr) =
+        Narrow s × (count_stmts init ≤ 1) × FitsStmts init × IfSome FitsExpr cond × FitsStmt body × IfSome FitsExpr incr
+    FitsStmt (StmtFun s f) = Narrow s × FitsFun f
+    FitsStmt (StmtIf s cond yes_part no_part) =
+        Narrow s × (count_stmts no_part ≤ 1) × FitsExpr cond × FitsStmt yes_part × FitsStmts no_part
+    FitsStmt (StmtPrint s value) = Narrow s × FitsExpr value
+    FitsStmt (StmtReturn s value) = Narrow s × IfSome FitsExpr value
+    FitsStmt (StmtVar s name value) = Narrow s × Known name × IfSome FitsExpr value
+    FitsStmt (StmtWhile s cond body) = Narrow s × FitsExpr cond × FitsStmt body
 
-    pub Fits_stmts : Stmts → Type 0
-    Fits_stmts []ˢ = Unit {0}
-    Fits_stmts (t ∷ˢ ts) = Fits_stmt t × Fits_stmts ts
+    pub FitsStmts : Stmts → Type 0
+    FitsStmts []ˢ = Unit {0}
+    FitsStmts (t ∷ˢ ts) = FitsStmt t × FitsStmts ts
 
-    pub Fits_fun : Fun → Type 0
-    Fits_fun (fun name params body) =
-        Known name × Count (length params) × All Known params × Count (count_stmts body) × Fits_stmts body
+    pub FitsFun : Fun → Type 0
+    FitsFun (fun name params body) =
+        Known name × Count (length params) × All Known params × Count (count_stmts body) × FitsStmts body
 
-    pub Fits_methods : Methods → Type 0
-    Fits_methods []ᵐ = Unit {0}
-    Fits_methods (method s f methods) = Narrow s × Fits_fun f × Fits_methods methods
+    pub FitsMethods : Methods → Type 0
+    FitsMethods []ᵐ = Unit {0}
+    FitsMethods (method s f methods) = Narrow s × FitsFun f × FitsMethods methods
 
 -- ## Names, and the whole
 
 -- a text: bytes, no more than two bytes can count, and none of the fixed names
-pub record Fits_text (text : List ℕ) : Type 0 where
+pub record FitsText (text : List ℕ) : Type 0 where
   pub size : Count (length text)
   pub bytes : Bytes text
   pub own : All (λ (fixed : List ℕ). text ≢ fixed) fixed_names
@@ -175,11 +175,11 @@ Rising last [] = Unit {0}
 Rising last (text ∷ texts) = Above last text × Rising (some text) texts
 
 -- what a file can say whose records stand at most `depth` deep, and whose `SF` records at most `funs`
-pub record Fits_file (depth funs : ℕ) (names : List (List ℕ)) (stmts : Stmts) : Type 0 where
+pub record FitsFile (depth funs : ℕ) (names : List (List ℕ)) (stmts : Stmts) : Type 0 where
   pub few_names : length names ≤ max_names
-  pub each_name : All Fits_text names
+  pub each_name : All FitsText names
   pub rising : Rising none names
   pub count : Count (count_stmts stmts)
-  pub each_stmt : Fits_stmts (length names) stmts
+  pub each_stmt : FitsStmts (length names) stmts
   pub within_depth : record_depth stmts ≤ depth
   pub within_funs : nested_funs stmts ≤ funs

@@ -432,14 +432,14 @@ module _ (tree : List ℕ) (depth funs names : ℕ) where
       field _ _ (plain_u16 tree place) (λ count. children _ (last _ (read_stmts count h))))))
 
   -- what reads the children of a record in `around` functions, itself not counted; `free` functions more may be opened
-  record Agree_children (read : t.Children) (deep around free : ℕ) : Type 0 where
+  record AgreeChildren (read : t.Children) (deep around free : ℕ) : Type 0 where
     expr : Agrees deep around read.expr (recs.expr ∷ [])
     superclass : Agrees deep around read.superclass (recs.superclass ∷ [])
     stmt : Agrees deep around read.stmt (recs.stmt ∷ [])
     inner : 0 < free → Agrees deep (suc around) read.inner (recs.stmt ∷ [])
     one_method : Agrees deep around read.one_method (recs.method ∷ [])
 
-  stmt_fields : {rest : List Task} (read : t.Children) (deep around free : ℕ) → Agree_children read deep around free → (place : ℕ) (k : t.StmtMark) →
+  stmt_fields : {rest : List Task} (read : t.Children) (deep around free : ℕ) → AgreeChildren read deep around free → (place : ℕ) (k : t.StmtMark) →
       T (t.may_open k free) → (s : Span) →
       Follows rest (Inside deep (nesting (a_stmt k) around) rest) (t.stmt_fields tree names read (TreeForm place) k s)
       (recs.stmt_children tree names (TreeForm place) k)

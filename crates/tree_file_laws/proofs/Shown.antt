@@ -23,7 +23,7 @@ P12 =
     StmtFun (from_to 0 34)
     (fun 4 (6 ∷ []) (StmtFun (from_to 11 32) (fun 5 [] (StmtReturn (from_to 21 30) (some (ExprVar (from_to 28 29) 6)) ∷ˢ []ˢ)) ∷ˢ []ˢ)) ∷ˢ []ˢ
 
-pub record P12_shown : Type 0 where
+pub record P12Shown : Type 0 where
   pub is_read : t.read_tree P12_tree 4 2 ≡ got P12 78
   pub depth : record_depth P12 ≡ 4
   pub nesting : nested_funs P12 ≡ 2
@@ -36,7 +36,7 @@ pub record P12_shown : Type 0 where
   pub too_deep : first_passing 1 1 (opened P12_tree) ≡ some (at_place 39 2 2)
   pub too_many : first_passing 3 1 (opened P12_tree) ≡ some (at_place 39 2 2)
 
-pub P12_so : P12_shown
+pub P12_so : P12Shown
 unfolding hex computes.tree_file n.names_of n.texts_of n.read_texts n.read_text
 P12_so =
     record {

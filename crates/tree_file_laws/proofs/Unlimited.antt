@@ -132,14 +132,14 @@ module _ (tree : List ℕ) (names : ℕ) where
   fun_fields h place =
       field _ _ _ (λ n. field _ _ _ (λ arity. field _ _ _ (λ ns. field _ _ _ (λ count. first _ _ (read_stmts count h) (λ body. itself _)))))
 
-  record Same_children (few more : t.Children) : Type 0 where
+  record SameChildren (few more : t.Children) : Type 0 where
     expr : Same few.expr more.expr
     superclass : Same few.superclass more.superclass
     stmt : Same few.stmt more.stmt
     inner : Same few.inner more.inner
     one_method : Same few.one_method more.one_method
 
-  stmt_fields : (few more : t.Children) → Same_children few more → (place : ℕ) (k : t.StmtMark) (s : Span) →
+  stmt_fields : (few more : t.Children) → SameChildren few more → (place : ℕ) (k : t.StmtMark) (s : Span) →
       Same (t.stmt_fields tree names few (TreeForm place) k s) (t.stmt_fields tree names more (TreeForm place) k s)
   unfolding t.stmt_fields t.block_fields t.class_fields t.expression_fields t.if_fields t.for_fields t.print_fields t.return_fields t.var_stmt_fields t.while_fields
   stmt_fields few more h place t.SB s = field _ _ _ (λ count. first _ _ (read_stmts count h.stmt) (λ ts. itself _))

@@ -27,10 +27,10 @@ use Rattle.rules.specs.TreeEncode.{opening, bit, has, has_stmt, count_stmts, cou
 use Rattle.rules.specs.TreeEncode.{stmt_bytes, stmts_bytes, fun_bytes, methods_bytes, name_bytes, encode}
 use Rattle.rules_laws.proofs.Facts.{All, all_map}
 use Rattle.rules_laws.proofs.ReadBack.{Narrow, Reads, Comes, first, ◌⟫◌, return, need, here, byte, mark, mark_is, u16, u64, span, many}
-use Rattle.rules_laws.proofs.Trees.{If_some, option_size}
+use Rattle.rules_laws.proofs.Trees.{IfSome, option_size}
 use Rattle.rules.proofs.Computes as computes
-use Rattle.tree_file_laws.proofs.Fits.{Count, Known, Fits_literal, Fits_expr, Fits_exprs, Fits_superclass, Fits_stmt, Fits_stmts, Fits_fun, Fits_methods}
-use Rattle.tree_file_laws.proofs.Fits.{Fits_text, Above, Rising, Fits_file}
+use Rattle.tree_file_laws.proofs.Fits.{Count, Known, FitsLiteral, FitsExpr, FitsExprs, FitsSuperclass, FitsStmt, FitsStmts, FitsFun, FitsMethods}
+use Rattle.tree_file_laws.proofs.Fits.{FitsText, Above, Rising, FitsFile}
 use Rattle.tree_file_laws.proofs.Fits.{expr_depth, exprs_depth, stmt_depth, record_depth, fun_depth, methods_depth}
 use Rattle.tree_file_laws.proofs.Fits.{stmt_nesting, nested_funs, fun_nesting, methods_nesting}
 use Rattle.tree_file_laws.proofs.Names.{read_text, read_texts, texts_of, names_of}
@@ -67,13 +67,13 @@ prefix_of Not = refl
 abbrev for_byte : (init cond incr : Bool) → ℕ
 for_byte init cond incr = bit init + 2 * bit cond + 4 * bit incr
 
-record For_bits (init cond incr : Bool) (parts : ℕ) : Type 0 where
+record ForBits (init cond incr : Bool) (parts : ℕ) : Type 0 where
   small : T (ltb parts 8)
   first_bit : eqb (parts % 2) 1 ≡ init
   second_bit : eqb (parts / 2 % 2) 1 ≡ cond
   third_bit : eqb (parts / 4) 1 ≡ incr
 
-for_bits : (init cond incr : Bool) → For_bits init cond incr (for_byte init cond incr)
+for_bits : (init cond incr : Bool) → ForBits init cond incr (for_byte init cond incr)
 unfolding bit
 for_bits false false false = record { small = tt; first_bit = refl; second_bit = refl; third_bit = refl }
 for_bits false false true = record { small = tt; first_bit = refl; second_bit = refl; third_bit = refl }
@@ -118,7 +118,7 @@ module _ (tree : List ℕ) where
 
   -- ## Children that may be left out
 
-  maybe : {A : Type 0} (one : Reader A) (f : A → List ℕ) (v : Option A) (b : Bool) → b ≡ has v → If_some (λ (a : A). Back one (f a) a) v →
+  maybe : {A : Type 0} (one : Reader A) (f : A → List ℕ) (v : Option A) (b : Bool) → b ≡ has v → IfSome (λ (a : A). Back one (f a) a) v →
       Back (t.maybe b one) (if_some f v) v
   unfolding t.maybe has if_some
   maybe one f none b e h xs = rw e (return tree none)
@@ -135,7 +135,7 @@ module _ (tree : List ℕ) where
 
     -- ## Expressions
 
-    literal : (fault : Refusal) (s : Span) (v : ExprLiteral) → Fits_literal names v →
+    literal : (fault : Refusal) (s : Span) (v : ExprLiteral) → FitsLiteral names v →
         Back (t.literal_fields tree names fault s) (w.literal_bytes v) (Literal s v)
     unfolding t.literal_fields t.literal_of w.literal_bytes computes.tree_file
     literal fault s (LitBool false) h xs =
@@ -170,7 +170,7 @@ module _ (tree : List ℕ) where
     mutual
       unfolding t.read_exprs exprs_bytes expr_bytes computes.tree_file
 
-      expr : (e : Expr) (depth : ℕ) → Fits_expr names e → expr_depth e ≤ depth → Back (t.read_expr tree names depth) (expr_bytes e) e
+      expr : (e : Expr) (depth : ℕ) → FitsExpr names e → expr_depth e ≤ depth → Back (t.read_expr tree names depth) (expr_bytes e) e
       expr (ExprAssign s n value) depth h l xs =
           simp append_assoc
           (expr_record depth (omega arith) t.EA 0x45 0x41 refl s h.0 _ _ xs
@@ -211,20 +211,20 @@ module _ (tree : List ℕ) where
           simp append_assoc
           (expr_record depth (omega arith) t.EV 0x45 0x56 refl s h.0 _ _ xs (λ fault. first tree _ (name fault n h.1 xs) (return tree _)))
 
-      exprs : (es : Exprs) (depth : ℕ) → Fits_exprs names es → exprs_depth es ≤ depth →
+      exprs : (es : Exprs) (depth : ℕ) → FitsExprs names es → exprs_depth es ≤ depth →
           Back (t.read_exprs (count_exprs es) (t.read_expr tree names depth)) (exprs_bytes es) es
       exprs []ᵉ depth h l xs = return tree []ᵉ
       exprs (e ∷ᵉ es) depth h l xs =
           simp append_assoc (first tree _ (expr e depth h.0 (omega arith) _) (first tree _ (exprs es depth h.1 (omega arith) xs) (return tree _)))
 
-    option_expr : (v : Option Expr) (b : Bool) → b ≡ has v → (depth : ℕ) → If_some (Fits_expr names) v → option_size expr_depth v ≤ depth →
+    option_expr : (v : Option Expr) (b : Bool) → b ≡ has v → (depth : ℕ) → IfSome (FitsExpr names) v → option_size expr_depth v ≤ depth →
         Back (t.maybe b (t.read_expr tree names depth)) (if_some expr_bytes v) v
     option_expr none b e depth h l = maybe (t.read_expr tree names depth) expr_bytes none b e tt
     option_expr (some a) b e depth h l = maybe (t.read_expr tree names depth) expr_bytes (some a) b e (expr a depth h l)
 
     -- ## Statements
 
-    superclass : (sup : Superclass) (depth : ℕ) → Fits_superclass names sup → 0 < depth →
+    superclass : (sup : Superclass) (depth : ℕ) → FitsSuperclass names sup → 0 < depth →
         Back (t.read_superclass tree names depth) (superclass_bytes sup) sup
     unfolding t.read_superclass superclass_bytes opening
     superclass sup zero h l xs = absurd (omega arith)
@@ -233,7 +233,7 @@ module _ (tree : List ℕ) where
         (here tree (λ at _. ◌⟫◌ tree (mark_is tree (TreeForm at) 0x45 0x56 _)
         (first tree _ (span tree (TreeForm at) sup.span _ h.span) (first tree _ (name (TreeForm at) sup.name h.name xs) (return tree _)))))
 
-    option_superclass : (v : Option Superclass) (depth : ℕ) → If_some (Fits_superclass names) v → option_size (λ _. 1) v ≤ depth →
+    option_superclass : (v : Option Superclass) (depth : ℕ) → IfSome (FitsSuperclass names) v → option_size (λ _. 1) v ≤ depth →
         Back (t.maybe (has v) (t.read_superclass tree names depth)) (if_some superclass_bytes v) v
     option_superclass none depth h l = maybe (t.read_superclass tree names depth) superclass_bytes none (has none) refl tt
     option_superclass (some sup) depth h l = maybe (t.read_superclass tree names depth) superclass_bytes (some sup) (has (some sup)) refl (superclass sup depth h l)
@@ -279,29 +279,29 @@ module _ (tree : List ℕ) where
     abbrev Child : (depth funs : ℕ) → Stmt → Type 0
     Child depth funs e = Back (t.read_stmt tree names depth funs) (stmt_bytes e) e
 
-    abbrev Children_of : (depth funs : ℕ) → Stmts → Type 0
-    Children_of depth funs ts = Back (t.read_stmts (count_stmts ts) (t.read_stmt tree names depth funs)) (stmts_bytes ts) ts
+    abbrev ChildrenOf : (depth funs : ℕ) → Stmts → Type 0
+    ChildrenOf depth funs ts = Back (t.read_stmts (count_stmts ts) (t.read_stmt tree names depth funs)) (stmts_bytes ts) ts
 
     -- where at most one statement stands, by a test `b`
-    abbrev Child_or_none : (depth funs : ℕ) → Stmts → Type 0
-    Child_or_none depth funs ts = (b : Bool) → b ≡ has_stmt ts → Back (t.maybe_stmt b (t.read_stmt tree names depth funs)) (stmts_bytes ts) ts
+    abbrev ChildOrNone : (depth funs : ℕ) → Stmts → Type 0
+    ChildOrNone depth funs ts = (b : Bool) → b ≡ has_stmt ts → Back (t.maybe_stmt b (t.read_stmt tree names depth funs)) (stmts_bytes ts) ts
 
     abbrev Function : (depth funs : ℕ) → Fun → Type 0
     Function depth funs f = (fault : Refusal) → Back (t.fun_fields tree names (t.read_stmt tree names depth funs) fault) (fun_bytes f) f
 
-    abbrev Methods_of : (depth funs : ℕ) → Methods → Type 0
-    Methods_of depth funs ms = Back (t.read_methods (count_methods ms) (t.read_method tree names depth funs)) (methods_bytes ms) ms
+    abbrev MethodsOf : (depth funs : ℕ) → Methods → Type 0
+    MethodsOf depth funs ms = Back (t.read_methods (count_methods ms) (t.read_method tree names depth funs)) (methods_bytes ms) ms
 
     module _ (depth funs : ℕ) (may : 0 < depth) (s : Span) (n : Narrow s) where
-      block : (ts : Stmts) → Count (count_stmts ts) → Children_of (depth - 1) funs ts → Child depth funs (StmtBlock s ts)
+      block : (ts : Stmts) → Count (count_stmts ts) → ChildrenOf (depth - 1) funs ts → Child depth funs (StmtBlock s ts)
       unfolding stmt_bytes computes.tree_file
       block ts c h xs =
           simp append_assoc
           (stmt_record depth funs may t.SB tt 0x53 0x42 refl s n _ _ xs
           (λ fault. first tree _ (u16 tree fault (count_stmts ts) _ c) (first tree _ (h xs) (return tree _))))
 
-      class : (m : ℕ) (sup : Option Superclass) (ms : Methods) → Known names m → Count (count_methods ms) → If_some (Fits_superclass names) sup →
-          option_size (λ _. 1) sup ≤ depth - 1 → Methods_of (depth - 1) funs ms → Child depth funs (StmtClass s m sup ms)
+      class : (m : ℕ) (sup : Option Superclass) (ms : Methods) → Known names m → Count (count_methods ms) → IfSome (FitsSuperclass names) sup →
+          option_size (λ _. 1) sup ≤ depth - 1 → MethodsOf (depth - 1) funs ms → Child depth funs (StmtClass s m sup ms)
       unfolding stmt_bytes computes.tree_file
       class m sup ms k c p l h xs =
           simp append_assoc
@@ -311,16 +311,16 @@ module _ (tree : List ℕ) where
           (first tree _ (u16 tree fault (count_methods ms) _ c)
           (first tree _ (option_superclass sup (depth - 1) p l _) (first tree _ (h xs) (return tree _)))))))
 
-      expression : (e : Expr) → Fits_expr names e → expr_depth e ≤ depth - 1 → Child depth funs (StmtExpr s e)
+      expression : (e : Expr) → FitsExpr names e → expr_depth e ≤ depth - 1 → Child depth funs (StmtExpr s e)
       unfolding stmt_bytes computes.tree_file
       expression e h l xs =
           simp append_assoc
           (stmt_record depth funs may t.SE tt 0x53 0x45 refl s n _ _ xs
           (λ fault. first tree _ (expr e (depth - 1) h l xs) (return tree _)))
 
-      for : (init : Stmts) (cond : Option Expr) (body : Stmt) (incr : Option Expr) → Child_or_none (depth - 1) funs init →
-          If_some (Fits_expr names) cond → option_size expr_depth cond ≤ depth - 1 → Child (depth - 1) funs body →
-          If_some (Fits_expr names) incr → option_size expr_depth incr ≤ depth - 1 → Child depth funs (StmtFor s init cond body incr)
+      for : (init : Stmts) (cond : Option Expr) (body : Stmt) (incr : Option Expr) → ChildOrNone (depth - 1) funs init →
+          IfSome (FitsExpr names) cond → option_size expr_depth cond ≤ depth - 1 → Child (depth - 1) funs body →
+          IfSome (FitsExpr names) incr → option_size expr_depth incr ≤ depth - 1 → Child depth funs (StmtFor s init cond body incr)
       unfolding stmt_bytes computes.tree_file
       for init cond body incr h c l k i m xs =
           simp append_assoc
@@ -339,8 +339,8 @@ module _ (tree : List ℕ) where
           simp append_assoc
           (stmt_record depth funs may t.SF (lt→ltb 0 funs l) 0x53 0x46 refl s n _ _ xs (λ fault. first tree _ (h fault xs) (return tree _)))
 
-      choice : (cond : Expr) (yes_part : Stmt) (no_part : Stmts) → Fits_expr names cond → expr_depth cond ≤ depth - 1 →
-          Child (depth - 1) funs yes_part → Child_or_none (depth - 1) funs no_part → Child depth funs (StmtIf s cond yes_part no_part)
+      choice : (cond : Expr) (yes_part : Stmt) (no_part : Stmts) → FitsExpr names cond → expr_depth cond ≤ depth - 1 →
+          Child (depth - 1) funs yes_part → ChildOrNone (depth - 1) funs no_part → Child depth funs (StmtIf s cond yes_part no_part)
       unfolding stmt_bytes computes.tree_file
       choice cond yes_part no_part c l h k xs =
           simp append_assoc
@@ -349,21 +349,21 @@ module _ (tree : List ℕ) where
           (first tree _ (expr cond (depth - 1) c l _)
           (first tree _ (h _) (first tree _ (k (has_stmt no_part) refl xs) (return tree _))))))
 
-      print : (e : Expr) → Fits_expr names e → expr_depth e ≤ depth - 1 → Child depth funs (StmtPrint s e)
+      print : (e : Expr) → FitsExpr names e → expr_depth e ≤ depth - 1 → Child depth funs (StmtPrint s e)
       unfolding stmt_bytes computes.tree_file
       print e h l xs =
           simp append_assoc
           (stmt_record depth funs may t.SP tt 0x53 0x50 refl s n _ _ xs
           (λ fault. first tree _ (expr e (depth - 1) h l xs) (return tree _)))
 
-      return_stmt : (v : Option Expr) → If_some (Fits_expr names) v → option_size expr_depth v ≤ depth - 1 → Child depth funs (StmtReturn s v)
+      return_stmt : (v : Option Expr) → IfSome (FitsExpr names) v → option_size expr_depth v ≤ depth - 1 → Child depth funs (StmtReturn s v)
       unfolding stmt_bytes computes.tree_file
       return_stmt v h l xs =
           simp append_assoc
           (stmt_record depth funs may t.SR tt 0x53 0x52 refl s n _ _ xs
           (λ fault. first tree _ (flag fault (has v) _) (first tree _ (option_expr v (has v) refl (depth - 1) h l xs) (return tree _))))
 
-      variable : (m : ℕ) (v : Option Expr) → Known names m → If_some (Fits_expr names) v → option_size expr_depth v ≤ depth - 1 →
+      variable : (m : ℕ) (v : Option Expr) → Known names m → IfSome (FitsExpr names) v → option_size expr_depth v ≤ depth - 1 →
           Child depth funs (StmtVar s m v)
       unfolding stmt_bytes computes.tree_file
       variable m v k h l xs =
@@ -372,7 +372,7 @@ module _ (tree : List ℕ) where
           (λ fault. first tree _ (name fault m k _)
           (first tree _ (flag fault (has v) _) (first tree _ (option_expr v (has v) refl (depth - 1) h l xs) (return tree _)))))
 
-      while : (cond : Expr) (body : Stmt) → Fits_expr names cond → expr_depth cond ≤ depth - 1 → Child (depth - 1) funs body →
+      while : (cond : Expr) (body : Stmt) → FitsExpr names cond → expr_depth cond ≤ depth - 1 → Child (depth - 1) funs body →
           Child depth funs (StmtWhile s cond body)
       unfolding stmt_bytes computes.tree_file
       while cond body c l h xs =
@@ -380,15 +380,15 @@ module _ (tree : List ℕ) where
           (stmt_record depth funs may t.SW tt 0x53 0x57 refl s n _ _ xs
           (λ fault. first tree _ (expr cond (depth - 1) c l _) (first tree _ (h xs) (return tree _))))
 
-      one_more_method : (f : Fun) (ms : Methods) → 0 < funs → Function (depth - 1) (funs - 1) f → Methods_of depth funs ms →
-          Methods_of depth funs (method s f ms)
+      one_more_method : (f : Fun) (ms : Methods) → 0 < funs → Function (depth - 1) (funs - 1) f → MethodsOf depth funs ms →
+          MethodsOf depth funs (method s f ms)
       unfolding t.read_methods methods_bytes count_methods
       one_more_method f ms l h k xs =
           simp append_assoc
           (first tree _ (method_record depth funs may l s n f _ _ (λ fault. h fault _)) (first tree _ (k xs) (return tree _)))
 
     function_of : (depth funs : ℕ) (m : ℕ) (ps : List ℕ) (body : Stmts) → Known names m → Count (length ps) → All (Known names) ps →
-        Count (count_stmts body) → Children_of depth funs body → Function depth funs (fun m ps body)
+        Count (count_stmts body) → ChildrenOf depth funs body → Function depth funs (fun m ps body)
     unfolding t.fun_fields fun_bytes
     function_of depth funs m ps body k c p d h fault xs =
         simp append_assoc
@@ -396,30 +396,30 @@ module _ (tree : List ℕ) where
         (first tree _ (u16 tree fault (length ps) _ c)
         (first tree _ (params fault ps p _) (first tree _ (u16 tree fault (count_stmts body) _ d) (first tree _ (h xs) (return tree _))))))
 
-    one_more : (depth funs : ℕ) (e : Stmt) (ts : Stmts) → Child depth funs e → Children_of depth funs ts → Children_of depth funs (e ∷ˢ ts)
+    one_more : (depth funs : ℕ) (e : Stmt) (ts : Stmts) → Child depth funs e → ChildrenOf depth funs ts → ChildrenOf depth funs (e ∷ˢ ts)
     unfolding t.read_stmts stmts_bytes count_stmts
     one_more depth funs e ts h k xs = simp append_assoc (first tree _ (h _) (first tree _ (k xs) (return tree _)))
 
-    just_one : (depth funs : ℕ) (e : Stmt) → Child depth funs e → Child_or_none depth funs (e ∷ˢ []ˢ)
+    just_one : (depth funs : ℕ) (e : Stmt) → Child depth funs e → ChildOrNone depth funs (e ∷ˢ []ˢ)
     unfolding t.maybe_stmt stmts_bytes has_stmt
     just_one depth funs e h b z xs = rw z (simp append_assoc (first tree _ (h xs) (return tree _)))
 
-    no_stmt : (depth funs : ℕ) → Child_or_none depth funs []ˢ
+    no_stmt : (depth funs : ℕ) → ChildOrNone depth funs []ˢ
     unfolding t.maybe_stmt stmts_bytes has_stmt
     no_stmt depth funs b z xs = rw z (return tree []ˢ)
 
-    no_more : (depth funs : ℕ) → Children_of depth funs []ˢ
+    no_more : (depth funs : ℕ) → ChildrenOf depth funs []ˢ
     unfolding t.read_stmts stmts_bytes count_stmts
     no_more depth funs xs = return tree []ˢ
 
-    no_method : (depth funs : ℕ) → Methods_of depth funs []ᵐ
+    no_method : (depth funs : ℕ) → MethodsOf depth funs []ᵐ
     unfolding t.read_methods methods_bytes count_methods
     no_method depth funs xs = return tree []ᵐ
 
     mutual
       unfolding count_stmts
 
-      stmt : (e : Stmt) (depth funs : ℕ) → Fits_stmt names e → stmt_depth e ≤ depth → stmt_nesting e ≤ funs → Child depth funs e
+      stmt : (e : Stmt) (depth funs : ℕ) → FitsStmt names e → stmt_depth e ≤ depth → stmt_nesting e ≤ funs → Child depth funs e
       stmt (StmtBlock s ts) depth funs h l g =
           block depth funs (omega arith) s h.0 ts h.1 (stmts ts (depth - 1) funs h.2 (omega arith) g)
       stmt (StmtClass s n sup ms) depth funs h l g =
@@ -440,23 +440,23 @@ module _ (tree : List ℕ) where
       stmt (StmtWhile s cond body) depth funs h l g =
           while depth funs (omega arith) s h.0 cond body h.1 (omega arith) (stmt body (depth - 1) funs h.2 (omega arith) g)
 
-      stmts : (ts : Stmts) (depth funs : ℕ) → Fits_stmts names ts → record_depth ts ≤ depth → nested_funs ts ≤ funs → Children_of depth funs ts
+      stmts : (ts : Stmts) (depth funs : ℕ) → FitsStmts names ts → record_depth ts ≤ depth → nested_funs ts ≤ funs → ChildrenOf depth funs ts
       stmts []ˢ depth funs h l g = no_more depth funs
       stmts (e ∷ˢ ts) depth funs h l g =
           one_more depth funs e ts (stmt e depth funs h.0 (omega arith) (omega arith)) (stmts ts depth funs h.1 (omega arith) (omega arith))
 
-      maybe_stmt : (ts : Stmts) (depth funs : ℕ) → count_stmts ts ≤ 1 → Fits_stmts names ts → record_depth ts ≤ depth → nested_funs ts ≤ funs →
-          Child_or_none depth funs ts
+      maybe_stmt : (ts : Stmts) (depth funs : ℕ) → count_stmts ts ≤ 1 → FitsStmts names ts → record_depth ts ≤ depth → nested_funs ts ≤ funs →
+          ChildOrNone depth funs ts
       maybe_stmt []ˢ depth funs c h l g = no_stmt depth funs
       maybe_stmt (e ∷ˢ []ˢ) depth funs c h l g = just_one depth funs e (stmt e depth funs h.0 (omega arith) (omega arith))
       maybe_stmt (e ∷ˢ u ∷ˢ ts) depth funs c h l g = absurd (omega arith)
 
-      function : (f : Fun) (depth funs : ℕ) → Fits_fun names f → fun_depth f ≤ depth → fun_nesting f ≤ funs → Function depth funs f
+      function : (f : Fun) (depth funs : ℕ) → FitsFun names f → fun_depth f ≤ depth → fun_nesting f ≤ funs → Function depth funs f
       function (fun m ps body) depth funs h l g =
           function_of depth funs m ps body h.0 h.1 h.2 h.3 (stmts body depth funs h.4 l g)
 
-      methods : (ms : Methods) (depth funs : ℕ) → Fits_methods names ms → methods_depth ms ≤ depth → methods_nesting ms ≤ funs →
-          Methods_of depth funs ms
+      methods : (ms : Methods) (depth funs : ℕ) → FitsMethods names ms → methods_depth ms ≤ depth → methods_nesting ms ≤ funs →
+          MethodsOf depth funs ms
       methods []ᵐ depth funs h l g = no_method depth funs
       methods (method s f ms) depth funs h l g =
           one_more_method depth funs (omega arith) s h.0 f ms (omega arith)
@@ -469,7 +469,7 @@ module _ (tree : List ℕ) where
   text_bytes fault [] xs = return tree []
   text_bytes fault (b ∷ bs) xs = first tree _ (byte tree fault b (bs ++ xs)) (first tree _ (text_bytes fault bs xs) (return tree (b ∷ bs)))
 
-  a_name : (last : Option (List ℕ)) (text : List ℕ) → Fits_text text → Above last text → Back (t.read_name tree last) (name_bytes text) text
+  a_name : (last : Option (List ℕ)) (text : List ℕ) → FitsText text → Above last text → Back (t.read_name tree last) (name_bytes text) text
   unfolding t.read_name name_bytes
   a_name last text h a xs =
       here tree (λ at _. simp append_assoc
@@ -479,14 +479,14 @@ module _ (tree : List ℕ) where
       (◌⟫◌ tree (need tree _ (TreeForm at) (above tree last text a))
       (◌⟫◌ tree (need tree _ (TreeForm at) (all_differ tree text t.fixed_names h.own)) (return tree text)))))))
 
-  names_back : (texts : List (List ℕ)) (last : Option (List ℕ)) → All Fits_text texts → Rising last texts →
+  names_back : (texts : List (List ℕ)) (last : Option (List ℕ)) → All FitsText texts → Rising last texts →
       Back (t.read_names tree (length texts) last) (join name_bytes texts) tt
   unfolding t.read_names join
   names_back [] last h a xs = return tree tt
   names_back (text ∷ texts) last h a xs =
       rw append_assoc (first tree _ (a_name last text h.0 a.0 _) (names_back texts (some text) h.1 a.1 xs))
 
-  file : (depth funs : ℕ) (names : List (List ℕ)) (ts : Stmts) → Fits_file depth funs names ts →
+  file : (depth funs : ℕ) (names : List (List ℕ)) (ts : Stmts) → FitsFile depth funs names ts →
       Reads tree (t.read_file tree depth funs) (encode names ts) [] ts
   unfolding t.read_file
   file depth funs names ts h =
@@ -503,13 +503,13 @@ module _ (tree : List ℕ) where
       at_end at e = let z : length tree ≡ at = omega arith in rw z (eqb_refl at)
 
   -- the names alone
-  a_text : (text : List ℕ) → Fits_text text → Back (read_text tree) (name_bytes text) text
+  a_text : (text : List ℕ) → FitsText text → Back (read_text tree) (name_bytes text) text
   unfolding read_text name_bytes
   a_text text h xs =
       simp append_assoc
       (◌⟫◌ tree (mark_is tree (TreeForm 0) 0x4E 0x4D _) (first tree _ (u16 tree (TreeForm 0) (length text) _ h.size) (text_bytes (TreeForm 0) text xs)))
 
-  all_texts : (depth funs : ℕ) (names : List (List ℕ)) (ts : Stmts) → Fits_file depth funs names ts →
+  all_texts : (depth funs : ℕ) (names : List (List ℕ)) (ts : Stmts) → FitsFile depth funs names ts →
       Reads tree (read_texts tree) (encode names ts) (stmts_bytes ts ++ []) names
   unfolding read_texts
   all_texts depth funs names ts h =
@@ -517,10 +517,10 @@ module _ (tree : List ℕ) where
       (◌⟫◌ tree (mark_is tree (TreeForm 0) 0x54 0x52 _)
       (first tree _ (u16 tree (TreeForm 0) (length names) _ (omega (arith, h.few_names)))
       (first tree _ (u16 tree (TreeForm 0) (count_stmts ts) _ h.count)
-      (many tree (read_text tree) name_bytes names _ (all_map Fits_text _ a_text names h.each_name)))))
+      (many tree (read_text tree) name_bytes names _ (all_map FitsText _ a_text names h.each_name)))))
 
 -- the tree file loses nothing
-pub read_encoded : (depth funs : ℕ) (names : List (List ℕ)) (stmts : Stmts) → Fits_file depth funs names stmts →
+pub read_encoded : (depth funs : ℕ) (names : List (List ℕ)) (stmts : Stmts) → FitsFile depth funs names stmts →
     t.read_tree (encode names stmts) depth funs ≡ got stmts (length (encode names stmts))
 unfolding t.read_tree
 read_encoded depth funs names stmts h =
@@ -530,7 +530,7 @@ read_encoded depth funs names stmts h =
     come = (file (encode names stmts) depth funs names stmts h).run 0 (record { passed = []; all_of = refl; place = refl })
 
 -- nor the names
-pub names_of_encoded : (depth funs : ℕ) (names : List (List ℕ)) (stmts : Stmts) → Fits_file depth funs names stmts → names_of (encode names stmts) ≡ names
+pub names_of_encoded : (depth funs : ℕ) (names : List (List ℕ)) (stmts : Stmts) → FitsFile depth funs names stmts → names_of (encode names stmts) ≡ names
 unfolding names_of texts_of
 names_of_encoded depth funs names stmts h = ap (texts_of (encode names stmts)) come.gives
   where

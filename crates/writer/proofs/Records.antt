@@ -8,7 +8,7 @@ use Rattle.rules.specs.Base.{le}
 use Rattle.rules.specs.Chunk.{Constant, Run}
 use Rattle.rules.specs.Image.{join, constant_bytes, run_bytes, function_bytes}
 use Rattle.rules.specs.Compiler.{finish}
-use Rattle.state.specs.Layout.{row, constant_of, run_at, upvalueOf, codeFrom, codeEnd, runsFrom, runsEnd, chunkAt, ctxAt, upvalues_place, upvalue_count_place, constants_place, constant_count_place, name_place, arity_place, level_words}
+use Rattle.state.specs.Layout.{row, constant_of, run_at, upvalue_of, start_of_code, end_of_code, start_of_runs, end_of_runs, chunk_at, ctx_at, upvalues_place, upvalue_count_place, constants_place, constant_count_place, name_place, arity_place, level_words}
 use Rattle.state.proofs.Laws.{row_cong, length_row}
 use Rattle.writer_bytes.specs.Put.{stretch, byte_at}
 use Rattle.writer_constants.specs.Constants.{constant_at}
@@ -39,10 +39,10 @@ module _ (t code spans : List ℕ) (l : ℕ) where
   abbrev pub put_in_order : List ℕ
   put_in_order =
       head_bytes (get_or t (l * level_words + name_place) 0) (get_or t (l * level_words + arity_place) 0) (get_or t (l * level_words + upvalue_count_place) 0)
-      (get_or t (l * level_words + constant_count_place) 0) (runsEnd t - runsFrom t l) (codeEnd t - codeFrom t l)
+      (get_or t (l * level_words + constant_count_place) 0) (end_of_runs t - start_of_runs t l) (end_of_code t - start_of_code t l)
       ++ ((join constant_bytes (stretch (constant_at t) (l * level_words + constants_place) (get_or t (l * level_words + constant_count_place) 0))
-      ++ join run_bytes (stretch (run_at spans) (runsFrom t l) (runsEnd t - runsFrom t l)))
-      ++ ((0x43 ∷ 0x44 ∷ []) ++ stretch (byte_at code) (codeFrom t l) (codeEnd t - codeFrom t l)))
+      ++ join run_bytes (stretch (run_at spans) (start_of_runs t l) (end_of_runs t - start_of_runs t l)))
+      ++ ((0x43 ∷ 0x44 ∷ []) ++ stretch (byte_at code) (start_of_code t l) (end_of_code t - start_of_code t l)))
 
   of_upvalues : ℕ → List ℕ
   of_upvalues n =
@@ -51,22 +51,22 @@ module _ (t code spans : List ℕ) (l : ℕ) where
         name = get_or t (l * level_words + name_place) 0;
         arity = get_or t (l * level_words + arity_place) 0;
         upvalue_count = n;
-        chunk = chunkAt t code spans l (codeEnd t) (runsEnd t);
+        chunk = chunk_at t code spans l (end_of_code t) (end_of_runs t);
       })
 
-  pub function_is : put_in_order ≡ function_bytes (finish (ctxAt t code spans l (codeEnd t) (runsEnd t)))
-  unfolding finish ctxAt chunkAt of_upvalues
+  pub function_is : put_in_order ≡ function_bytes (finish (ctx_at t code spans l (end_of_code t) (end_of_runs t)))
+  unfolding finish ctx_at chunk_at of_upvalues
   function_is =
       rw (
         stretch_row (constant_at t) (l * level_words + constants_place) (get_or t (l * level_words + constant_count_place) 0),
-        stretch_row (run_at spans) (runsFrom t l) (runsEnd t - runsFrom t l),
-        stretch_row (byte_at code) (codeFrom t l) (codeEnd t - codeFrom t l),
+        stretch_row (run_at spans) (start_of_runs t l) (end_of_runs t - start_of_runs t l),
+        stretch_row (byte_at code) (start_of_code t l) (end_of_code t - start_of_code t l),
       )
       (assembled (get_or t (l * level_words + name_place) 0) (get_or t (l * level_words + arity_place) 0) (get_or t (l * level_words + upvalue_count_place) 0) _ _ _ _ _ _
       (length_row (λ i. constant_of (get_or t (l * level_words + constants_place + i) 0)) (get_or t (l * level_words + constant_count_place) 0))
-      (length_row (λ i. run_at spans (runsFrom t l + i)) (runsEnd t - runsFrom t l))
-      (length_row (λ i. get_or code (codeFrom t l + i) 0) (codeEnd t - codeFrom t l))
-      ∙ ap of_upvalues (sym (length_row (λ i. upvalueOf (get_or t (l * level_words + upvalues_place + i) 0)) (get_or t (l * level_words + upvalue_count_place) 0))))
+      (length_row (λ i. run_at spans (start_of_runs t l + i)) (end_of_runs t - start_of_runs t l))
+      (length_row (λ i. get_or code (start_of_code t l + i) 0) (end_of_code t - start_of_code t l))
+      ∙ ap of_upvalues (sym (length_row (λ i. upvalue_of (get_or t (l * level_words + upvalues_place + i) 0)) (get_or t (l * level_words + upvalue_count_place) 0))))
 
-  pub as_function : {out out' : List ℕ} {at r : ℕ} → Put out out' at put_in_order r → Put out out' at (function_bytes (finish (ctxAt t code spans l (codeEnd t) (runsEnd t)))) r
+  pub as_function : {out out' : List ℕ} {at r : ℕ} → Put out out' at put_in_order r → Put out out' at (function_bytes (finish (ctx_at t code spans l (end_of_code t) (end_of_runs t)))) r
   as_function {out} {out'} {at} {r} p = subst (λ (bs : List ℕ). Put out out' at bs r) function_is p

@@ -7,7 +7,7 @@ use Rattle.rules.specs.Base.{le}
 use Rattle.rules.specs.Chunk.{ObjectFunction}
 use Rattle.rules.specs.Image.{join, function_bytes}
 use Rattle.rules.specs.Limits.{max_code}
-use Rattle.state.specs.Layout.{levels, codeFrom, codeEnd, runsFrom, runsEnd, Wf}
+use Rattle.state.specs.Layout.{levels, start_of_code, end_of_code, start_of_runs, end_of_runs, Wf}
 
 -- a function's record up to its constants
 unfoldable pub head_bytes : (name arity upvalues constants runs code : ℕ) → List ℕ
@@ -18,12 +18,12 @@ head_bytes name arity upvalues constants runs code =
 pub record Closed (t code spans : List ℕ) (l : ℕ) : Type 0 where
   pub low : l < levels
   pub wf : Wf t
-  pub code_order : codeFrom t l ≤ codeEnd t
-  pub code_room : codeEnd t ≤ length code
-  pub code_small : codeEnd t ≤ max_code
-  pub runs_order : runsFrom t l ≤ runsEnd t
-  pub runs_room : runsEnd t * 3 ≤ length spans
-  pub runs_few : runsEnd t ≤ codeEnd t
+  pub code_order : start_of_code t l ≤ end_of_code t
+  pub code_room : end_of_code t ≤ length code
+  pub code_small : end_of_code t ≤ max_code
+  pub runs_order : start_of_runs t l ≤ end_of_runs t
+  pub runs_room : end_of_runs t * 3 ≤ length spans
+  pub runs_few : end_of_runs t ≤ end_of_code t
 
 -- ## The records of an image's functions
 

@@ -4,7 +4,7 @@
 ghost use Rattle.std.specs.Prelude.{◌+◌, ◌≤◌};
 ghost use Rattle.rules.specs.Image.{function_bytes};
 ghost use Rattle.rules.specs.Compiler as rules;
-ghost use Rattle.state.specs.Layout.{codeEnd, runsEnd, ctxAt};
+ghost use Rattle.state.specs.Layout.{end_of_code, end_of_runs, ctx_at};
 ghost use Rattle.writer.specs.Put.{Put, Closed, head_bytes};
 
 use fields::Mark;
@@ -48,7 +48,7 @@ pub fn put_function(
     level: usize,
 ) -> usize
     requires { (Closed t.now code.now spans.now level) × (at ≤ 576460752303423488) }
-    ensures { Put out.old out.new at (function_bytes (rules.finish (ctxAt t.now code.now spans.now level (codeEnd t.now) (runsEnd t.now)))) result }
+    ensures { Put out.old out.new at (function_bytes (rules.finish (ctx_at t.now code.now spans.now level (end_of_code t.now) (end_of_runs t.now)))) result }
 {
     let base = level * Table::LEVEL_WORDS;
     let constants = t[base + Table::CONSTANT_COUNT] as usize;

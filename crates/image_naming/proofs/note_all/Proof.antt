@@ -7,12 +7,12 @@ use lib.ListN.{length, get_or}
 use lib.Dec.{eqb}
 use borrow.Author.Rules.{rules}
 use borrow.Author.Tests.{not-true, not-false, eq-eqb, ne_eqb}
-use Rattle.image_naming.proofs.Walking.{Noting_all, all_begin_with, all_capped, all_lost, all_on, all_done}
+use Rattle.image_naming.proofs.Walking.{NotingAll, all_begin_with, all_capped, all_lost, all_on, all_done}
 use Rattle.image_naming.proofs.note_all.Statement.{statement}
 use Rattle.image_naming.proofs.note_all.Tie as tie
 
 abbrev invariant-loop : tie.invariant-loop
-invariant-loop s count base seen₀ at₀ i₀ seen at i = Noting_all s count base seen₀ seen at i
+invariant-loop s count base seen₀ at₀ i₀ seen at i = NotingAll s count base seen₀ seen at i
 
 abbrev decreases-loop : tie.decreases-loop
 decreases-loop s count base seen₀ at₀ i₀ seen at i = count - i

@@ -1,6 +1,6 @@
 -- `spans::span_of` meets its contract: a walk of its MIR, by hand, with a loop and a return from within it.
 -- The slice is looked into once, before the loop, and shut at each return. In a turn element i is taken out of the row, copied to a local and put back.
--- The loop's invariant: what `spanAt` gives of the runs from i on, at what is left of the offset, is what it gives of all of them at the offset. What is left of the length is the measure.
+-- The loop's invariant: what `span_at` gives of the runs from i on, at what is left of the offset, is what it gives of all of them at the offset. What is left of the length is the measure.
 -- Assumes nothing.
 use mathlib.Core.Path.{◌≡◌, refl, sym, ◌∙◌, ap, subst}
 use Prim.Native.Nat.{ℕ, ◌+◌, ◌-◌, ◌*◌, ◌<◌, ◌≤◌, ◌^◌, zero-le}
@@ -48,7 +48,7 @@ use denote.Triple.Walked.{says, Stays, stay_none_slice, stay_none, walk_of, Walk
 use denote.Exit.{yes}
 use Rattle.spans.specs.declared.Run.{Run}
 use Rattle.rules.specs.declared.Answer.{Answer}
-use Rattle.spans.proofs.Lent.{none, found, noSuchByte, spanAt, ends as ended_at, holds, passes}
+use Rattle.spans.proofs.Lent.{none, found, no_such_byte, span_at, ends as ended_at, holds, passes}
 use Rattle.spans.specs.contracts.Run as T
 use Rattle.spans.proofs.Run.TheLaws as T'
 use Rattle.rules.specs.contracts.Answer as S
@@ -108,7 +108,7 @@ module _ {M : Type 1} {𝓤 : Ura M} (𝓛 : Logic 𝓤) (mem : Memory → SProp
       LL.owes S.the_type S'.the_laws r
       ((refl, g.0), ((refl, g.1.0), ((refl, g.1.1.0), ((refl, g.1.1.1.0), ((refl, g.1.1.1.1.0), ((refl, g.1.1.1.1.1.0), ((refl, g.1.1.1.1.1.1), tt)))))))
 
-  exits : (r : Answer) → Small r → r ≡ spanAt ys k → ent 𝓤 (⋆ 𝓛 (‵ (flft κ q) ∷ ‵ Own ∷ ‵ Offset ∷ [])) (Post (S'.lowered r))
+  exits : (r : Answer) → Small r → r ≡ span_at ys k → ent 𝓤 (⋆ 𝓛 (‵ (flft κ q) ∷ ‵ Own ∷ ‵ Offset ∷ [])) (Post (S'.lowered r))
   exits r g e =
       qed 𝓛 (‵ (flft κ q) ∷ ‵ Own ∷ ‵ Offset ∷ []) ∵
       suffices ! _ (ends_at 𝓛 f.ended stayed (f.clauses 𝓛 mem run) (((κ, tt), (q, tt), tt, x, at), tt) (S'.lowered r) r (tt, (tt, tt)) (tt, (tt, tt))) $ says ! e $
@@ -117,7 +117,7 @@ module _ {M : Type 1} {𝓤 : Ura M} (𝓛 : Logic 𝓤) (mem : Memory → SProp
 
   -- where a turn begins: i, what is left of the offset, and what holds of them
   abbrev Turn : Type 0
-  Turn = (i : ℕ) × ((left : ℕ) × ((i ≤ length ys) × ((left < 2 ^ 64) × (spanAt (drop i ys) left ≡ spanAt ys k))))
+  Turn = (i : ℕ) × ((left : ℕ) × ((i ≤ length ys) × ((left < 2 ^ 64) × (span_at (drop i ys) left ≡ span_at ys k))))
 
   abbrev Nearer : Turn → Turn → Type 0
   Nearer v u = length ys - v.0 < length ys - u.0
@@ -148,7 +148,7 @@ module _ {M : Type 1} {𝓤 : Ura M} (𝓛 : Logic 𝓤) (mem : Memory → SProp
     Turned u = after_turn 𝓤 H (Below 𝓛 Nearer At u) (after_block 𝓤 H (after_seq 𝓤 H (Wp 𝓤 H C Λ En mirs.t-4 (at_return 𝓤 H En Post)) (at_return 𝓤 H En Post)))
 
     -- every local is freed: both returns come here
-    freed : (r : Answer) → Small r → r ≡ spanAt ys k
+    freed : (r : Answer) → Small r → r ≡ span_at ys k
         → Sq 𝓛 (‵ (flft κ q) ∷ ‵ Own ∷ ‵ Offset
         ∷ ‵ (froom T'.mir l₁₂ 0) ∷ ‵ (fdies T'.mir l₁₂) ∷ ‵ (froom ty_ptr l₁₁ 0) ∷ ‵ (fdies ty_ptr l₁₁) ∷ ‵ (froom ty_bool l₁₀ 0) ∷ ‵ (fdies ty_bool l₁₀) ∷ ‵
         (froom word l₉ 0) ∷ ‵ (fdies word l₉) ∷ ‵ (froom word l₈ 0) ∷ ‵ (fdies word l₈) ∷ ‵ (froom word l₇ 0) ∷ ‵ (fdies word l₇)
@@ -202,9 +202,9 @@ module _ {M : Type 1} {𝓤 : Ura M} (𝓛 : Logic 𝓤) (mem : Memory → SProp
         (λ over. jumps ! $ exec ! C Λ En mirs.t-4 (at_ret En Post) $ shuts_slice ! tt T.the_row q' ys b o $
         assigns ! (agg ! (and_then ! (lit ! tt) (and_then ! (lit ! tt) (and_then ! (lit ! tt) (and_then ! (lit ! tt) (and_then ! (lit ! tt)
         (and_then ! (lit ! tt) (and_then ! (lit ! tt) (no_more !)))))))))
-        (from ! (stop !)) (init ! 27 refl (fits noSuchByte nothing-small)) $
+        (from ! (stop !)) (init ! 27 refl (fits no_such_byte nothing-small)) $
         returns ! (look ! 27 refl) $ forget ! 7 refl $ forget ! 9 refl $ forget ! 19 refl $ forget ! 21 refl $ forget ! 23 refl $ forget ! 25 refl $ forget ! 27 refl $
-        freed noSuchByte nothing-small (sym (ended_at ys u.0 u.1.0 (nltb→le u.0 (length ys) over)) ∙ u.1.1.1.1))
+        freed no_such_byte nothing-small (sym (ended_at ys u.0 u.1.0 (nltb→le u.0 (length ys) over)) ∙ u.1.1.1.1))
       where
         e : Run
         e = get_or ys u.0 none
@@ -227,7 +227,7 @@ module _ {M : Type 1} {𝓤 : Ura M} (𝓛 : Logic 𝓤) (mem : Memory → SProp
         small : Is T.the_row e (T'.lowered e ∷ []) → Small (found e)
         small g = (lit< tt, (wide-start g, (wide-end g, (lit< tt, (lit< tt, (lit< tt, lit< tt))))))
 
-        nothing-small : Small noSuchByte
+        nothing-small : Small no_such_byte
         nothing-small = (lit< tt, (lit< tt, (lit< tt, (lit< tt, (lit< tt, (lit< tt, lit< tt))))))
 
         fits : (r : Answer) → Small r → T (has_ty S'.mir (S'.lowered r)) × WT (S'.lowered r)

@@ -4,7 +4,7 @@ use native.Mathlib.Omega.{arith}
 use mathlib.Core.Path.{sym, ◌∙◌}
 use lib.ListN.{length-set}
 use borrow.Author.Rules.{rules}
-use Rattle.state.specs.Layout.{runsFrom, runsEnd}
+use Rattle.state.specs.Layout.{start_of_runs, end_of_runs}
 use Rattle.state_code.proofs.Emit as ways
 use Rattle.state_code.proofs.emit_u8.Statement.{statement}
 use Rattle.state_code.proofs.emit_u8.Tie as tie
@@ -86,7 +86,7 @@ sub_at : tie.Need-overflow-sub-at
 sub_at c =
     let s = start-of-then2 c in
     let a = s.args in
-    omega (arith, ways.grew a.spans.now (runsFrom a.t.now a.level) (runsEnd a.t.now) a.span (sym c.before.can-grow.ensures ∙ c.if2.true))
+    omega (arith, ways.grew a.spans.now (start_of_runs a.t.now a.level) (end_of_runs a.t.now) a.span (sym c.before.can-grow.ensures ∙ c.if2.true))
 
 mul_at : tie.Need-overflow-mul-at
 mul_at c = search rules
@@ -104,7 +104,7 @@ add-spans : tie.Need-overflow-add-spans
 add-spans c =
     let s = start-of-slice-known7 c in
     let a = s.args in
-    omega (arith, ways.small a.spans.now (runsFrom a.t.now a.level) (runsEnd a.t.now) a.span (sym c.before.before.can-grow.ensures ∙ c.before.if2.true))
+    omega (arith, ways.small a.spans.now (start_of_runs a.t.now a.level) (end_of_runs a.t.now) a.span (sym c.before.before.can-grow.ensures ∙ c.before.if2.true))
 
 mul-spans-2 : tie.Need-overflow-mul-spans-2
 mul-spans-2 c = search rules

@@ -7,12 +7,12 @@ use borrow.Author.Tests.{lt-ltb}
 use borrow.Author.Rules.{rules}
 use Rattle.rules.specs.Compiler.{Local, declared_here}
 use Rattle.state_names.proofs.Declare as ways
-use Rattle.state.specs.Layout.{stack, localOf}
+use Rattle.state.specs.Layout.{stack, local_of}
 use Rattle.state_names.proofs.clashing.Statement.{statement}
 use Rattle.state_names.proofs.clashing.Tie as tie
 
 abbrev invariant-loop : tie.invariant-loop
-invariant-loop t base n depth name i₀ i = (i ≤ n) × (declared_here depth name (stack (λ j. localOf (get_or t (base + j) 0)) i) ≡ declared_here depth name (stack (λ j. localOf (get_or t (base + j) 0)) n))
+invariant-loop t base n depth name i₀ i = (i ≤ n) × (declared_here depth name (stack (λ j. local_of (get_or t (base + j) 0)) i) ≡ declared_here depth name (stack (λ j. local_of (get_or t (base + j) 0)) n))
 
 abbrev decreases-loop : tie.decreases-loop
 decreases-loop t base n depth name i₀ i = i
@@ -67,18 +67,18 @@ loop-again : tie.Need-loop-preserved invariant-loop decreases-loop
 loop-again c =
     let a = (start-of-else3 c).args in
     let i = (at-loop-of-else3 c).loop.i in
-    let f : ℕ → Local = λ j. localOf (get_or a.t.now (a.base + j) 0) in
+    let f : ℕ → Local = λ j. local_of (get_or a.t.now (a.base + j) 0) in
     (omega arith, sym (ways.clash-skip f a.name a.depth i (omega arith) c.before.if2.false c.if3.false) ∙ (at-loop-of-else3 c).loop.invariant.1)
 
 returns : tie.Need-returns invariant-loop decreases-loop
 returns c =
     let a = c.before.before.args in
-    sym (ways.clash-none (λ j. localOf (get_or a.t.now (a.base + j) 0)) a.name a.depth c.before.loop.i c.if1.true) ∙ c.before.loop.invariant.1
+    sym (ways.clash-none (λ j. local_of (get_or a.t.now (a.base + j) 0)) a.name a.depth c.before.loop.i c.if1.true) ∙ c.before.loop.invariant.1
 
 returns-2 : tie.Need-returns-2 invariant-loop decreases-loop
 returns-2 c =
     let a = (start-of-then2 c).args in
-    sym (ways.clash-stop (λ j. localOf (get_or a.t.now (a.base + j) 0)) a.name a.depth c.before.before.before.loop.i (omega arith)
+    sym (ways.clash-stop (λ j. local_of (get_or a.t.now (a.base + j) 0)) a.name a.depth c.before.before.before.loop.i (omega arith)
     c.if2.true) ∙ c.before.before.before.loop.invariant.1
 
 returns-3 : tie.Need-returns-3 invariant-loop decreases-loop
@@ -86,7 +86,7 @@ returns-3 c =
     let a = (start-of-then3 c).args in
     let i = (at-loop-of-then3 c).loop.i in
     let pos : 0 < i = omega arith in
-    lt-ltb 0 i pos ∙ sym (ways.clash-hit (λ j. localOf (get_or a.t.now (a.base + j) 0)) a.name a.depth i pos c.before.if2.false c.if3.true) ∙ (at-loop-of-then3 c).loop.invariant.1
+    lt-ltb 0 i pos ∙ sym (ways.clash-hit (λ j. local_of (get_or a.t.now (a.base + j) 0)) a.name a.depth i pos c.before.if2.false c.if3.true) ∙ (at-loop-of-then3 c).loop.invariant.1
 
 pub clashing-spec : {M : Type 1} → statement M
 clashing-spec =
