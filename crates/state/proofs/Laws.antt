@@ -16,7 +16,7 @@ use Rattle.rules.specs.Base.{if◌then◌else◌, position, one_on}
 use Rattle.rules.specs.Chunk.{Chunk, Run, Constant}
 use Rattle.rules.specs.Compiler.{Local, Upvalue, at_slot, uninitialized, find_local, capture}
 use Rattle.state.specs.Layout.{levels, deepest, row, stack, vec, pile, local_of, upvalue_of, constant_of, type_of, run_at, locals_of, upvalues_of, level_constants, start_of_code, start_of_runs, chunk_at, ctx_at, parents_of, Wf, upvalues_place, upvalue_count_place, constants_place, constant_count_place, depth_place, code_from_place, runs_from_place, name_place, arity_place, type_place, level_words, local_count_place, level_used}
-use Rattle.state.specs.Contracts.{Kept}
+use Rattle.state.specs.Meaning.{Kept}
 
 pub lt_or_le : (a b : ℕ) → (a < b) ⊎ (b ≤ a)
 lt_or_le a zero = inr (omega arith)

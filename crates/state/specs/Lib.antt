@@ -1,3 +1,3 @@
 -- The compiler's state in lent memory. Read in this order.
 pub mod Layout
-pub mod Contracts
+pub mod Meaning

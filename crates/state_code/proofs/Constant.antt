@@ -13,7 +13,7 @@ use borrow.Author.Tests.{eq-eqb, ne_eqb, lt-ltb, le-ltb}
 use Rattle.rules.specs.Base.{position}
 use Rattle.rules.specs.Chunk.{Constant, CN, CS, CF, same_constant, written, write_constant, at_place}
 use Rattle.state.specs.Layout.{levels, constant_of, level_constants, chunk_at, Wf, constants_place, constant_count_place, depth_place, level_words}
-use Rattle.state.specs.Contracts.{Kept, First, Constants}
+use Rattle.state.specs.Meaning.{Kept, First, Constants}
 use Rattle.state.specs.declared.Constanted.TheVariants as constanted
 use Rattle.state.proofs.Laws.{length_row, position_at, position_none, push_vec, kept_set, kept_same, kept_then, if_true, if_false, lt_or_le, chunk_paths, wf_count, wf_plain}
 use Rattle.state.proofs.Words as words

@@ -11,7 +11,7 @@ use borrow.Author.Tests.{lt-ltb, le-ltb, ltb-true, eq-eqb, ne_eqb}
 use Rattle.rules.specs.declared.Span.{Span}
 use Rattle.rules.specs.Chunk.{Run, same_span, push_span, write_u8}
 use Rattle.state.specs.Layout.{levels, code_end_at, runs_end_at, image_at, row, start_of_code, start_of_runs, end_of_code, end_of_runs, run_at, chunk_at, Wf, Coded, code_from_place, runs_from_place, level_words}
-use Rattle.state.specs.Contracts.{Kept, grows, last_grows, top_chunk, Wrote}
+use Rattle.state.specs.Meaning.{Kept, grows, last_grows, top_chunk, Wrote}
 use Rattle.state.specs.declared.Emitted.TheVariants as emitted
 use Rattle.state.proofs.Laws.{row_cong, row_snoc, run_same, kept_set, kept_same, kept_off, kept_then, if_true, if_false, constants_same, chunk_paths, wf_plain}
 use Rattle.state.proofs.Words.{and_left, and_right}

@@ -2,7 +2,7 @@
 #![tactic(auto)]
 ghost use Rattle.std.specs.Prelude.{◌≡◌, ◌*◌, ◌≤◌, ◌<◌, length};
 ghost use Rattle.state.specs.Layout.{levels, Wf, Coded};
-ghost use Rattle.state.specs.Contracts.{last_grows, Wrote, Constants};
+ghost use Rattle.state.specs.Meaning.{last_grows, Wrote, Constants};
 
 use rules::{Limit, Span};
 use state::{Constanted, Emitted, Table};

@@ -7,7 +7,7 @@ use mathlib.Core.List.{List}
 use lib.ListN.{length, get_or, set, length-set}
 use lib.Seq.{get_or-set_same}
 use Rattle.state.specs.Layout.{levels, table_words, upvalue_count_place, constant_count_place, depth_place, level_words, local_count_place}
-use Rattle.state.specs.Contracts.{Kept, Empty, Emptied, Blank}
+use Rattle.state.specs.Meaning.{Kept, Empty, Emptied, Blank}
 use Rattle.state.proofs.Laws.{lt_or_le, few_set, kept_set, kept_then}
 
 -- where 0 stands it stays when a 0 is stored

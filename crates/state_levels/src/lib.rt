@@ -2,7 +2,7 @@
 #![tactic(auto)]
 ghost use Rattle.std.specs.Prelude.{◌≡◌, ◌+◌, ◌*◌, ◌≤◌, ◌<◌, length, get_or};
 ghost use Rattle.state.specs.Layout.{levels, deepest, table_words, Wf, depth_place, level_words};
-ghost use Rattle.state.specs.Contracts.{Moved, Closed, Began, Emptied, Blank};
+ghost use Rattle.state.specs.Meaning.{Moved, Closed, Began, Emptied, Blank};
 
 use state::Table;
 

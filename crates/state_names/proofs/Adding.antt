@@ -16,7 +16,7 @@ use Rattle.rules.specs.Base.{if◌then◌else◌, position}
 use Rattle.rules.specs.declared.Span.{Span}
 use Rattle.rules.specs.Compiler.{Upvalue, CompilerCtx, captured, with_upvalues, same_upvalue, added, add_upvalue}
 use Rattle.state.specs.Layout.{levels, upvalue_of, upvalues_of, ctx_at, Wf, upvalues_place, upvalue_count_place, constants_place, depth_place, level_words}
-use Rattle.state.specs.Contracts.{Kept, First, Added}
+use Rattle.state.specs.Meaning.{Kept, First, Added}
 use Rattle.state.specs.declared.Up.TheVariants as up
 use Rattle.state.proofs.Laws.{length_row, position_at, position_none, push_vec, kept_set, kept_same, kept_off, kept_then, if_true, if_false, locals_same, chunk_same, ctx_paths, lt_or_le, few_set, wf_upvalues, wf_entry}
 

@@ -12,7 +12,7 @@ use lib.Seq.{get_or-set_same, get_or-set_other}
 use borrow.Author.Tests.{eq-eqb, ne_eqb, lt-ltb, le-ltb}
 use Rattle.rules.specs.Compiler.{Local, declared_here, initialize}
 use Rattle.state.specs.Layout.{levels, stack, local_of, locals_of, Wf, depth_place, level_words, local_count_place}
-use Rattle.state.specs.Contracts.{Kept, DeclaredAt, DefinedAt, Dropped}
+use Rattle.state.specs.Meaning.{Kept, DeclaredAt, DefinedAt, Dropped}
 use Rattle.state.specs.declared.Declared.TheVariants as decl
 use Rattle.state.proofs.Laws.{length_stack, stack_cong, push_pile, kept_set, kept_same, kept_then, if_true, if_false, wf_count, wf_plain}
 

@@ -12,7 +12,7 @@ use lib.Seq.{get_or-set_same, get_or-set_other}
 use borrow.Author.Tests.{eq-eqb, ne_eqb}
 use Rattle.rules.specs.Compiler.{at_slot, uninitialized, find_local}
 use Rattle.state.specs.Layout.{levels, stack, local_of, locals_of, Wf, level_words, local_count_place}
-use Rattle.state.specs.Contracts.{Topmost, Looked}
+use Rattle.state.specs.Meaning.{Topmost, Looked}
 use Rattle.state.specs.declared.Slot.TheVariants as slot
 use Rattle.state.proofs.Laws.{find_up, find_at, caught, capture_up, capture_at, kept_set, kept_same, if_true, if_false, wf_plain}
 

@@ -3,7 +3,7 @@
 ghost use Rattle.std.specs.Prelude.{◌≡◌, ◌+◌, ◌*◌, ◌-◌, ◌≤◌, ◌<◌, ltb, eqb, length, get_or};
 ghost use Rattle.rules.specs.Compiler.{declared_here};
 ghost use Rattle.state.specs.Layout.{levels, local_of, stack, Wf, level_words, local_count_place};
-ghost use Rattle.state.specs.Contracts.{Looked, Added, Captured, DeclaredAt, DefinedAt, Dropped};
+ghost use Rattle.state.specs.Meaning.{Looked, Added, Captured, DeclaredAt, DefinedAt, Dropped};
 
 use rules::Limit;
 use state::{Declared, Slot, Table, Up};

@@ -5,7 +5,7 @@ use mathlib.Core.Path.{◌≡◌, subst}
 use mathlib.Core.Logic.{⊎_elim}
 use mathlib.Core.List.{List}
 use lib.ListN.{get_or}
-use Rattle.state.specs.Contracts.{Without}
+use Rattle.state.specs.Meaning.{Without}
 use Rattle.state.proofs.Laws.{lt_or_le}
 
 -- each of eight words is another

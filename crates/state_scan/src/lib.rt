@@ -1,7 +1,7 @@
 // Scans of a level's words, which leave by break with the place found.
 #![tactic(auto)]
 ghost use Rattle.std.specs.Prelude.{◌≡◌, ◌+◌, ◌≤◌, false, length};
-ghost use Rattle.state.specs.Contracts.{Topmost, Without, First};
+ghost use Rattle.state.specs.Meaning.{Topmost, Without, First};
 
 // One more than the place of the topmost local of this name, 0 where there is none.
 pub fn topmost(t: &[u64], base: usize, n: usize, name: u64) -> usize

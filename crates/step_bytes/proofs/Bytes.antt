@@ -12,7 +12,7 @@ use Rattle.rules.specs.declared.Refusal.TheVariants.{CodeFull, TooManyConstants}
 use Rattle.rules.specs.Chunk.{Chunk, empty_chunk, ObjectFunction, Constant, write_u8, write_constant, Written, at_place, no_room}
 use Rattle.rules.specs.Compiler.{Compiler, Outcome, ok, err, go_on, ◌>>=◌, ◌>>◌, the, need, refuse, update_ctx, with_chunk, with_ctx, open_code, emit_u8, emit_place, emit_constant, emit_op_constant, stopped}
 use Rattle.state.specs.Layout.{levels, image_at, constant_of, end_of_code, end_of_runs, chunk_at, ctx_at, parents_of, constants_place, depth_place, code_from_place, runs_from_place, name_place, level_words}
-use Rattle.state.specs.Contracts.{top_chunk, Wrote, WroteAs, Constants, written_as}
+use Rattle.state.specs.Meaning.{top_chunk, Wrote, WroteAs, Constants, written_as}
 use Rattle.state.proofs.Laws.{kept_off, ctx_paths, locals_same, upvalues_same, parents_same}
 use Rattle.state.specs.declared.Emitted.{Emitted}
 use Rattle.state.specs.declared.Emitted.TheVariants as emitted

@@ -12,7 +12,7 @@ use Rattle.rules.specs.declared.Span.{Span}
 use Rattle.rules.specs.declared.Refusal.TheVariants.{ThisOutsideClass}
 use Rattle.rules.specs.Compiler.{Compiler, ok, go_on, ◌>>=◌, ◌>>◌, return, refuse, need, get, the, put_ctxs, Found, at_slot, uninitialized, no_local, find_local, Resolved, resolve_upvalue, Place, local_at, upvalue_at, global_named, resolved, resolve, get_place, get_variable}
 use Rattle.state.specs.Layout.{levels, code_end_at, runs_end_at, end_of_code, end_of_runs, ctx_at, parents_of, depth_place, name_place, word}
-use Rattle.state.specs.Contracts.{found, Looked, up_of, Captured}
+use Rattle.state.specs.Meaning.{found, Looked, up_of, Captured}
 use Rattle.state.specs.declared.Slot.{Slot}
 use Rattle.state.specs.declared.Slot.TheVariants as slot
 use Rattle.state.specs.declared.Up.{Up}

@@ -14,7 +14,7 @@ use Rattle.rules.specs.Compiler.{Local, CompilerCtx, Compiler, with_ctx, with_lo
 use Rattle.rules.proofs.Slips as slips
 use Rattle.rules.proofs.Slips.{enough_locals, already_declared}
 use Rattle.state.specs.Layout.{levels, stack, local_of, locals_of, end_of_code, end_of_runs, ctx_at, start_of_code, start_of_runs, upvalues_of, parents_of, Wf, upvalues_place, depth_place, code_from_place, runs_from_place, name_place, level_words, local_count_place, word}
-use Rattle.state.specs.Contracts.{DeclaredAs, DeclaredAt, DefinedAt, Moved, Began, Wrote, Dropped, Closed}
+use Rattle.state.specs.Meaning.{DeclaredAs, DeclaredAt, DefinedAt, Moved, Began, Wrote, Dropped, Closed}
 use Rattle.state.specs.declared.Declared.{Declared}
 use Rattle.state.specs.declared.Declared.TheVariants as decl
 use Rattle.state.specs.declared.Emitted.{Emitted}

@@ -11,7 +11,7 @@ use Rattle.rules.specs.declared.Stopped.{Stopped}
 use Rattle.rules.specs.Chunk.{Chunk}
 use Rattle.rules.specs.Compiler.{Local, CompilerCtx, Compiler, with_ctx, with_chunk, with_locals, with_scope_depth, open_code, stopped}
 use Rattle.state.specs.Layout.{levels, code_end_at, runs_end_at, image_at, locals_of, start_of_code, start_of_runs, end_of_code, end_of_runs, chunk_at, ctx_at, parents_of, Wf, Coded, upvalues_place, constants_place, depth_place, code_from_place, runs_from_place, name_place, type_place, level_words, word}
-use Rattle.state.specs.Contracts.{Kept}
+use Rattle.state.specs.Meaning.{Kept}
 use Rattle.state.proofs.Laws.{length_row, kept_off, ctx_paths, chunk_same, upvalues_same, locals_same, parents_named}
 use Rattle.steps.specs.View.{Mem, mem, t_of, Rest, view, Agrees, Fit, code_len, depth_at, Turn, steady, Ahead}
 

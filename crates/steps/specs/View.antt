@@ -6,7 +6,7 @@ use Rattle.rules.specs.Chunk.{ObjectFunction}
 use Rattle.rules.specs.Compiler.{Upvalue as Captured}
 use Rattle.rules.specs.Compiler.{emit_upvalues, Compiler, new, new_ctx, finish, end_ctx, ends_in_return, ok, err, Compile, ◌>>=◌, the, local_at, upvalue_at, global_named, resolve, code_length, begin_ctx, pop_locals}
 use Rattle.state.specs.Layout.{levels, image_at, start_of_code, end_of_code, end_of_runs, ctx_at, parents_of, type_of, Wf, Coded, code_end_at, upvalue_of, upvalues_of, depth_place, code_from_place, type_place, level_words, local_count_place}
-use Rattle.state.specs.Contracts.{Kept}
+use Rattle.state.specs.Meaning.{Kept}
 use Rattle.steps.specs.Why.{code_full, told}
 use Rattle.steps.specs.declared.Why.{Why}
 use Rattle.steps.specs.declared.Step.{Step}

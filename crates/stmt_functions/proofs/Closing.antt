@@ -11,7 +11,7 @@ use Rattle.rules.specs.declared.Span.{Span}
 use Rattle.rules.specs.Chunk.{ObjectFunction}
 use Rattle.rules.specs.Compiler.{Upvalue, Compiler, ok, err, finish, emit_closure, implicit_return, end_ctx, end_function}
 use Rattle.state.specs.Layout.{levels, image_at, start_of_code, end_of_code, upvalues_of, depth_place, code_from_place, type_place, level_words}
-use Rattle.state.specs.Contracts.{Closed as LevelLeft}
+use Rattle.state.specs.Meaning.{Closed as LevelLeft}
 use Rattle.state.proofs.Laws.{upvalues_same}
 use Rattle.steps.specs.View.{Mem, mem, t_of, Rest, view, Agrees, Fit, code_len, depth_at, steady, Gave, DidAs, Did, Left, finished}
 use Rattle.steps.specs.declared.Step.{Step}

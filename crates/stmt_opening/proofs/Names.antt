@@ -9,7 +9,7 @@ use Rattle.rules.specs.Reader.{got}
 use Rattle.rules.specs.Compiler.{Compiler, ok, err, Compile, ◌>>◌, done, return, update_ctx, slot_zero, declare_local, define_local, declare_params}
 use Rattle.fields.specs.Words.{word16}
 use Rattle.state.specs.Layout.{levels, ctx_at, type_of, Wf, upvalues_place, name_place, level_words, local_count_place, word}
-use Rattle.state.specs.Contracts.{Kept, DeclaredAs, DeclaredAt, DefinedAt}
+use Rattle.state.specs.Meaning.{Kept, DeclaredAs, DeclaredAt, DefinedAt}
 use Rattle.state.specs.declared.Declared.{Declared}
 use Rattle.state.specs.declared.Declared.TheVariants as decl
 use Rattle.state.proofs.Laws.{kept_same}

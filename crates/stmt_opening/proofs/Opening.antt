@@ -13,7 +13,7 @@ use Rattle.rules.specs.Reader.{got}
 use Rattle.rules.specs.Compiler.{FunctionType, Compiler, CompilerCtx, new_ctx, ok, err, stopped, Compile, ◌>>=◌, ◌>>◌, go_on, need, the, slot_zero, begin_ctx, declare_local, define_local, declare_params}
 use Rattle.fields.specs.Words.{word16}
 use Rattle.state.specs.Layout.{levels, code_end_at, runs_end_at, start_of_code, start_of_runs, end_of_code, end_of_runs, chunk_at, ctx_at, type_of, Wf, upvalues_place, depth_place, code_from_place, runs_from_place, level_words}
-use Rattle.state.specs.Contracts.{Kept, Began}
+use Rattle.state.specs.Meaning.{Kept, Began}
 use Rattle.state.proofs.Laws.{length_row}
 use Rattle.tree_laws.proofs.Statements.{names_length}
 use Rattle.steps.specs.View.{mem, Rest, view, depth_at, Entered}

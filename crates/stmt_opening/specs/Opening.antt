@@ -8,7 +8,7 @@ use Rattle.rules.specs.TreeFile.{name}
 use Rattle.rules.specs.Compiler.{Compile, ok, err, ◌>>◌, declare_local, define_local, declare_params}
 use Rattle.fields.specs.Words.{word16}
 use Rattle.state.specs.Layout.{start_of_code, start_of_runs, end_of_code, end_of_runs, type_of, Wf, upvalues_place, level_words}
-use Rattle.state.specs.Contracts.{Kept}
+use Rattle.state.specs.Meaning.{Kept}
 use Rattle.steps.specs.View.{mem, Rest, view, Fit, depth_at}
 use Rattle.steps.specs.declared.Step.{Step}
 use Rattle.steps.specs.declared.Step.TheVariants.{Next, Stop}

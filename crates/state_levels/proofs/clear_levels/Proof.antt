@@ -5,7 +5,7 @@ use mathlib.Core.Path.{◌≡◌, refl, ◌∙◌}
 use lib.ListN.{length}
 use borrow.Author.Rules.{rules}
 use Rattle.state.specs.Layout.{levels}
-use Rattle.state.specs.Contracts.{Empty}
+use Rattle.state.specs.Meaning.{Empty}
 use Rattle.state_levels.proofs.Clearing.{empty_more, blank}
 use Rattle.state_levels.proofs.clear_levels.Statement.{statement}
 use Rattle.state_levels.proofs.clear_levels.Tie as tie

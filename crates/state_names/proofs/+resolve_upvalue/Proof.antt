@@ -5,7 +5,7 @@ use mathlib.Core.Path.{subst, sym}
 use borrow.Author.Rules.{rules}
 use borrow.Fn.Kinds.{In, Out}
 use borrow.Fn.PlainCycle.{Measures, is, falls, and}
-use Rattle.state.specs.Contracts.{Captured}
+use Rattle.state.specs.Meaning.{Captured}
 use Rattle.state.specs.declared.Up.TheVariants as up
 use Rattle.state_names.proofs.Outward as outward
 use Rattle.state_names.proofs.resolve_upvalue.Reads as own

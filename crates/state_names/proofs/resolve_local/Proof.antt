@@ -5,7 +5,7 @@ use mathlib.Core.Path.{◌≡◌, subst}
 use lib.ListN.{get_or}
 use borrow.Author.Rules.{rules}
 use Rattle.state_names.proofs.Resolve as ways
-use Rattle.state.specs.Contracts.{Topmost}
+use Rattle.state.specs.Meaning.{Topmost}
 use Rattle.state_names.proofs.resolve_local.Statement.{statement}
 use Rattle.state_names.proofs.resolve_local.Tie as tie
 use Rattle.state.specs.Layout.{level_words, local_count_place}

@@ -1,0 +1,27 @@
+-- `entry` goes through all rows and holds the bytes of the opcode's.
+use Prim.Native.Nat.{ℕ, ◌-◌}
+use native.Mathlib.Omega.{arith}
+use mathlib.Core.Logic.{⊎_elim}
+use lib.ListN.{length}
+use borrow.Author.Rules.{rules}
+use Rattle.rules.proofs.Computes as computes
+use Rattle.op.proofs.Widths.{beside, Held, begun, taken, passed, found}
+use Rattle.op.proofs.entry.Goals as goal
+
+pub loop-place-init : goal.loop-place-init
+loop-place-init c = begun _ _
+
+pub overflow_add-place : goal.overflow_add-place
+overflow_add-place c = omega arith
+
+pub loop-place-smaller : goal.loop-place-smaller
+loop-place-smaller c = omega arith
+
+pub loop-place-preserved : goal.loop-place-preserved
+loop-place-preserved c =
+    let held = c.loop-place.invariant in
+    ⊎_elim (λ p. taken held _ (omega arith) p.0.taken p.1) (λ p. passed held _ (omega arith) p.0.left p.1) c.if-row-op.branch
+
+pub returns : goal.returns
+unfolding computes.op beside
+returns c = found 255 c.loop-place.invariant c.loop-place-test.false tt

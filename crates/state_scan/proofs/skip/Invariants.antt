@@ -1,0 +1,13 @@
+-- `skip` meets its contract. The loop's invariant: what it has passed are other words. The measure is how many are left.
+use Prim.Native.Nat.{◌-◌, ◌≤◌}
+use native.Mathlib.Omega.{arith}
+use borrow.Author.Rules.{rules}
+use Rattle.state.specs.Meaning.{Without}
+use Rattle.state_scan.proofs.Scan.{without_more}
+use Rattle.state_scan.proofs.skip.Given as goal
+
+abbrev pub invariant-loop-i : goal.invariant-loop-i
+invariant-loop-i l = (l.i ≤ l.n) × (Without l.t l.base l.i l.w)
+
+abbrev pub decreases-loop-i : goal.decreases-loop-i
+decreases-loop-i l = l.n - l.i
