@@ -1,0 +1,69 @@
+-- A call after its last part.
+-- The places first, each over the one before: of a call `-asked` is the place where it is made, `-left` the call from where its areas have come back,
+-- `-went` and `-halted` the call once its answer is known.
+use mathlib.Core.Path.{sym, ◌∙◌}
+use Rattle.tree_laws.proofs.Expressions.{any_at, get_at, super_at}
+use Rattle.steps.proofs.Steps.{went}
+use Rattle.expr_laws.proofs.Calls.{close_super_stop, close_super, close_object, close_value, low_byte}
+use native.Mathlib.Omega.{arith}
+use borrow.Author.Rules.{rules}
+use Rattle.expr_calls.proofs.call_close.Goals as goal
+
+-- ## The needs
+pub overflow_add-at : goal.overflow_add-at
+overflow_add-at c = let b = (any_at _ _ _ _ c.requires.1.there.is).bound in omega (arith, b)
+
+pub u16_at-requires : goal.u16_at-requires
+u16_at-requires c = let b = (any_at _ _ _ _ c.requires.1.there.is).bound in omega (arith, b)
+
+pub overflow_add-at-2 : goal.overflow_add-at-2
+overflow_add-at-2 c = let b = (any_at _ _ _ _ c.requires.1.there.is).bound in omega (arith, b)
+
+pub mark_at-mark-requires : goal.mark_at-mark-requires
+mark_at-mark-requires c = let b = (any_at _ _ _ _ c.requires.1.there.is).bound in omega (arith, b)
+
+pub returns-in_default : goal.returns-in_default
+returns-in_default c =
+    close_super_stop _ _ _ _ (sym c.mark_at-mark.ensures ∙ c.if-mark-eq-SUPER.true) c.get_variable-a.ensures c.in_default.is
+
+pub overflow_add-at-then-mark-eq-SUPER : goal.overflow_add-at-then-mark-eq-SUPER
+overflow_add-at-then-mark-eq-SUPER c =
+    let if1 = get-variable-asked in
+    let mark-at = if1.before in
+    let s = start mark-at.before.before in
+    let b = (super_at _ _ _ _ (sym mark-at.mark-at.ensures ∙ if1.if1.taken) s.pre.1.there.is).bound in omega (arith, b)
+
+pub u16_at-name-requires : goal.u16_at-name-requires
+u16_at-name-requires c =
+    let if1 = get-variable-asked in
+    let mark-at = if1.before in
+    let s = start mark-at.before.before in
+    let b = (super_at _ _ _ _ (sym mark-at.mark-at.ensures ∙ if1.if1.taken) s.pre.1.there.is).bound in omega (arith, b)
+
+pub emit_invoke-requires : goal.emit_invoke-requires
+emit_invoke-requires c =
+    let enum_told-1 = ( in
+    let get_variable = get-variable-went enum_told-1 in
+    (went get_variable.get-variable.ensures enum_told.enum_told.given.1).ahead.fit
+
+pub returns-then-mark-eq-SUPER : goal.returns-then-mark-eq-SUPER
+returns-then-mark-eq-SUPER c =
+    close_super _ _ _ _ _ _ (low_byte c.u16_at.ensures c.requires.2) (sym c.mark_at-mark.ensures ∙ c.if-mark-eq-SUPER.true) c.u16_at-name.ensures c.get_variable-a.ensures
+    c.in-Next.is (c.emit_invoke.ensures _)
+
+pub overflow_add-at-then-mark-eq-GET : goal.overflow_add-at-then-mark-eq-GET
+overflow_add-at-then-mark-eq-GET c =
+    let b = (get_at _ _ _ _ (sym c.mark_at-mark.ensures ∙ c.if-mark-eq-GET.true) c.requires.1.there.is).bound in omega (arith, b)
+
+pub u16_at-name-requires-then-mark-eq-GET : goal.u16_at-name-requires-then-mark-eq-GET
+u16_at-name-requires-then-mark-eq-GET c =
+    let b = (get_at _ _ _ _ (sym c.mark_at-mark.ensures ∙ c.if-mark-eq-GET.true) c.requires.1.there.is).bound in omega (arith, b)
+
+pub returns-then-mark-eq-GET : goal.returns-then-mark-eq-GET
+returns-then-mark-eq-GET c =
+    close_object _ _ _ _ _ _ (low_byte c.u16_at.ensures c.requires.2) (sym c.mark_at-mark.ensures ∙ c.if-mark-eq-GET.true) c.u16_at-name-then-mark-eq-GET.ensures (c.emit_invoke-then-mark-eq-GET.ensures _)
+
+pub returns : goal.returns
+returns c =
+    close_value _ _ _ _ _ (low_byte c.u16_at.ensures c.requires.2) (λ e. c.if-mark-eq-GET.false (c.mark_at-mark.ensures ∙ e)) (λ e. c.if-mark-eq-SUPER.false (c.mark_at-mark.ensures ∙ e))
+    (c.emit_op_u8.ensures _)

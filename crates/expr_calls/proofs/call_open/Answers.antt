@@ -1,0 +1,58 @@
+-- A call up to its first part.
+-- The places first, each over the one before: of a call `-asked` is the place where it is made, `-left` the call from where its areas have come back,
+-- `-went` and `-halted` the call once its answer is known.
+use mathlib.Core.Path.{sym, ◌∙◌}
+use Rattle.tree_laws.proofs.Expressions.{any_at, get_at, super_at}
+use Rattle.expr_laws.proofs.Calls.{too_many, super_stop, super_open, object_open, value_open}
+use native.Mathlib.Omega.{arith}
+use borrow.Author.Rules.{rules}
+use Rattle.expr_calls.proofs.call_open.Goals as goal
+
+-- ## The needs
+pub overflow_add-at : goal.overflow_add-at
+overflow_add-at c = let b = (any_at _ _ _ _ c.requires.1.there.is).bound in omega (arith, b)
+
+pub u16_at-requires : goal.u16_at-requires
+u16_at-requires c = let b = (any_at _ _ _ _ c.requires.1.there.is).bound in omega (arith, b)
+
+pub returns-then-u16_at-gt-ARGS : goal.returns-then-u16_at-gt-ARGS
+returns-then-u16_at-gt-ARGS c = too_many _ _ _ (omega (arith, c.u16_at.ensures, c.if-u16_at-gt-ARGS.true))
+
+pub overflow_add-at-2 : goal.overflow_add-at-2
+overflow_add-at-2 c = let b = (any_at _ _ _ _ c.requires.1.there.is).bound in omega (arith, b)
+
+pub mark_at-mark-requires : goal.mark_at-mark-requires
+mark_at-mark-requires c = let b = (any_at _ _ _ _ c.requires.1.there.is).bound in omega (arith, b)
+
+pub returns-in_default : goal.returns-in_default
+returns-in_default c =
+    super_stop _ _ _ (omega (arith, c.u16_at.ensures, c.if-u16_at-gt-ARGS.false)) (sym c.mark_at-mark.ensures ∙ c.if-mark-eq-SUPER.true) (c.need_super-n.ensures.gives _ c.requires.0)
+    c.in_default.is
+
+pub overflow_add-at-then-mark-eq-SUPER : goal.overflow_add-at-then-mark-eq-SUPER
+overflow_add-at-then-mark-eq-SUPER c =
+    let if2 = ( in
+    let mark-at = if2.before in
+    let s = start mark-at.before.before.before in
+    let b = (super_at _ _ _ _ (sym mark-at.mark-at.ensures ∙ if2.if2.taken) s.pre.1.there.is).bound in omega (arith, b)
+
+pub returns-then-mark-eq-SUPER : goal.returns-then-mark-eq-SUPER
+returns-then-mark-eq-SUPER c =
+    super_open _ _ _ (omega (arith, c.u16_at.ensures, c.if-u16_at-gt-ARGS.false)) (sym c.mark_at-mark.ensures ∙ c.if-mark-eq-SUPER.true) (c.need_super-n.ensures.gives _ c.requires.0)
+    c.in-Next.is c.get_variable.ensures
+
+pub overflow_add-result : goal.overflow_add-result
+overflow_add-result c =
+    let b = (get_at _ _ _ _ (sym c.mark_at-mark.ensures ∙ c.if-mark-eq-GET.true) c.requires.1.there.is).bound in omega (arith, b)
+
+pub returns-then-mark-eq-GET : goal.returns-then-mark-eq-GET
+returns-then-mark-eq-GET c =
+    object_open _ _ _ c.requires.0 (omega (arith, c.u16_at.ensures, c.if-u16_at-gt-ARGS.false)) (sym c.mark_at-mark.ensures ∙ c.if-mark-eq-GET.true)
+
+pub overflow_add-result-2 : goal.overflow_add-result-2
+overflow_add-result-2 c = let b = (any_at _ _ _ _ (start).requires.1.there.is).bound in omega (arith, b)
+
+pub returns : goal.returns
+returns c =
+    value_open _ _ _ c.requires.0 (omega (arith, c.u16_at.ensures, c.if-u16_at-gt-ARGS.false)) (λ e. c.if-mark-eq-GET.false (c.mark_at-mark.ensures ∙ e))
+    (λ e. c.if-mark-eq-SUPER.false (c.mark_at-mark.ensures ∙ e))

@@ -1,0 +1,18 @@
+-- After the right side: an opcode, or the operand of a jump.
+-- The places first, each over the one before: of a call `-asked` is the place where it is made, `-left` the call from where its areas have come back,
+-- `-went` and `-halted` the call once its answer is known.
+use Rattle.expr_laws.proofs.Operators.{closed_plain, closed_jump}
+use borrow.Author.Rules.{rules}
+use Rattle.expr_operators.proofs.after_right.Goals as goal
+
+pub returns-then-operator-lt10 : goal.returns-then-operator-lt10
+returns-then-operator-lt10 c =
+    λ class. closed_plain _ _ _ _ c.infix_op.ensures (c.emit_op.ensures class)
+
+pub patch_jump-requires : goal.patch_jump-requires
+patch_jump-requires c =
+    (c.requires.0, c.requires.1 c.if-operator-lt10.false)
+
+pub returns : goal.returns
+returns c =
+    λ class. closed_jump _ _ _ c.if-operator-lt10.false (c.patch_jump.ensures class)

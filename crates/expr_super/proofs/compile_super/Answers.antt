@@ -1,0 +1,38 @@
+-- `compile_super`, line by line.
+-- The places first, each over the one before: of a call `-asked` is the place where it is made, `-left` the call from where its areas have come back,
+-- `-went` and `-halted` the call once its answer is known.
+use Rattle.rules.specs.Compiler.{compile_super}
+use Rattle.steps.proofs.Steps.{went, halt, then_on}
+use borrow.Author.Rules.{rules}
+use Rattle.expr_super.proofs.compile_super.Goals as goal
+
+pub returns-in_default : goal.returns-in_default
+unfolding compile_super
+returns-in_default c =
+    halt _ (c.need_super-n.ensures.gives _ c.requires) c.in_default.is
+
+pub returns-in_default-a : goal.returns-in_default-a
+unfolding compile_super
+returns-in_default-a c =
+    then_on _ (c.need_super-n.ensures.gives _ c.requires) c.in-Next.is (halt _ c.get_variable-a.ensures c.in_default-a.is)
+
+pub get_variable-b-requires : goal.get_variable-b-requires
+get_variable-b-requires c =
+    (went c.get_variable-a.ensures c.in-Next-a.is).ahead.fit
+
+pub returns-in_default-b : goal.returns-in_default-b
+unfolding compile_super
+returns-in_default-b c =
+    then_on _ (c.need_super-n.ensures.gives _ c.requires) c.in-Next.is
+    (then_on _ c.get_variable-a.ensures c.in-Next-a.is (halt _ c.get_variable-b.ensures c.in_default-b.is))
+
+pub emit_op_name-requires : goal.emit_op_name-requires
+emit_op_name-requires c =
+    (went c.get_variable-b.ensures c.in-Next-b.is).ahead.fit
+
+pub returns : goal.returns
+unfolding compile_super
+returns c =
+    then_on _ (c.need_super-n.ensures.gives _ c.requires) c.in-Next.is
+    (then_on _ c.get_variable-a.ensures c.in-Next-a.is
+    (then_on _ c.get_variable-b.ensures c.in-Next-b.is (c.emit_op_name.ensures _)))

@@ -1,0 +1,94 @@
+-- A literal, by its kind.
+-- The places first, each over the one before: of a call `-asked` is the place where it is made, `-left` the call from where its areas have come back,
+-- `-went` and `-halted` the call once its answer is known.
+use mathlib.Core.Path.{sym, ◌∙◌}
+use Rattle.tree_laws.proofs.Expressions.{literal_at, number_at, string_at, last_kind}
+use Rattle.expressions.proofs.Arms.{false_done, true_done, nil_done, number_done, string_done}
+use native.Mathlib.Omega.{arith}
+use borrow.Author.Rules.{rules}
+use Rattle.expressions.proofs.literal.Goals as goal
+
+-- ## The needs
+pub overflow_add-at : goal.overflow_add-at
+overflow_add-at c =
+    let b = (literal_at _ _ _ _ c.requires.2 c.requires.1.there.is).bound in omega (arith, b)
+
+pub u8_at-kind-requires : goal.u8_at-kind-requires
+u8_at-kind-requires c =
+    let b = (literal_at _ _ _ _ c.requires.2 c.requires.1.there.is).bound in omega (arith, b)
+
+pub overflow_add-at-then-kind-eq0 : goal.overflow_add-at-then-kind-eq0
+overflow_add-at-then-kind-eq0 c =
+    let s = start in
+    let b = (literal_at _ _ _ _ s.pre.2 s.pre.1.there.is).bound in omega (arith, b)
+
+pub returns-then-kind-eq0 : goal.returns-then-kind-eq0
+returns-then-kind-eq0 c =
+    λ class d. false_done _ d _ _ c.requires.2 c.requires.3 (sym c.u8_at-kind.ensures ∙ c.if-kind-eq0.true) (c.emit_op.ensures class)
+
+pub overflow_add-at-then-kind-eq1 : goal.overflow_add-at-then-kind-eq1
+overflow_add-at-then-kind-eq1 c =
+    let s = start in
+    let b = (literal_at _ _ _ _ s.pre.2 s.pre.1.there.is).bound in omega (arith, b)
+
+pub returns-then-kind-eq1 : goal.returns-then-kind-eq1
+returns-then-kind-eq1 c =
+    λ class d. true_done _ d _ _ c.requires.2 c.requires.3 (sym c.u8_at-kind.ensures ∙ c.if-kind-eq1.true) (c.emit_op-then-kind-eq1.ensures class)
+
+pub overflow_add-at-then-kind-eq2 : goal.overflow_add-at-then-kind-eq2
+overflow_add-at-then-kind-eq2 c =
+    let s = start in
+    let b = (literal_at _ _ _ _ s.pre.2 s.pre.1.there.is).bound in omega (arith, b)
+
+pub returns-then-kind-eq2 : goal.returns-then-kind-eq2
+returns-then-kind-eq2 c =
+    λ class d. nil_done _ d _ _ c.requires.2 c.requires.3 (sym c.u8_at-kind.ensures ∙ c.if-kind-eq2.true) (c.emit_op-then-kind-eq2.ensures class)
+
+pub overflow_add-at-then-kind-eq3 : goal.overflow_add-at-then-kind-eq3
+overflow_add-at-then-kind-eq3 c =
+    let s = start in
+    let b = (literal_at _ _ _ _ s.pre.2 s.pre.1.there.is).bound in omega (arith, b)
+
+pub u64_at-bits-requires : goal.u64_at-bits-requires
+u64_at-bits-requires c =
+    let b = (number_at _ _ _ (literal_at _ _ _ _ c.requires.2 c.requires.1.there.is) (sym c.u8_at-kind.ensures ∙ c.if-kind-eq3.true)).bound in omega (arith, b)
+
+pub overflow_add-at-then-kind-eq3-2 : goal.overflow_add-at-then-kind-eq3-2
+overflow_add-at-then-kind-eq3-2 c =
+    let if4 = ( in
+    let u8-at = in-4 if4 in
+    let s = start u8-at.before in
+    let b = (number_at _ _ _ (literal_at _ _ _ _ s.pre.2 s.pre.1.there.is) (sym u8-at.u8-at.ensures ∙ if4.if4.taken)).bound in omega (arith, b)
+
+pub returns-then-kind-eq3 : goal.returns-then-kind-eq3
+returns-then-kind-eq3 c =
+    λ class d. number_done _ d _ _ c.requires.2 c.requires.3 _ c.u64_at-bits.ensures
+    (number_at _ _ _ (literal_at _ _ _ _ c.requires.2 c.requires.1.there.is) (sym c.u8_at-kind.ensures ∙ c.if-kind-eq3.true)).small (sym c.u8_at-kind.ensures ∙ c.if-kind-eq3.true)
+    (c.emit_op_constant.ensures class)
+
+pub overflow_add-at-2 : goal.overflow_add-at-2
+overflow_add-at-2 c =
+    let s = start in
+    let b = (literal_at _ _ _ _ s.pre.2 s.pre.1.there.is).bound in omega (arith, b)
+
+pub u16_at-name-requires : goal.u16_at-name-requires
+u16_at-name-requires c =
+    let i = literal_at _ _ _ _ c.requires.2 c.requires.1.there.is in let k = last_kind _ _ _ i (λ e. c.if-kind-eq0.false (c.u8_at-kind.ensures ∙ e)) (λ e. c.if-kind-eq1.false (c.u8_at-kind.ensures ∙ e))
+    (λ e. c.if-kind-eq2.false (c.u8_at-kind.ensures ∙ e)) (λ e. c.if-kind-eq3.false (c.u8_at-kind.ensures ∙ e)) in let b = (string_at _ _ _ i k).bound in omega (arith, b)
+
+pub overflow_add-at-3 : goal.overflow_add-at-3
+overflow_add-at-3 c =
+    let if4 = ( in
+    let if3 = if4.before in
+    let if2 = if3.before in
+    let if1 = if2.before in
+    let u8-at = if1.before in
+    let s = start u8-at.before in
+    let i = literal_at _ _ _ _ s.pre.2 s.pre.1.there.is in let k = last_kind _ _ _ i (λ e. if1.if1.left (u8-at.u8-at.ensures ∙ e)) (λ e. if2.if2.left (u8-at.u8-at.ensures ∙ e))
+    (λ e. if3.if3.left (u8-at.u8-at.ensures ∙ e)) (λ e. if4.if4.left (u8-at.u8-at.ensures ∙ e)) in let b = (string_at _ _ _ i k).bound in omega (arith, b)
+
+pub returns : goal.returns
+returns c =
+    λ class d. string_done _ d _ _ c.requires.2 c.requires.3 _ c.u16_at-name.ensures
+    (last_kind _ _ _ (literal_at _ _ _ _ c.requires.2 c.requires.1.there.is) (λ e. c.if-kind-eq0.false (c.u8_at-kind.ensures ∙ e)) (λ e. c.if-kind-eq1.false (c.u8_at-kind.ensures ∙ e))
+    (λ e. c.if-kind-eq2.false (c.u8_at-kind.ensures ∙ e)) (λ e. c.if-kind-eq3.false (c.u8_at-kind.ensures ∙ e))) (c.emit_op_name.ensures class)

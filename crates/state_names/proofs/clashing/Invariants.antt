@@ -1,0 +1,17 @@
+-- `clashing` meets its contract. A scan from the top down: what it has passed decides nothing.
+use Prim.Native.Nat.{ℕ, ◌+◌, ◌-◌, ◌≤◌, ◌<◌}
+use native.Mathlib.Omega.{arith}
+use mathlib.Core.Path.{◌≡◌, sym, ◌∙◌}
+use lib.ListN.{get_or}
+use borrow.Author.Tests.{lt-ltb}
+use borrow.Author.Rules.{rules}
+use Rattle.rules.specs.Compiler.{Local, declared_here}
+use Rattle.state_names.proofs.Declare as ways
+use Rattle.state.specs.Layout.{stack, local_of}
+use Rattle.state_names.proofs.clashing.Given as goal
+
+abbrev pub invariant-loop-i : goal.invariant-loop-i
+invariant-loop-i l = (l.i ≤ l.n) × (declared_here l.depth l.name (stack (λ j. local_of (get_or l.t (l.base + j) 0)) l.i) ≡ declared_here l.depth l.name (stack (λ j. local_of (get_or l.t (l.base + j) 0)) l.n))
+
+abbrev pub decreases-loop-i : goal.decreases-loop-i
+decreases-loop-i l = l.i

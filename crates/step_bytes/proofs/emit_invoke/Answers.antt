@@ -1,0 +1,30 @@
+-- `emit_invoke` meets its contract.
+use borrow.Author.Rules.{rules}
+use Rattle.rules.specs.Compiler.{emit_op, emit_invoke}
+use Rattle.steps.proofs.Steps.{went, halt, then_on}
+use Rattle.step_bytes.proofs.Bytes as ways
+use Rattle.step_bytes.proofs.emit_invoke.Goals as goal
+
+pub returns-in_default : goal.returns-in_default
+unfolding emit_op emit_invoke
+returns-in_default c = λ class. halt _ (c.emit_op-a.ensures class) c.in_default.is
+
+pub emit_constant-b-requires : goal.emit_constant-b-requires
+emit_constant-b-requires c = (went (c.emit_op-a.ensures 0) c.in-Next.is).ahead.fit
+
+pub returns-in_default-b : goal.returns-in_default-b
+unfolding emit_op emit_invoke
+returns-in_default-b c =
+    λ class. then_on _ (c.emit_op-a.ensures class) c.in-Next.is
+    (halt _ (ways.constant-is c.args.span c.name_word.ensures
+    (c.emit_constant-b.ensures class)) c.in_default-b.is)
+
+pub emit_op-requires : goal.emit_op-requires
+emit_op-requires c = (went (c.emit_constant-b.ensures 0) c.in-Next-b.is).ahead.fit
+
+pub returns : goal.returns
+unfolding emit_op emit_invoke
+returns c =
+    λ class. then_on _ (c.emit_op-a.ensures class) c.in-Next.is
+    (then_on _ (ways.constant-is c.args.span c.name_word.ensures
+    (c.emit_constant-b.ensures class)) c.in-Next-b.is (c.emit_op.ensures class))

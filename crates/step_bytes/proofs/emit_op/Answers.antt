@@ -1,0 +1,18 @@
+-- `emit_op` meets its contract.
+use borrow.Author.Rules.{rules}
+use Rattle.rules.specs.Compiler.{emit_op}
+use Rattle.steps.proofs.Steps.{next, stop}
+use Rattle.step_bytes.proofs.Bytes as ways
+use Rattle.step_bytes.proofs.emit_op.Goals as goal
+
+pub returns-in_default : goal.returns-in_default
+unfolding emit_op
+returns-in_default c =
+    λ class. let a = c.args in stop _ (ways.byte_full a.level a.limit a.byte a.span _ _ _ _ _ _ _ c.requires
+    c.emit_u8-r.ensures c.in_default.is)
+
+pub returns : goal.returns
+unfolding emit_op
+returns c =
+    λ class. let a = c.args in next (ways.byte-gave a.level a.limit a.byte a.span _ _ _ _ _ _ _ c.requires
+    c.emit_u8-r.ensures c.in-Done.is)

@@ -1,0 +1,9 @@
+-- `emit_op_name` meets its contract.
+use borrow.Author.Rules.{rules}
+use Rattle.step_bytes.proofs.Bytes as ways
+use Rattle.step_bytes.proofs.emit_op_name.Goals as goal
+
+pub returns : goal.returns
+returns c =
+    λ class. let a = c.args in ways.op-constant-is a.op a.span c.name_word.ensures
+    (c.emit_op_constant.ensures class)

@@ -1,0 +1,16 @@
+-- `emit_op_u8` meets its contract.
+use borrow.Author.Rules.{rules}
+use Rattle.rules.specs.Compiler.{emit_op, emit_op_u8}
+use Rattle.steps.proofs.Steps.{went, halt, then_on}
+use Rattle.step_bytes.proofs.emit_op_u8.Goals as goal
+
+pub returns-in_default : goal.returns-in_default
+unfolding emit_op emit_op_u8
+returns-in_default c = λ class. halt _ (c.emit_op-a.ensures class) c.in_default.is
+
+pub emit_op-requires : goal.emit_op-requires
+emit_op-requires c = (went (c.emit_op-a.ensures 0) c.in-Next.is).ahead.fit
+
+pub returns : goal.returns
+unfolding emit_op emit_op_u8
+returns c = λ class. then_on _ (c.emit_op-a.ensures class) c.in-Next.is (c.emit_op.ensures class)

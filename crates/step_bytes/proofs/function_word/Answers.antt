@@ -1,0 +1,7 @@
+-- `function_word` meets its contract.
+use borrow.Author.Rules.{rules}
+use Rattle.state_code.proofs.Constant as words
+use Rattle.step_bytes.proofs.function_word.Goals as goal
+
+pub returns : goal.returns
+returns c = words.function-word c.args.number

@@ -1,0 +1,63 @@
+-- `emit_jump` meets its contract.
+use native.Mathlib.Omega.{arith}
+use mathlib.Core.List.{[]}
+use borrow.Author.Rules.{rules}
+use Rattle.rules.specs.Compiler.{emit_op, emit_jump}
+use Rattle.steps.proofs.Steps.{went, halt_to, then_to}
+use Rattle.step_bytes.proofs.Bytes.{longer}
+use Rattle.steps.proofs.Jumps as ways
+use Rattle.steps.specs.View.{code_len}
+use Rattle.step_jumps.proofs.emit_jump.Goals as goal
+
+pub returns-in_default : goal.returns-in_default
+unfolding emit_jump emit_op code_len
+returns-in_default c = λ class. halt_to _ (c.emit_op-a.ensures class) c.in_default.is
+
+pub emit_op-b-requires : goal.emit_op-b-requires
+emit_op-b-requires c = (went (c.emit_op-a.ensures 0) c.in-Next.is).ahead.fit
+
+pub returns-in_default-b : goal.returns-in_default-b
+unfolding emit_jump emit_op code_len
+returns-in_default-b c =
+    λ class. then_to _ (c.emit_op-a.ensures class) c.in-Next.is
+    (halt_to _ (c.emit_op-b.ensures class) c.in_default-b.is)
+
+pub emit_op-d-requires : goal.emit_op-d-requires
+emit_op-d-requires c = (went (c.emit_op-b.ensures 0) c.in-Next-b.is).ahead.fit
+
+pub returns-in_default-d : goal.returns-in_default-d
+unfolding emit_jump emit_op code_len
+returns-in_default-d c =
+    λ class. then_to _ (c.emit_op-a.ensures class) c.in-Next.is
+    (then_to _ (c.emit_op-b.ensures class) c.in-Next-b.is
+    (halt_to _ (c.emit_op-d.ensures class) c.in_default-d.is))
+
+pub code_length-n-requires : goal.code_length-n-requires
+code_length-n-requires c = let f = (went (c.emit_op-d.ensures 0) c.in-Next-d.is).ahead.fit in (f.low, f.wf.size, f.coded.top)
+
+pub overflow_sub-result : goal.overflow_sub-result
+unfolding emit_jump emit_op code_len
+overflow_sub-result c =
+    omega (
+      arith,
+      c.code_length-n.ensures.is [] [],
+      longer _ _ (c.emit_op-b.ensures 0)
+          c.in-Next-b.is,
+      longer _ _ (c.emit_op-d.ensures 0) c.in-Next-d.is,
+    )
+
+pub returns : goal.returns
+unfolding emit_jump emit_op code_len
+returns c = λ class.
+    let f = (went (c.emit_op-d.ensures 0) c.in-Next-d.is).ahead.fit in
+    then_to _ (c.emit_op-a.ensures class) c.in-Next.is
+    (then_to _ (c.emit_op-b.ensures class) c.in-Next-b.is
+    (then_to _ (c.emit_op-d.ensures class) c.in-Next-d.is
+    (ways.open-place _ f (c.code_length-n.ensures.is [] [])
+    (omega (
+      arith,
+      c.code_length-n.ensures.is [] [],
+      longer _ _ (c.emit_op-b.ensures 0)
+          c.in-Next-b.is,
+      longer _ _ (c.emit_op-d.ensures 0) c.in-Next-d.is,
+    )))))

@@ -1,0 +1,53 @@
+-- `emit_loop` meets its contract.
+use native.Mathlib.Omega.{arith}
+use mathlib.Core.Path.{refl}
+use mathlib.Core.List.{[]}
+use borrow.Author.Tests.{le-leb, lt-leb}
+use borrow.Author.Rules.{rules}
+use Rattle.rules.specs.Compiler.{emit_op, emit_loop}
+use Rattle.steps.specs.Why.{jump_too_large, refusal_of}
+use Rattle.steps.proofs.Steps.{went, halt, then_on, stop, ask, ask_seq, ask_refused, refused_seq, passed, failed}
+use Rattle.steps.specs.View.{code_len}
+use Rattle.step_jumps.proofs.emit_loop.Goals as goal
+
+pub overflow_add-back : goal.overflow_add-back
+unfolding code_len
+overflow_add-back c = omega (arith, c.code_length.ensures.is [] [], c.requires.0.coded.within, c.requires.0.coded.roomCode)
+
+pub overflow_sub-back : goal.overflow_sub-back
+unfolding code_len
+overflow_sub-back c = omega (arith, c.code_length.ensures.is [] [], c.requires.1)
+
+pub returns-then-back-gt-JUMP : goal.returns-then-back-gt-JUMP
+unfolding emit_loop emit_op refusal_of
+returns-then-back-gt-JUMP c =
+    λ class. let a = c.args in stop _ (ask_refused (c.code_length.ensures.says class a.code.now a.spans.now) _
+    (refused_seq (failed _ (jump_too_large a.level a.span) refl (lt-leb _ _ c.if-back-gt-JUMP.true)) _))
+
+pub returns-in_default : goal.returns-in_default
+unfolding emit_loop emit_op
+returns-in_default c =
+    λ class. let a = c.args in ask (c.code_length.ensures.says class a.code.now a.spans.now) _
+    (ask_seq (passed _ _ (le-leb _ _ c.if-back-gt-JUMP.false)) _ (halt _ (c.emit_op-a.ensures class) c.in_default.is))
+
+pub emit_op-b-requires : goal.emit_op-b-requires
+emit_op-b-requires c = (went (c.emit_op-a.ensures 0) c.in-Next.is).ahead.fit
+
+pub returns-in_default-b : goal.returns-in_default-b
+unfolding emit_loop emit_op
+returns-in_default-b c =
+    λ class. let a = c.args in ask (c.code_length.ensures.says class a.code.now a.spans.now) _
+    (ask_seq (passed _ _ (le-leb _ _ c.if-back-gt-JUMP.false)) _
+    (then_on _ (c.emit_op-a.ensures class) c.in-Next.is
+    (halt _ (c.emit_op-b.ensures class) c.in_default-b.is)))
+
+pub emit_op-requires : goal.emit_op-requires
+emit_op-requires c = (went (c.emit_op-b.ensures 0) c.in-Next-b.is).ahead.fit
+
+pub returns : goal.returns
+unfolding emit_loop emit_op
+returns c =
+    λ class. let a = c.args in ask (c.code_length.ensures.says class a.code.now a.spans.now) _
+    (ask_seq (passed _ _ (le-leb _ _ c.if-back-gt-JUMP.false)) _
+    (then_on _ (c.emit_op-a.ensures class) c.in-Next.is
+    (then_on _ (c.emit_op-b.ensures class) c.in-Next-b.is (c.emit_op.ensures class))))

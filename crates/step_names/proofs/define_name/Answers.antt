@@ -1,0 +1,33 @@
+-- `define_name` meets its contract.
+use borrow.Author.Rules.{rules}
+use Rattle.rules.specs.Compiler.{define_name, define_global}
+use Rattle.steps.proofs.Steps.{went, halt, then_on, next, ask, chosen, otherwise}
+use Rattle.step_names.proofs.define_name.Goals as goal
+
+pub returns-then-is_global : goal.returns-then-is_global
+unfolding define_name define_global
+returns-then-is_global c =
+    λ class. let a = c.args in ask (c.is_global.ensures.says a.code.now a.spans.now) _
+    (chosen _ _ _ c.if-is_global.true (c.emit_op_name.ensures class))
+
+pub returns-in_default : goal.returns-in_default
+unfolding define_name define_global
+returns-in_default c =
+    λ class. let a = c.args in ask (c.is_global.ensures.says a.code.now a.spans.now) _
+    (otherwise _ _ _ c.if-is_global.false (halt _
+    (c.declare_local-a.ensures.gives a.code.now a.spans.now c.requires) c.in_default.is))
+
+pub define_local-requires : goal.define_local-requires
+define_local-requires c =
+    let a = c.args in let f = (went
+    (c.declare_local-a.ensures.gives {class = 0} a.code.now a.spans.now c.requires)
+    c.in-Next.is).ahead.fit in (f.low, f.wf)
+
+pub returns : goal.returns
+unfolding define_name define_global
+returns c = λ class. let a = c.args in
+    let d = c.declare_local-a.ensures.gives {class = class} a.code.now a.spans.now c.requires in
+    ask (c.is_global.ensures.says a.code.now a.spans.now) _
+    (otherwise _ _ _ c.if-is_global.false
+    (then_on _ d c.in-Next.is
+    (next (c.define_local.ensures.gives a.code.now a.spans.now (went d c.in-Next.is).ahead.fit))))

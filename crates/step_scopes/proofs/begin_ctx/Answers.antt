@@ -1,0 +1,7 @@
+-- `begin_ctx` meets its contract.
+use borrow.Author.Rules.{rules}
+use Rattle.step_scopes.proofs.Scopes as ways
+use Rattle.step_scopes.proofs.begin_ctx.Goals as goal
+
+pub returns : goal.returns
+returns c = let a = c.args in ways.entered a.level a.name a.arity a.kind _ _ c.requires.0 c.begin_ctx.ensures

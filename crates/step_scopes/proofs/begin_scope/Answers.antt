@@ -1,0 +1,8 @@
+-- `begin_scope` meets its contract.
+use mathlib.Core.Path.{refl}
+use borrow.Author.Rules.{rules}
+use Rattle.step_scopes.proofs.Scopes as ways
+use Rattle.step_scopes.proofs.begin_scope.Goals as goal
+
+pub returns : goal.returns
+returns c = let a = c.args in ways.scope-begun a.level _ _ _ c.move_scope.ensures refl

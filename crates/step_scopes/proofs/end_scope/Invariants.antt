@@ -1,0 +1,19 @@
+-- `end_scope` meets its contract. The loop's invariant: what is left to pop comes to the same from where the loop began and from where it stands. The measure is the number of locals.
+use Prim.Native.Nat.{◌+◌, ◌*◌}
+use native.Mathlib.Omega.{arith}
+use mathlib.Core.Path.{◌≡◌, refl}
+use lib.ListN.{length, get_or}
+use borrow.Author.Rules.{rules}
+use Rattle.step_scopes.proofs.Scopes as ways
+use Rattle.steps.proofs.Steps.{next, stop}
+use Rattle.steps.specs.View.{mem, pops, Passing}
+use Rattle.steps.specs.declared.Popped.TheVariants as popped
+use Rattle.state.specs.Layout.{level_words, local_count_place}
+use Rattle.step_scopes.proofs.end_scope.Given as goal
+
+abbrev pub invariant-loop : goal.invariant-loop
+invariant-loop l =
+    (Passing l.limit l.level (pops l.limit l.span) (mem l.initial.t l.initial.code l.initial.spans) (mem l.t l.code l.spans)) × (length l.t ≡ length l.initial.t) × (length l.code ≡ length l.initial.code) × (length l.spans ≡ length l.initial.spans)
+
+abbrev pub decreases-loop : goal.decreases-loop
+decreases-loop l = get_or l.t (l.level * level_words + local_count_place) 0

@@ -1,0 +1,8 @@
+-- `is_global` meets its contract.
+use mathlib.Core.Path.{refl}
+use borrow.Author.Rules.{rules}
+use Rattle.step_scopes.proofs.Scopes as ways
+use Rattle.step_scopes.proofs.is_global.Goals as goal
+
+pub returns : goal.returns
+returns c = let a = c.args in ways.global-asked a.level a.t.now _ refl

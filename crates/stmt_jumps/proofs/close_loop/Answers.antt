@@ -1,0 +1,38 @@
+-- The jump back, and where there is a condition the end that its jump lands on. The places first, each over the one before: of a call `-asked` is the place where it is made,
+-- `-left` the call from where its areas have come back, `-went` and `-halted` the call once its answer is known.
+use mathlib.Core.Path.{◌≡◌}
+use mathlib.Core.Bool.{true}
+use borrow.Author.Rules.{rules}
+use Rattle.steps.proofs.Steps.{went, still}
+use Rattle.stmt_jumps.proofs.Loops as ways
+use Rattle.stmt_jumps.proofs.close_loop.Goals as goal
+
+has : (c : goal.Else-not-has_cond) → (start (back-asked (back-went c.before).before)).args.has-cond ≡ true
+has c = ways.there-is (start (back-asked)).args.has-cond c.if-not-has_cond.false
+
+pub returns-in_default : goal.returns-in_default
+returns-in_default c =
+    λ class. ways.loop-stop _ _ _ c.args.has-cond (c.emit_loop-a.ensures class) c.in_default.is
+
+pub returns-then-not-has_cond : goal.returns-then-not-has_cond
+returns-then-not-has_cond c =
+    λ class. ways.loop-plain _ _ _ c.args.has-cond (ways.there-is-none c.args.has-cond c.if-not-has_cond.true) (c.emit_loop-a.ensures class) c.in-Next.is
+
+pub patch_jump-b-requires : goal.patch_jump-b-requires
+patch_jump-b-requires c =
+    let g = went (c.emit_loop-a.ensures 0) c.in-Next.is in
+    (g.ahead.fit, still _ (c.requires.2 (has c.before.before.before)) g)
+
+pub returns-in_default-b : goal.returns-in_default-b
+returns-in_default-b c =
+    λ class. ways.loop-patch-stop _ _ _ c.args.has-cond (has c.before.before.before.before.before.before.before.before.before.before.before.before) (c.emit_loop-a.ensures class) c.in-Next.is (c.patch_jump-b.ensures class)
+    c.in_default-b.is
+
+pub emit_op-requires : goal.emit_op-requires
+emit_op-requires c =
+    (went (c.patch_jump-b.ensures 0) c.in-Next-b.is).ahead.fit
+
+pub returns : goal.returns
+returns c =
+    λ class. ways.loop-done _ _ _ c.args.has-cond (has c.before.before.before.before.before.before.before.before.before.before.before.before.before.before.before.before.before.before.before.before.before.before) (c.emit_loop-a.ensures class) c.in-Next.is (c.patch_jump-b.ensures class)
+    c.in-Next-b.is (c.emit_op.ensures class)

@@ -1,0 +1,22 @@
+-- A jump, and the value that it tests is dropped.
+-- The places first, each over the one before: of a call `-asked` is the place where it is made, `-left` the call from where its areas have come back,
+-- `-went` and `-halted` the call once its answer is known.
+use Rattle.steps.proofs.Steps.{went_to}
+use Rattle.stmt_jumps.proofs.Jumps.{open_stop, open_done}
+use borrow.Author.Rules.{rules}
+use Rattle.stmt_jumps.proofs.open_jump.Goals as goal
+
+pub returns-in_default : goal.returns-in_default
+returns-in_default c = λ class. open_stop _ (c.emit_jump-a.ensures class) c.in_default.is
+
+pub emit_op-requires : goal.emit_op-requires
+emit_op-requires c =
+    let a' = ( in
+    let emit_jump = emit-jump-left a'.before.before in
+    (went_to (emit_jump.emit-jump.ensures 0) a'.a.given.1).ahead.fit
+
+pub returns : goal.returns
+returns c =
+    let a' = ( in
+    let emit_jump = emit-jump-left a'.before.before in
+    λ class. open_done _ (emit_jump.emit-jump.ensures class) a'.a.given.1 (c.emit_op.ensures class)

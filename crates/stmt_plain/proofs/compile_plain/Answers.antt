@@ -1,0 +1,39 @@
+-- By the mark. The places first, each over the one before: of a call `-asked` is the place where it is made,
+-- `-left` the call from where its areas have come back.
+use mathlib.Core.Path.{sym, ◌∙◌}
+use native.Mathlib.Omega.{arith}
+use borrow.Author.Rules.{rules}
+use Rattle.stmt_plain_laws.proofs.Values.{bound, last_return}
+use Rattle.stmt_plain.proofs.compile_plain.Goals as goal
+
+-- ## The needs
+pub mark_at-mark-requires : goal.mark_at-mark-requires
+mark_at-mark-requires c = let b = bound c.requires.0 in omega (arith, b)
+
+pub stmt_expr-requires : goal.stmt_expr-requires
+stmt_expr-requires c =
+    (c.requires.0, sym c.mark_at-mark.ensures ∙ c.if-mark-eq-EXPRESSION.true, c.requires.2)
+
+pub returns-then-mark-eq-EXPRESSION : goal.returns-then-mark-eq-EXPRESSION
+returns-then-mark-eq-EXPRESSION c = c.stmt_expr.ensures
+
+pub stmt_print-requires : goal.stmt_print-requires
+stmt_print-requires c =
+    (c.requires.0, sym c.mark_at-mark.ensures ∙ c.if-mark-eq-PRINT.true, c.requires.2)
+
+pub returns-then-mark-eq-PRINT : goal.returns-then-mark-eq-PRINT
+returns-then-mark-eq-PRINT c = c.stmt_print.ensures
+
+pub compile_var-requires : goal.compile_var-requires
+compile_var-requires c =
+    (c.requires.0, sym c.mark_at-mark.ensures ∙ c.if-mark-eq-VAR.true, c.requires.2)
+
+pub returns-then-mark-eq-VAR : goal.returns-then-mark-eq-VAR
+returns-then-mark-eq-VAR c = c.compile_var.ensures
+
+pub compile_return-requires : goal.compile_return-requires
+compile_return-requires c =
+    (c.requires.0, last_return c.requires.0 c.requires.1 c.mark_at-mark.ensures c.if-mark-eq-EXPRESSION.false c.if-mark-eq-PRINT.false c.if-mark-eq-VAR.false, c.requires.2)
+
+pub returns : goal.returns
+returns c = c.compile_return.ensures

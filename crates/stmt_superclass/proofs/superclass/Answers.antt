@@ -1,0 +1,19 @@
+-- The superclass by the flag: there is one, or none.
+use mathlib.Core.Path.{sym, ◌∙◌}
+use Rattle.stmt_heads.proofs.Heads.{head_room}
+use Rattle.stmt_superclass.proofs.Inheriting.{superclass_there, superclass_none}
+use borrow.Author.Rules.{rules}
+use Rattle.stmt_superclass.proofs.superclass.Goals as goal
+
+pub inherit-requires : goal.inherit-requires
+inherit-requires c = (
+  head_room _ _ c.requires.0 (sym c.u8_at.ensures ∙ c.if-u8_at-eq1.true),
+  c.requires.1,
+  c.requires.2,
+)
+
+pub returns-then-u8_at-eq1 : goal.returns-then-u8_at-eq1
+returns-then-u8_at-eq1 c = superclass_there _ _ _ _ (sym c.u8_at.ensures ∙ c.if-u8_at-eq1.true) c.inherit.ensures
+
+pub returns : goal.returns
+returns c = superclass_none _ _ _ _ (λ h. c.if-u8_at-eq1.false (c.u8_at.ensures ∙ h)) c.requires.1

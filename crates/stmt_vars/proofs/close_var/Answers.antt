@@ -1,0 +1,14 @@
+-- A global is defined by an instruction, a local by its mark. The places first, each over the one before: of a call `-asked` is the place where it is made,
+-- `-left` the call from where its areas have come back.
+use borrow.Author.Rules.{rules}
+use Rattle.stmt_vars.proofs.Vars as ways
+use Rattle.stmt_vars.proofs.close_var.Goals as goal
+
+pub returns-then-global : goal.returns-then-global
+returns-then-global c =
+    λ class. ways.closed-global _ _ _ _ _ c.if-global.true (c.emit_op_name.ensures class)
+
+pub returns : goal.returns
+returns c =
+    let a = c.args in
+    λ class. ways.closed-local a.level a.next _ a.name a.span a.code.now a.spans.now c.if-global.false c.requires c.define_local.ensures

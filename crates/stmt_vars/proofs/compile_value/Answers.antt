@@ -1,0 +1,17 @@
+-- The value, or NIL. The places first, each over the one before: of a call `-asked` is the place where it is made,
+-- `-left` the call from where its areas have come back, `-went` and `-halted` the call once its answer is known.
+use borrow.Author.Rules.{rules}
+use Rattle.stmt_plain_laws.proofs.Values as ways
+use Rattle.stmt_vars.proofs.compile_value.Goals as goal
+
+pub returns-then-flag-eq0 : goal.returns-then-flag-eq0
+returns-then-flag-eq0 c =
+    λ d. ways.value_none _ d _ _ _ c.if-flag-eq0.true (c.emit_op.ensures _)
+
+pub compile_expr-requires : goal.compile_expr-requires
+compile_expr-requires c =
+    (ways.value_there c.if-flag-eq0.false c.requires.0, c.requires.1)
+
+pub returns : goal.returns
+returns c =
+    λ d. ways.value-some _ d _ _ _ c.if-flag-eq0.false (c.compile_expr.ensures d)

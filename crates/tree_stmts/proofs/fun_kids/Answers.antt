@@ -1,0 +1,32 @@
+-- `fun_kids` meets its contract.
+use native.Mathlib.Omega.{arith}
+use Rattle.rules.specs.declared.Refusal.TheVariants.{TreeForm}
+use Rattle.tree_stmts.proofs.Statements.{moved, fun_unnamed, fun_cut, fun_params_bad, fun_is}
+use borrow.Author.Rules.{rules}
+use Rattle.tree_stmts.proofs.fun_kids.Goals as goal
+
+pub returns-in_default : goal.returns-in_default
+returns-in_default c =
+    fun_unnamed c.args.tree.now c.args.start c.args.funs
+    c.args.names (c.name_at.ensures.no c.in_default.is (TreeForm c.args.start))
+
+pub returns-in_default-count_at : goal.returns-in_default-count_at
+returns-in_default-count_at c =
+    fun_cut c.args.tree.now c.args.start c.args.funs
+    c.args.names (moved (c.name_at.ensures.is _ c.in-Is.is
+    (TreeForm c.args.start)) (omega arith)) (c.count_at.ensures.no c.in_default-count_at.is (TreeForm c.args.start))
+
+pub returns-in-Bad : goal.returns-in-Bad
+returns-in-Bad c =
+    fun_params_bad c.args.tree.now c.args.start c.args.funs
+    c.args.names (moved (c.name_at.ensures.is _ c.in-Is.is
+    (TreeForm c.args.start)) (omega arith))
+    (moved (c.count_at.ensures.is _ c.in-Is-count_at.is
+    (TreeForm c.args.start)) (omega arith)) c.names_at.ensures c.in-Bad.is
+
+pub returns-in-At : goal.returns-in-At
+returns-in-At c =
+    fun_is c.args.tree.now c.args.start c.args.funs c.args.names
+    (moved (c.name_at.ensures.is _ c.in-Is.is (TreeForm c.args.start))
+    (omega arith)) (moved (c.count_at.ensures.is _ c.in-Is-count_at.is
+    (TreeForm c.args.start)) (omega arith)) c.names_at.ensures c.in-At.is c.body_kids.ensures

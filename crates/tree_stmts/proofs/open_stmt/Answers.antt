@@ -1,0 +1,53 @@
+-- `open_stmt` meets its contract: one law for each way out.
+use mathlib.Core.Logic.{⊎_elim}
+use Rattle.tree_small.proofs.Places.{cut, there}
+use Rattle.tree_stmts.proofs.Statements.{stmt_known, no_stmt, deep_stmt, full_stmt, cut_stmt, opens_bad, opens_kids, some_left}
+use borrow.Author.Rules.{rules}
+use Rattle.tree_stmts.proofs.open_stmt.Goals as goal
+
+pub returns-then-mark-eq0 : goal.returns-then-mark-eq0
+returns-then-mark-eq0 c =
+    opens_bad c.args.tree.now c.args.names c.args.depth
+    c.args.funs c.args.method c.args.start
+    (no_stmt c.args.tree.now c.args.names c.args.depth
+    c.args.funs c.args.method c.args.start c.stmt_mark-mark.ensures c.if-mark-eq0.true)
+
+pub returns-then-depth-eq0 : goal.returns-then-depth-eq0
+returns-then-depth-eq0 c =
+    opens_bad c.args.tree.now c.args.names c.args.depth c.args.funs
+    c.args.method c.args.start
+    (deep_stmt c.args.tree.now c.args.names c.args.depth c.args.funs
+    c.args.method c.args.start
+    (stmt_known c.args.tree.now c.args.start c.args.method
+    c.stmt_mark-mark.ensures c.if-mark-eq0.false) c.if-depth-eq0.true)
+
+pub returns-then-funs-eq0 : goal.returns-then-funs-eq0
+returns-then-funs-eq0 c =
+    opens_bad c.args.tree.now c.args.names c.args.depth c.args.funs
+    c.args.method c.args.start
+    (full_stmt c.args.tree.now c.args.names c.args.depth c.args.funs
+    c.args.method c.args.start
+    (stmt_known c.args.tree.now c.args.start c.args.method
+    c.stmt_mark-mark.ensures c.if-mark-eq0.false) c.if-depth-eq0.false c.if-mark-eq-FUN.true c.if-funs-eq0.true)
+
+pub returns-then-not-has : goal.returns-then-not-has
+returns-then-not-has c =
+    opens_bad c.args.tree.now c.args.names c.args.depth c.args.funs
+    c.args.method c.args.start
+    (cut_stmt c.args.tree.now c.args.names c.args.depth c.args.funs
+    c.args.method c.args.start
+    (stmt_known c.args.tree.now c.args.start c.args.method
+    c.stmt_mark-mark.ensures c.if-mark-eq0.false) c.if-depth-eq0.false
+    (⊎_elim (λ w e. some_left w.1.left) (λ w e. absurd (w.left e)) c.if-mark-eq-FUN.branch) (cut c.has.ensures c.if-not-has.true))
+
+pub stmt_kids-requires : goal.stmt_kids-requires
+stmt_kids-requires c = (there c.has.ensures c.if-not-has.false, ⊎_elim (λ w e. some_left w.1.left) (λ w e. absurd (w.left e)) c.if-mark-eq-FUN.branch)
+
+pub returns : goal.returns
+returns c =
+    opens_kids c.args.tree.now c.args.names c.args.depth
+    c.args.funs c.args.method c.args.start
+    (stmt_known c.args.tree.now c.args.start c.args.method
+    c.stmt_mark-mark.ensures c.if-mark-eq0.false) c.if-depth-eq0.false
+    (⊎_elim (λ w e. some_left w.1.left) (λ w e. absurd (w.left e)) c.if-mark-eq-FUN.branch)
+    (there c.has.ensures c.if-not-has.false) c.stmt_kids.ensures

@@ -1,0 +1,17 @@
+-- `return_kids` meets its contract.
+use native.Mathlib.Omega.{arith}
+use Rattle.rules.specs.declared.Refusal.TheVariants.{TreeForm}
+use Rattle.tree_stmts.proofs.Statements.{moved, return_no, return_is}
+use borrow.Author.Rules.{rules}
+use Rattle.tree_stmts.proofs.return_kids.Goals as goal
+
+pub returns-in_default : goal.returns-in_default
+returns-in_default c =
+    return_no c.args.tree.now c.args.start
+    (c.byte_at.ensures.no c.in_default.is (TreeForm c.args.start))
+
+pub returns : goal.returns
+returns c =
+    return_is c.args.tree.now c.args.start
+    (c.byte_at.ensures.small _ c.in-Is.is)
+    (moved (c.byte_at.ensures.is _ c.in-Is.is (TreeForm c.args.start)) (omega arith))
