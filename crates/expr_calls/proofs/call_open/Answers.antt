@@ -34,7 +34,7 @@ overflow_add-at-then-mark-eq-SUPER c =
     let if2 = ( in
     let mark-at = if2.before in
     let s = start mark-at.before.before.before in
-    let b = (super_at _ _ _ _ (sym mark-at.mark-at.ensures ∙ if2.if2.taken) s.pre.1.there.is).bound in omega (arith, b)
+    let b = (super_at _ _ _ _ (sym mark-at.mark_at.ensures ∙ if2.if2.taken) s.pre.1.there.is).bound in omega (arith, b)
 
 pub returns-then-mark-eq-SUPER : goal.returns-then-mark-eq-SUPER
 returns-then-mark-eq-SUPER c =

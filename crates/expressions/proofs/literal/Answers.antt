@@ -58,7 +58,7 @@ overflow_add-at-then-kind-eq3-2 c =
     let if4 = ( in
     let u8-at = in-4 if4 in
     let s = start u8-at.before in
-    let b = (number_at _ _ _ (literal_at _ _ _ _ s.pre.2 s.pre.1.there.is) (sym u8-at.u8-at.ensures ∙ if4.if4.taken)).bound in omega (arith, b)
+    let b = (number_at _ _ _ (literal_at _ _ _ _ s.pre.2 s.pre.1.there.is) (sym u8-at.u8_at.ensures ∙ if4.if4.taken)).bound in omega (arith, b)
 
 pub returns-then-kind-eq3 : goal.returns-then-kind-eq3
 returns-then-kind-eq3 c =
@@ -84,8 +84,8 @@ overflow_add-at-3 c =
     let if1 = if2.before in
     let u8-at = if1.before in
     let s = start u8-at.before in
-    let i = literal_at _ _ _ _ s.pre.2 s.pre.1.there.is in let k = last_kind _ _ _ i (λ e. if1.if1.left (u8-at.u8-at.ensures ∙ e)) (λ e. if2.if2.left (u8-at.u8-at.ensures ∙ e))
-    (λ e. if3.if3.left (u8-at.u8-at.ensures ∙ e)) (λ e. if4.if4.left (u8-at.u8-at.ensures ∙ e)) in let b = (string_at _ _ _ i k).bound in omega (arith, b)
+    let i = literal_at _ _ _ _ s.pre.2 s.pre.1.there.is in let k = last_kind _ _ _ i (λ e. if1.if1.left (u8-at.u8_at.ensures ∙ e)) (λ e. if2.if2.left (u8-at.u8_at.ensures ∙ e))
+    (λ e. if3.if3.left (u8-at.u8_at.ensures ∙ e)) (λ e. if4.if4.left (u8-at.u8_at.ensures ∙ e)) in let b = (string_at _ _ _ i k).bound in omega (arith, b)
 
 pub returns : goal.returns
 returns c =

@@ -15,17 +15,17 @@ loop-i-preserved c =
     let a = c.args in
     let i = c.loop-i.i in
     let f : ℕ → Local = λ j. local_of (get_or a.t.now (a.base + j) 0) in
-    (omega arith, sym (ways.clash-skip f a.name a.depth i (omega arith) c.if-w-depth.false c.if-w-name.false) ∙ c.loop-i.invariant.1)
+    (omega arith, sym (ways.clash_skip f a.name a.depth i (omega arith) c.if-w-depth.false c.if-w-name.false) ∙ c.loop-i.invariant.1)
 
 pub returns-then-i-eq0 : goal.returns-then-i-eq0
 returns-then-i-eq0 c =
     let a = c.args in
-    sym (ways.clash-none (λ j. local_of (get_or a.t.now (a.base + j) 0)) a.name a.depth c.loop-i.i c.if-i-eq0.true) ∙ c.loop-i.invariant.1
+    sym (ways.clash_none (λ j. local_of (get_or a.t.now (a.base + j) 0)) a.name a.depth c.loop-i.i c.if-i-eq0.true) ∙ c.loop-i.invariant.1
 
 pub returns-then-w-depth : goal.returns-then-w-depth
 returns-then-w-depth c =
     let a = c.args in
-    sym (ways.clash-stop (λ j. local_of (get_or a.t.now (a.base + j) 0)) a.name a.depth c.loop-i.i (omega arith)
+    sym (ways.clash_stop (λ j. local_of (get_or a.t.now (a.base + j) 0)) a.name a.depth c.loop-i.i (omega arith)
     c.if-w-depth.true) ∙ c.loop-i.invariant.1
 
 pub returns-then-w-name : goal.returns-then-w-name
@@ -33,4 +33,4 @@ returns-then-w-name c =
     let a = c.args in
     let i = c.loop-i.i in
     let pos : 0 < i = omega arith in
-    lt-ltb 0 i pos ∙ sym (ways.clash-hit (λ j. local_of (get_or a.t.now (a.base + j) 0)) a.name a.depth i pos c.if-w-depth.false c.if-w-name.true) ∙ c.loop-i.invariant.1
+    lt-ltb 0 i pos ∙ sym (ways.clash_hit (λ j. local_of (get_or a.t.now (a.base + j) 0)) a.name a.depth i pos c.if-w-depth.false c.if-w-name.true) ∙ c.loop-i.invariant.1

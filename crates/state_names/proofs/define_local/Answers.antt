@@ -13,7 +13,7 @@ few s = s.requires.1.fewLocals s.args.level s.requires.0
 pub returns-then-n-eq0 : goal.returns-then-n-eq0
 returns-then-n-eq0 c =
     let a = c.args in
-    ways.define-none a.t.now a.level c.requires.0 c.requires.1 c.if-n-eq0.true
+    ways.define_none a.t.now a.level c.requires.0 c.requires.1 c.if-n-eq0.true
 
 pub overflow_add-at : goal.overflow_add-at
 overflow_add-at c = omega (arith, few c.before.before)
@@ -38,9 +38,9 @@ bounds-t-at-then-w-eq0 c = omega (arith, few c.before.before.before.before)
 pub returns-then-w-eq0 : goal.returns-then-w-eq0
 returns-then-w-eq0 c =
     let a = c.args in
-    ways.define-now a.t.now a.level c.requires.0 c.requires.1 (get_or a.t.now (a.level * level_words + local_count_place) 0 - 1) (omega arith) c.if-w-eq0.true
+    ways.define_now a.t.now a.level c.requires.0 c.requires.1 (get_or a.t.now (a.level * level_words + local_count_place) 0 - 1) (omega arith) c.if-w-eq0.true
 
 pub returns-else-w-eq0 : goal.returns-else-w-eq0
 returns-else-w-eq0 c =
     let a = c.args in
-    ways.define-again a.t.now a.level c.requires.0 c.requires.1 (get_or a.t.now (a.level * level_words + local_count_place) 0 - 1) (omega arith) c.if-w-eq0.false
+    ways.define_again a.t.now a.level c.requires.0 c.requires.1 (get_or a.t.now (a.level * level_words + local_count_place) 0 - 1) (omega arith) c.if-w-eq0.false

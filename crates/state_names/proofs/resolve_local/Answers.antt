@@ -8,8 +8,10 @@ use Rattle.state_names.proofs.Resolve as ways
 use Rattle.state.specs.Meaning.{Topmost}
 use Rattle.state.specs.Layout.{level_words, local_count_place}
 use Rattle.state_names.proofs.resolve_local.Goals as goal
+use Rattle.state_names.proofs.resolve_local.Lts as lts
+use Rattle.state_names.proofs.resolve_local.Reads as reads
 
-few : (s : goal.Start) → get_or s.args.t.now (s.args.level * level_words + local_count_place) 0 ≤ 256
+few : (s : lts.Start reads.Pre reads.Post) → get_or s.args.t.now (s.args.level * level_words + local_count_place) 0 ≤ 256
 few s = s.requires.1.fewLocals s.args.level s.requires.0
 
 -- where a local of the name was found: its place is one less than what topmost answers

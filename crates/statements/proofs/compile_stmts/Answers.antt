@@ -8,32 +8,34 @@ use borrow.Author.Rules.{rules}
 use Rattle.steps.specs.View.{mem}
 use Rattle.statements.proofs.Walks.{RowOf, row_start, row_child, row_stop, row_step, row_done}
 use Rattle.statements.proofs.compile_stmts.Goals as goal
+use Rattle.statements.proofs.compile_stmts.Lts as lts
+use Rattle.statements.proofs.compile_stmts.Reads as reads
 
-abbrev here : (tie.invariant-loop → tie.decreases-loop → Type 0) → Type 0
+abbrev here : (tie.invariant_loop → tie.decreases_loop → Type 0) → Type 0
 here place = place invariant-loop decreases-loop
 
-abbrev known : here goal.After-slice_known-2-1 → here goal.Start
+abbrev known : here lts.After-slice_known2 reads.Pre reads.Post goal.the-invariant-loop-more goal.the-decreases-loop-more → here lts.Start reads.Pre reads.Post goal.the-invariant-loop-more goal.the-decreases-loop-more
 known c = c.before.before.before
 
-abbrev stmt-args : here goal.After-compile_stmt-arg-in-loop-more-3-1 → here goal.After-compile_stmt-arg-1
+abbrev stmt-args : here goal.After-compile_stmt-arg-in-loop-more-3-1 → here lts.After-compile_stmt-arg reads.Pre reads.Post goal.the-invariant-loop-more goal.the-decreases-loop-more
 stmt-args c = c.before.before.before
 
-abbrev stmt-asked : here goal.After-compile_stmt-arg-in-loop-more-3-1 → here goal.In-loop-more
+abbrev stmt-asked : here goal.After-compile_stmt-arg-in-loop-more-3-1 → here lts.In-loop reads.Pre reads.Post goal.the-invariant-loop-more goal.the-decreases-loop-more
 stmt-asked c = (stmt-args c).before
 
-abbrev stmt-some : here goal.After-slice_known-in-loop-more-4-1 → here goal.After-spans-1
+abbrev stmt-some : here lts.After-slice_known8 reads.Pre reads.Post goal.the-invariant-loop-more goal.the-decreases-loop-more → here lts.After-spans reads.Pre reads.Post goal.the-invariant-loop-more goal.the-decreases-loop-more
 stmt-some c = c.before.before.before
 
-abbrev stmt-half : here goal.After-slice_known-in-loop-more-4-1 → here goal.After-slice_known-in-loop-more-1
+abbrev stmt-half : here lts.After-slice_known8 reads.Pre reads.Post goal.the-invariant-loop-more goal.the-decreases-loop-more → here lts.After-slice_known5 reads.Pre reads.Post goal.the-invariant-loop-more goal.the-decreases-loop-more
 stmt-half c = (stmt-some c).before.before.before
 
-abbrev stmt-left : here goal.After-slice_known-in-loop-more-4-1 → here goal.After-compile_stmt-s
+abbrev stmt-left : here lts.After-slice_known8 reads.Pre reads.Post goal.the-invariant-loop-more goal.the-decreases-loop-more → here lts.After-compile_stmt reads.Pre reads.Post goal.the-invariant-loop-more goal.the-decreases-loop-more
 stmt-left c = (stmt-half c).before.before
 
-abbrev stmt-went : here goal.In-Next → here goal.After-compile_stmt-s
+abbrev stmt-went : here goal.In-Next → here lts.After-compile_stmt reads.Pre reads.Post goal.the-invariant-loop-more goal.the-decreases-loop-more
 stmt-went c = stmt-left c.before.before.before
 
-abbrev stmt-halted : here goal.In_default → here goal.After-compile_stmt-s
+abbrev stmt-halted : here goal.In_default → here lts.After-compile_stmt reads.Pre reads.Post goal.the-invariant-loop-more goal.the-decreases-loop-more
 stmt-halted c = stmt-left c.before.before
 
 -- ## The needs
@@ -43,47 +45,47 @@ loop-more-init c = (row_start (known c).pre refl, refl, refl, refl, refl)
 pub compile_stmt-s-requires : goal.compile_stmt-s-requires
 compile_stmt-s-requires c =
     let turn = stmt-asked c in
-    row_child turn.before.loop.inv.0 turn.loop-test.taken
+    row_child turn.before.loop.inv.0 turn.loop_test.taken
 
 pub shape_of-t-in_default : goal.shape_of-t-in_default
 shape_of-t-in_default c =
     let stmt = stmt-halted c in
-    stmt.compile-stmt.kept.1.1.0 ∙ (stmt-asked stmt.before).before.loop.inv.1
+    stmt.compile_stmt.kept.1.1.0 ∙ (stmt-asked stmt.before).before.loop.inv.1
 
 pub shape_of-code-in_default : goal.shape_of-code-in_default
 shape_of-code-in_default c =
     let stmt = stmt-halted c in
-    stmt.compile-stmt.kept.1.1.1.0 ∙ (stmt-asked stmt.before).before.loop.inv.2
+    stmt.compile_stmt.kept.1.1.1.0 ∙ (stmt-asked stmt.before).before.loop.inv.2
 
 pub shape_of-spans-in_default : goal.shape_of-spans-in_default
 shape_of-spans-in_default c =
     let stmt = stmt-halted c in
-    stmt.compile-stmt.kept.1.1.1.1.0 ∙ (stmt-asked stmt.before).before.loop.inv.3
+    stmt.compile_stmt.kept.1.1.1.1.0 ∙ (stmt-asked stmt.before).before.loop.inv.3
 
 pub shape_of-out-in_default : goal.shape_of-out-in_default
 shape_of-out-in_default c =
     let stmt = stmt-halted c in
-    stmt.compile-stmt.kept.1.1.1.1.1.0 ∙ (stmt-asked stmt.before).before.loop.inv.4
+    stmt.compile_stmt.kept.1.1.1.1.1.0 ∙ (stmt-asked stmt.before).before.loop.inv.4
 
 pub returns-in_default : goal.returns-in_default
 returns-in_default c =
     let stmt = stmt-halted c in
     let turn = stmt-asked stmt.before in
-    row_stop turn.before.loop.inv.0 turn.loop-test.taken stmt.compile-stmt.ensures c.in_default.is
+    row_stop turn.before.loop.inv.0 turn.loop_test.taken stmt.compile_stmt.ensures c.in_default.is
 
 pub overflow_sub-more : goal.overflow_sub-more
-overflow_sub-more c = (stmt-asked (stmt-went c).before).loop-test.taken
+overflow_sub-more c = (stmt-asked (stmt-went c).before).loop_test.taken
 
 pub loop-more-smaller : goal.loop-more-smaller
-loop-more-smaller c = let h = (stmt-asked (stmt-went c).before).loop-test.taken in omega (arith, h)
+loop-more-smaller c = let h = (stmt-asked (stmt-went c).before).loop_test.taken in omega (arith, h)
 
 pub loop-more-preserved : goal.loop-more-preserved
 loop-more-preserved c =
     let stmt = stmt-went c in
     let turn = stmt-asked stmt.before in
-    let k = stmt.compile-stmt.kept.1.1 in
+    let k = stmt.compile_stmt.kept.1.1 in
     let inv = turn.before.loop.inv in
-    (row_step inv.0 turn.loop-test.taken stmt.compile-stmt.ensures c.in-Next.is, k.0 ∙ inv.1, k.1.0 ∙ inv.2, k.1.1.0 ∙ inv.3, k.1.1.1.0 ∙ inv.4)
+    (row_step inv.0 turn.loop_test.taken stmt.compile_stmt.ensures c.in-Next.is, k.0 ∙ inv.1, k.1.0 ∙ inv.2, k.1.1.0 ∙ inv.3, k.1.1.1.0 ∙ inv.4)
 
 pub shape_of-t : goal.shape_of-t
 shape_of-t c = c.loop-more.invariant.1

@@ -8,16 +8,16 @@ use Rattle.step_bytes.proofs.emit_constant.Goals as goal
 pub returns-in_default : goal.returns-in_default
 unfolding emit_op
 returns-in_default c =
-    λ class. let a = c.args in stop _ (ways.constant-full a.level a.limit a.w a.span _ _ _ _ _ c.requires
+    λ class. let a = c.args in stop _ (ways.constant_full a.level a.limit a.w a.span _ _ _ _ _ c.requires
     c.write_constant-r.ensures c.in_default.is)
 
 pub emit_op-requires : goal.emit_op-requires
 emit_op-requires c =
-    let a = c.args in ways.constant-fit a.level a.limit a.w a.span _ _ _ _ _ c.requires
+    let a = c.args in ways.constant_fit a.level a.limit a.w a.span _ _ _ _ _ c.requires
     c.write_constant-r.ensures
 
 pub returns : goal.returns
 unfolding emit_op
 returns c =
-    λ class. let a = c.args in ways.constant-then a.level a.limit a.w a.span _ _ _ _ _ c.requires
+    λ class. let a = c.args in ways.constant_then a.level a.limit a.w a.span _ _ _ _ _ c.requires
     c.write_constant-r.ensures _ c.in-At.is (c.emit_op.ensures class)

@@ -16,7 +16,7 @@ pub returns-in_default-b : goal.returns-in_default-b
 unfolding emit_op emit_invoke
 returns-in_default-b c =
     λ class. then_on _ (c.emit_op-a.ensures class) c.in-Next.is
-    (halt _ (ways.constant-is c.args.span c.name_word.ensures
+    (halt _ (ways.constant_is c.args.span c.name_word.ensures
     (c.emit_constant-b.ensures class)) c.in_default-b.is)
 
 pub emit_op-requires : goal.emit_op-requires
@@ -26,5 +26,5 @@ pub returns : goal.returns
 unfolding emit_op emit_invoke
 returns c =
     λ class. then_on _ (c.emit_op-a.ensures class) c.in-Next.is
-    (then_on _ (ways.constant-is c.args.span c.name_word.ensures
+    (then_on _ (ways.constant_is c.args.span c.name_word.ensures
     (c.emit_constant-b.ensures class)) c.in-Next-b.is (c.emit_op.ensures class))

@@ -14,5 +14,5 @@ returns-in_default c =
 pub returns : goal.returns
 unfolding emit_op
 returns c =
-    λ class. let a = c.args in next (ways.byte-gave a.level a.limit a.byte a.span _ _ _ _ _ _ _ c.requires
+    λ class. let a = c.args in next (ways.byte_gave a.level a.limit a.byte a.span _ _ _ _ _ _ _ c.requires
     c.emit_u8-r.ensures c.in-Done.is)

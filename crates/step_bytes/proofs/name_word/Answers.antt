@@ -5,4 +5,4 @@ use Rattle.state_code.proofs.Constant as words
 use Rattle.step_bytes.proofs.name_word.Goals as goal
 
 pub returns : goal.returns
-returns c = words.name-word c.args.name (omega arith)
+returns c = words.name_word c.args.name (omega arith)

@@ -53,7 +53,7 @@ returns c = λ class.
     then_to _ (c.emit_op-a.ensures class) c.in-Next.is
     (then_to _ (c.emit_op-b.ensures class) c.in-Next-b.is
     (then_to _ (c.emit_op-d.ensures class) c.in-Next-d.is
-    (ways.open-place _ f (c.code_length-n.ensures.is [] [])
+    (ways.open_place _ f (c.code_length-n.ensures.is [] [])
     (omega (
       arith,
       c.code_length-n.ensures.is [] [],

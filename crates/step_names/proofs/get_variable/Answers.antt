@@ -11,7 +11,7 @@ returns-then-lost_this c = let a = c.args in stop _ (ways.lost a.limit a.name a.
 
 pub emit_op_u8-a-requires : goal.emit_op_u8-a-requires
 emit_op_u8-a-requires c =
-    let a = c.args in (ways.is-local a.level a.limit a.name a.span _ _ _ _ c.requires _
+    let a = c.args in (ways.is_local a.level a.limit a.name a.span _ _ _ _ c.requires _
     c.resolve-place.ensures 0 _ c.in-Local.is).ahead.fit
 
 pub returns-in_default : goal.returns-in_default
@@ -19,12 +19,12 @@ unfolding get_place
 returns-in_default c =
     let a = c.args in ways.kept_on a.limit a.name a.span a.class
     (sym c.lost_this.ensures ∙ c.if-lost_this.false)
-    (did_bind (ways.is-local a.level a.limit a.name a.span _ _ _ _ c.requires _
+    (did_bind (ways.is_local a.level a.limit a.name a.span _ _ _ _ c.requires _
     c.resolve-place.ensures a.class _ c.in-Local.is) _ (c.emit_op_u8-a.ensures a.class))
 
 pub emit_op_u8-a-requires-in-Upvalue : goal.emit_op_u8-a-requires-in-Upvalue
 emit_op_u8-a-requires-in-Upvalue c =
-    let a = c.args in (ways.is-upvalue a.level a.limit a.name a.span _ _ _ _ c.requires _
+    let a = c.args in (ways.is_upvalue a.level a.limit a.name a.span _ _ _ _ c.requires _
     c.resolve-place.ensures 0 _ c.in-Upvalue.is).ahead.fit
 
 pub returns-in_default-a : goal.returns-in_default-a
@@ -32,12 +32,12 @@ unfolding get_place
 returns-in_default-a c =
     let a = c.args in ways.kept_on a.limit a.name a.span a.class
     (sym c.lost_this.ensures ∙ c.if-lost_this.false)
-    (did_bind (ways.is-upvalue a.level a.limit a.name a.span _ _ _ _ c.requires _
+    (did_bind (ways.is_upvalue a.level a.limit a.name a.span _ _ _ _ c.requires _
     c.resolve-place.ensures a.class _ c.in-Upvalue.is) _ (c.emit_op_u8-a-in-Upvalue.ensures a.class))
 
 pub emit_op_name-a-requires : goal.emit_op_name-a-requires
 emit_op_name-a-requires c =
-    let a = c.args in (ways.is-global-name a.level a.limit a.name a.span _ _ _ _ c.requires _
+    let a = c.args in (ways.is_global_name a.level a.limit a.name a.span _ _ _ _ c.requires _
     c.resolve-place.ensures 0 c.in-Global.is).ahead.fit
 
 pub returns-in_default-a-2 : goal.returns-in_default-a-2
@@ -45,7 +45,7 @@ unfolding get_place
 returns-in_default-a-2 c =
     let a = c.args in ways.kept_on a.limit a.name a.span a.class
     (sym c.lost_this.ensures ∙ c.if-lost_this.false)
-    (did_bind (ways.is-global-name a.level a.limit a.name a.span _ _ _ _ c.requires _
+    (did_bind (ways.is_global_name a.level a.limit a.name a.span _ _ _ _ c.requires _
     c.resolve-place.ensures a.class c.in-Global.is) _ (c.emit_op_name-a.ensures a.class))
 
 pub returns-in-Next : goal.returns-in-Next
@@ -53,7 +53,7 @@ unfolding get_place
 returns-in-Next c =
     let a = c.args in ways.kept_on a.limit a.name a.span a.class
     (sym c.lost_this.ensures ∙ c.if-lost_this.false)
-    (did_bind (ways.is-local a.level a.limit a.name a.span _ _ _ _ c.requires _ c.resolve-place.ensures
+    (did_bind (ways.is_local a.level a.limit a.name a.span _ _ _ _ c.requires _ c.resolve-place.ensures
     a.class _ c.in-Local.is) _ (anew (c.emit_op_u8-a.ensures a.class) c.in-Next.is))
 
 pub returns-in-Next-a : goal.returns-in-Next-a
@@ -61,7 +61,7 @@ unfolding get_place
 returns-in-Next-a c =
     let a = c.args in ways.kept_on a.limit a.name a.span a.class
     (sym c.lost_this.ensures ∙ c.if-lost_this.false)
-    (did_bind (ways.is-upvalue a.level a.limit a.name a.span _ _ _ _ c.requires _
+    (did_bind (ways.is_upvalue a.level a.limit a.name a.span _ _ _ _ c.requires _
     c.resolve-place.ensures a.class _ c.in-Upvalue.is) _
     (anew (c.emit_op_u8-a-in-Upvalue.ensures a.class) c.in-Next-a.is))
 
@@ -70,7 +70,7 @@ unfolding get_place
 returns-in-Next-a-2 c =
     let a = c.args in ways.kept_on a.limit a.name a.span a.class
     (sym c.lost_this.ensures ∙ c.if-lost_this.false)
-    (did_bind (ways.is-global-name a.level a.limit a.name a.span _ _ _ _ c.requires _
+    (did_bind (ways.is_global_name a.level a.limit a.name a.span _ _ _ _ c.requires _
     c.resolve-place.ensures a.class c.in-Global.is) _
     (anew (c.emit_op_name-a.ensures a.class) c.in-Next-a-2.is))
 
@@ -79,5 +79,5 @@ unfolding get_place
 returns-in-Nowhere c =
     let a = c.args in ways.kept_on a.limit a.name a.span a.class
     (sym c.lost_this.ensures ∙ c.if-lost_this.false)
-    (stop _ (refused_bind (ways.is-nowhere a.level a.limit a.name a.span _ _ _ _ c.requires _
+    (stop _ (refused_bind (ways.is_nowhere a.level a.limit a.name a.span _ _ _ _ c.requires _
     c.resolve-place.ensures a.class _ c.in-Nowhere.is) _))

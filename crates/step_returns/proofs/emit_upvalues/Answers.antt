@@ -110,7 +110,7 @@ emit_pair-a-requires c =
 
 pub returns-in_default : goal.returns-in_default
 returns-in_default c =
-    λ class. let a = c.args in ways.going-stop a.limit a.level a.span _ _ _ c.loop-i.i _ _
+    λ class. let a = c.args in ways.going_stop a.limit a.level a.span _ _ _ c.loop-i.i _ _
     c.loop-i.invariant.0 (omega arith) _
     (ways.word_kept a.limit a.level a.span _ _ _ c.loop-i.i _ _ c.loop-i.invariant.0
     (upvalues_place + c.loop-i.i) c.requires.1

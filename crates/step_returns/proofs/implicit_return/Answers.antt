@@ -10,5 +10,5 @@ returns-then-ends_in_return c =
 
 pub returns : goal.returns
 returns c =
-    λ class. let a = c.args in ways.returns-now a.limit a.level a.next a.t.now a.code.now a.spans.now _
+    λ class. let a = c.args in ways.returns_now a.limit a.level a.next a.t.now a.code.now a.spans.now _
     c.ends_in_return.ensures c.if-ends_in_return.false (c.return_nothing.ensures class)

@@ -8,13 +8,13 @@ use Rattle.step_returns.proofs.return_nothing.Goals as goal
 pub returns-then-kind-eq-SCRIPT : goal.returns-then-kind-eq-SCRIPT
 unfolding compile_return
 returns-then-kind-eq-SCRIPT c =
-    λ class. let a = c.args in stop _ (ask_refused (ways.told-type a.t.now a.code.now a.spans.now a.level) _
+    λ class. let a = c.args in stop _ (ask_refused (ways.told_type a.t.now a.code.now a.spans.now a.level) _
     (refused_seq (ways.no_return _ a.limit a.span c.if-kind-eq-SCRIPT.true) _))
 
 pub returns-in_default : goal.returns-in_default
 unfolding compile_return
 returns-in_default c =
-    λ class. let a = c.args in ask (ways.told-type a.t.now a.code.now a.spans.now a.level) _
+    λ class. let a = c.args in ask (ways.told_type a.t.now a.code.now a.spans.now a.level) _
     (halt _ (c.emit_nothing-a.ensures class) c.in_default.is)
 
 pub emit_op-requires : goal.emit_op-requires
@@ -23,5 +23,5 @@ emit_op-requires c = (went (c.emit_nothing-a.ensures 0) c.in-Next.is).ahead.fit
 pub returns : goal.returns
 unfolding compile_return
 returns c =
-    λ class. let a = c.args in ask (ways.told-type a.t.now a.code.now a.spans.now a.level) _
+    λ class. let a = c.args in ask (ways.told_type a.t.now a.code.now a.spans.now a.level) _
     (then_on _ (c.emit_nothing-a.ensures class) c.in-Next.is (c.emit_op.ensures class))

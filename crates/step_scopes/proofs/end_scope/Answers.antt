@@ -22,7 +22,7 @@ move_scope-requires c = (
 pub loop-init : goal.loop-init
 loop-init c =
     let a = c.args in (
-      ways.passing-none _
+      ways.passing_none _
           (ways.lowered a.level _ _ _ c.move_scope.ensures refl {class = 0} a.code.now a.spans.now c.requires.0).ahead.fit,
       refl,
       refl,
@@ -36,21 +36,21 @@ pub returns-in-Stop : goal.returns-in-Stop
 returns-in-Stop c =
     λ class. let a = c.args in next (ways.ended a.level a.limit _ a.span a.t.now a.code.now a.spans.now _
     c.requires.0 c.move_scope.ensures refl _ c.loop.invariant.0 _
-    (ways.popped-as popped.Stop c.pop_local-step.ensures c.in-Stop.is))
+    (ways.popped_as popped.Stop c.pop_local-step.ensures c.in-Stop.is))
 
 pub returns-in-Full : goal.returns-in-Full
 returns-in-Full c =
-    λ class. let a = c.args in stop _ (ways.ended-full a.level a.limit _ a.span a.t.now a.code.now a.spans.now _
+    λ class. let a = c.args in stop _ (ways.ended_full a.level a.limit _ a.span a.t.now a.code.now a.spans.now _
     c.requires.0 c.move_scope.ensures refl _ c.loop.invariant.0 _
-    (ways.popped-as popped.Full c.pop_local-step.ensures c.in-Full.is))
+    (ways.popped_as popped.Full c.pop_local-step.ensures c.in-Full.is))
 
 pub loop-smaller : goal.loop-smaller
-loop-smaller c = (ways.popped-as popped.More c.pop_local-step.ensures c.in-More.is).does.1
+loop-smaller c = (ways.popped_as popped.More c.pop_local-step.ensures c.in-More.is).does.1
 
 pub loop-preserved : goal.loop-preserved
 loop-preserved c = (
-  ways.passing-then c.loop.invariant.0
-      (ways.popped-as popped.More c.pop_local-step.ensures c.in-More.is).does.0,
+  ways.passing_then c.loop.invariant.0
+      (ways.popped_as popped.More c.pop_local-step.ensures c.in-More.is).does.0,
   omega
       (arith, c.pop_local-step.auto.0, c.loop.invariant.1),
   omega

@@ -6,17 +6,19 @@ use borrow.Author.Rules.{rules}
 use Rattle.steps.proofs.Steps.{went, still}
 use Rattle.stmt_jumps.proofs.Loops as ways
 use Rattle.stmt_jumps.proofs.close_loop.Goals as goal
+use Rattle.stmt_jumps.proofs.close_loop.Lts as lts
+use Rattle.stmt_jumps.proofs.close_loop.Reads as reads
 
-has : (c : goal.Else-not-has_cond) → (start (back-asked (back-went c.before).before)).args.has-cond ≡ true
-has c = ways.there-is (start (back-asked)).args.has-cond c.if-not-has_cond.false
+has : (c : lts.Else1 reads.Pre reads.Post) → (start (back-asked (back-went c.before).before)).args.has_cond ≡ true
+has c = ways.there_is (start (back-asked)).args.has_cond c.if-not-has_cond.false
 
 pub returns-in_default : goal.returns-in_default
 returns-in_default c =
-    λ class. ways.loop-stop _ _ _ c.args.has-cond (c.emit_loop-a.ensures class) c.in_default.is
+    λ class. ways.loop_stop _ _ _ c.args.has_cond (c.emit_loop-a.ensures class) c.in_default.is
 
 pub returns-then-not-has_cond : goal.returns-then-not-has_cond
 returns-then-not-has_cond c =
-    λ class. ways.loop-plain _ _ _ c.args.has-cond (ways.there-is-none c.args.has-cond c.if-not-has_cond.true) (c.emit_loop-a.ensures class) c.in-Next.is
+    λ class. ways.loop_plain _ _ _ c.args.has_cond (ways.there_is_none c.args.has_cond c.if-not-has_cond.true) (c.emit_loop-a.ensures class) c.in-Next.is
 
 pub patch_jump-b-requires : goal.patch_jump-b-requires
 patch_jump-b-requires c =
@@ -25,7 +27,7 @@ patch_jump-b-requires c =
 
 pub returns-in_default-b : goal.returns-in_default-b
 returns-in_default-b c =
-    λ class. ways.loop-patch-stop _ _ _ c.args.has-cond (has c.before.before.before.before.before.before.before.before.before.before.before.before) (c.emit_loop-a.ensures class) c.in-Next.is (c.patch_jump-b.ensures class)
+    λ class. ways.loop_patch_stop _ _ _ c.args.has_cond (has c.before.before.before.before.before.before.before.before.before.before.before.before) (c.emit_loop-a.ensures class) c.in-Next.is (c.patch_jump-b.ensures class)
     c.in_default-b.is
 
 pub emit_op-requires : goal.emit_op-requires
@@ -34,5 +36,5 @@ emit_op-requires c =
 
 pub returns : goal.returns
 returns c =
-    λ class. ways.loop-done _ _ _ c.args.has-cond (has c.before.before.before.before.before.before.before.before.before.before.before.before.before.before.before.before.before.before.before.before.before.before) (c.emit_loop-a.ensures class) c.in-Next.is (c.patch_jump-b.ensures class)
+    λ class. ways.loop_done _ _ _ c.args.has_cond (has c.before.before.before.before.before.before.before.before.before.before.before.before.before.before.before.before.before.before.before.before.before.before) (c.emit_loop-a.ensures class) c.in-Next.is (c.patch_jump-b.ensures class)
     c.in-Next-b.is (c.emit_op.ensures class)

@@ -13,10 +13,10 @@ pub emit_op-requires : goal.emit_op-requires
 emit_op-requires c =
     let a' = ( in
     let emit_jump = emit-jump-left a'.before.before in
-    (went_to (emit_jump.emit-jump.ensures 0) a'.a.given.1).ahead.fit
+    (went_to (emit_jump.emit_jump.ensures 0) a'.a.given.1).ahead.fit
 
 pub returns : goal.returns
 returns c =
     let a' = ( in
     let emit_jump = emit-jump-left a'.before.before in
-    λ class. open_done _ (emit_jump.emit-jump.ensures class) a'.a.given.1 (c.emit_op.ensures class)
+    λ class. open_done _ (emit_jump.emit_jump.ensures class) a'.a.given.1 (c.emit_op.ensures class)

@@ -5,8 +5,10 @@ use Rattle.expr_laws.specs.Exprs.{Somewhere}
 use Rattle.expressions.proofs.Arms.{ran_fit}
 use Rattle.stmt_loops.proofs.Loops.{cond_expr, cond_none, cond_stop, cond_stop_2, cond_done}
 use Rattle.stmt_loops.proofs.for_cond.Goals as goal
+use Rattle.stmt_loops.proofs.for_cond.Lts as lts
+use Rattle.stmt_loops.proofs.for_cond.Reads as reads
 
-value_there : (c : goal.Else-parts-ne1) → Somewhere (start c.before).args.tree.now (start c.before).args.at
+value_there : (c : lts.Else1 reads.Pre reads.Post) → Somewhere (start c.before).args.tree.now (start c.before).args.at
 value_there c = cond_expr c.requires.0 c.if-parts-ne1.false
 
 -- ## The needs

@@ -5,8 +5,10 @@ use Rattle.expr_laws.specs.Exprs.{Somewhere}
 use Rattle.expressions.proofs.Arms.{ran_fit}
 use Rattle.stmt_loops.proofs.Loops.{incr_expr, incr_none, incr_stop, incr_done}
 use Rattle.stmt_loops.proofs.for_incr.Goals as goal
+use Rattle.stmt_loops.proofs.for_incr.Lts as lts
+use Rattle.stmt_loops.proofs.for_incr.Reads as reads
 
-value_there : (c : goal.Else-parts-ne1) → Somewhere (start c.before).args.tree.now (start c.before).args.at
+value_there : (c : lts.Else1 reads.Pre reads.Post) → Somewhere (start c.before).args.tree.now (start c.before).args.at
 value_there c = incr_expr c.requires.0 c.if-parts-ne1.false
 
 -- ## The needs

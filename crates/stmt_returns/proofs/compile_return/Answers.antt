@@ -8,12 +8,14 @@ use Rattle.expr_laws.specs.Exprs.{Somewhere}
 use Rattle.expressions.proofs.Arms.{ran_fit}
 use Rattle.stmt_returns.proofs.Returns as ways
 use Rattle.stmt_returns.proofs.compile_return.Goals as goal
+use Rattle.stmt_returns.proofs.compile_return.Lts as lts
+use Rattle.stmt_returns.proofs.compile_return.Reads as reads
 
-bound : (c : goal.Start) → c.args.at + 11 ≤ length c.args.tree.now
-bound c = ways.return-bound c.requires.1 c.requires.0
+bound : (c : lts.Start reads.Pre reads.Post) → c.args.at + 11 ≤ length c.args.tree.now
+bound c = ways.return_bound c.requires.1 c.requires.0
 
 value_there : (c : goal.Else-u8_at-eq0) → Somewhere (start (flagged c.before)).args.tree.now ((start (flagged c.before)).args.at + 11)
-value_there c = ways.return-there c.requires.1 _ c.u8_at.ensures c.if-u8_at-eq0.false c.requires.0
+value_there c = ways.return_there c.requires.1 _ c.u8_at.ensures c.if-u8_at-eq0.false c.requires.0
 
 -- ## The needs
 pub overflow_add-at : goal.overflow_add-at
@@ -33,14 +35,14 @@ overflow_add-at-then-u8_at-eq0 c = let b = bound (start (flagged)) in omega (ari
 
 pub returns-then-u8_at-eq0 : goal.returns-then-u8_at-eq0
 returns-then-u8_at-eq0 c =
-    λ d. ways.return-none _ d _ _ c.requires.1 _ c.u8_at.ensures _ c.span_at-span.ensures c.if-u8_at-eq0.true (c.return_nothing.ensures _)
+    λ d. ways.return_none _ d _ _ c.requires.1 _ c.u8_at.ensures _ c.span_at-span.ensures c.if-u8_at-eq0.true (c.return_nothing.ensures _)
 
 pub overflow_add-at-3 : goal.overflow_add-at-3
 overflow_add-at-3 c = let b = bound c.before.before.before.before.before.before.before in omega (arith, b)
 
 pub returns-in_default : goal.returns-in_default
 returns-in_default c =
-    λ d. ways.return-stop _ d _ _ c.requires.1 _ c.u8_at.ensures c.if-u8_at-eq0.false _ c.span_at-span.ensures
+    λ d. ways.return_stop _ d _ _ c.requires.1 _ c.u8_at.ensures c.if-u8_at-eq0.false _ c.span_at-span.ensures
     (c.return_kind-a.ensures.gives c.args.code.now c.args.spans.now c.requires.2) c.in_default.is
 
 pub overflow_add-at-4 : goal.overflow_add-at-4
@@ -52,7 +54,7 @@ compile_expr-b-requires c =
 
 pub returns-in_default-b : goal.returns-in_default-b
 returns-in_default-b c =
-    λ d. ways.return-value-stop _ d _ _ c.requires.1 _ c.u8_at.ensures c.if-u8_at-eq0.false _ c.span_at-span.ensures
+    λ d. ways.return_value_stop _ d _ _ c.requires.1 _ c.u8_at.ensures c.if-u8_at-eq0.false _ c.span_at-span.ensures
     (c.return_kind-a.ensures.gives c.args.code.now c.args.spans.now c.requires.2) c.in-Next.is (c.compile_expr-b.ensures _) c.in_default-b.is
 
 pub emit_op-requires : goal.emit_op-requires
@@ -61,5 +63,5 @@ emit_op-requires c =
 
 pub returns : goal.returns
 returns c =
-    λ d. ways.return-done _ d _ _ c.requires.1 _ c.u8_at.ensures c.if-u8_at-eq0.false _ c.span_at-span.ensures
+    λ d. ways.return_done _ d _ _ c.requires.1 _ c.u8_at.ensures c.if-u8_at-eq0.false _ c.span_at-span.ensures
     (c.return_kind-a.ensures.gives c.args.code.now c.args.spans.now c.requires.2) c.in-Next.is (c.compile_expr-b.ensures _) c.in-Next-b.is (c.emit_op.ensures _)

@@ -9,7 +9,7 @@ use Rattle.stmt_plain_laws.proofs.Values as ways
 use Rattle.stmt_values.proofs.stmt_print.Goals as goal
 
 value_there : (c : goal.After-span_at-span) → Somewhere (start c.before).args.tree.now ((start c.before).args.at + 10)
-value_there c = ways.one-there {limit = 0} (ways.a-print _ _ _ c.requires.1) c.requires.0.there
+value_there c = ways.one_there {limit = 0} (ways.a_print _ _ _ c.requires.1) c.requires.0.there
 
 -- ## The needs
 pub overflow_add-at : goal.overflow_add-at
@@ -28,7 +28,7 @@ compile_expr-a-requires c =
 pub returns-in_default : goal.returns-in_default
 returns-in_default c =
     let s = start in
-    λ d. ways.one-stop (ways.a-print _ d _ s.pre.1) (c.compile_expr-a.ensures _) c.in_default.is
+    λ d. ways.one_stop (ways.a_print _ d _ s.pre.1) (c.compile_expr-a.ensures _) c.in_default.is
 
 pub emit_op-requires : goal.emit_op-requires
 emit_op-requires c =
@@ -36,4 +36,4 @@ emit_op-requires c =
 
 pub returns : goal.returns
 returns c =
-    λ d. ways.one-done (ways.a-print _ d _ c.requires.1) _ c.span_at-span.ensures (c.compile_expr-a.ensures _) c.in-Next.is (c.emit_op.ensures _)
+    λ d. ways.one_done (ways.a_print _ d _ c.requires.1) _ c.span_at-span.ensures (c.compile_expr-a.ensures _) c.in-Next.is (c.emit_op.ensures _)

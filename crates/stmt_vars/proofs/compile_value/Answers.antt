@@ -14,4 +14,4 @@ compile_expr-requires c =
 
 pub returns : goal.returns
 returns c =
-    λ d. ways.value-some _ d _ _ _ c.if-flag-eq0.false (c.compile_expr.ensures d)
+    λ d. ways.value_some _ d _ _ _ c.if-flag-eq0.false (c.compile_expr.ensures d)

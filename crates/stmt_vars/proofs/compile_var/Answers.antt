@@ -8,12 +8,14 @@ use Rattle.steps.proofs.Steps.{went}
 use Rattle.stmt_plain_laws.specs.Plain.{Announced}
 use Rattle.stmt_vars.proofs.Vars as ways
 use Rattle.stmt_vars.proofs.compile_var.Goals as goal
+use Rattle.stmt_vars.proofs.compile_var.Lts as lts
+use Rattle.stmt_vars.proofs.compile_var.Reads as reads
 
-bound : (c : goal.Start) → c.args.at + 13 ≤ length c.args.tree.now
-bound c = ways.var-bound c.requires.1 c.requires.0
+bound : (c : lts.Start reads.Pre reads.Post) → c.args.at + 13 ≤ length c.args.tree.now
+bound c = ways.var_bound c.requires.1 c.requires.0
 
-value_there : (c : goal.After-u8_at-flag) → Announced (start (flagged c)).args.tree.now ((start (flagged c)).args.at + 13) c.u8-at.result
-value_there c = ways.var-value c.requires.1 c.u8_at-flag.ensures c.requires.0
+value_there : (c : goal.After-u8_at-flag) → Announced (start (flagged c)).args.tree.now ((start (flagged c)).args.at + 13) c.u8_at.result
+value_there c = ways.var_value c.requires.1 c.u8_at-flag.ensures c.requires.0
 
 -- ## The needs
 pub overflow_add-at : goal.overflow_add-at
@@ -39,7 +41,7 @@ overflow_add-at-4 c = let b = bound c.before.before.before.before.before.before.
 
 pub returns-in_default : goal.returns-in_default
 returns-in_default c =
-    λ d. ways.var-stop _ d _ _ c.requires.1 _ c.u8_at-flag.ensures _ c.span_at-span.ensures _ c.u16_at-name.ensures _ (c.is_global-global.ensures.says c.args.code.now c.args.spans.now)
+    λ d. ways.var_stop _ d _ _ c.requires.1 _ c.u8_at-flag.ensures _ c.span_at-span.ensures _ c.u16_at-name.ensures _ (c.is_global-global.ensures.says c.args.code.now c.args.spans.now)
     (c.open_var-a.ensures.gives c.args.code.now c.args.spans.now c.requires.2) c.in_default.is
 
 pub overflow_add-at-5 : goal.overflow_add-at-5
@@ -51,15 +53,15 @@ compile_value-b-requires c =
 
 pub returns-in_default-b : goal.returns-in_default-b
 returns-in_default-b c =
-    λ d. ways.var-value-stop _ d _ _ c.requires.1 _ c.u8_at-flag.ensures _ c.span_at-span.ensures _ c.u16_at-name.ensures _
+    λ d. ways.var_value_stop _ d _ _ c.requires.1 _ c.u8_at-flag.ensures _ c.span_at-span.ensures _ c.u16_at-name.ensures _
     (c.is_global-global.ensures.says c.args.code.now c.args.spans.now) (c.open_var-a.ensures.gives c.args.code.now c.args.spans.now c.requires.2) c.in-Next.is
     (c.compile_value-b.ensures _) c.in_default-b.is
 
 pub close_var-requires : goal.close_var-requires
 close_var-requires c =
-    ways.value-fit (value_there c.before.before.before.before.before.before.before.before.before.before.before.before.before.before.before.before.before.before.before.before.before.before.before) c.compile_value-b.ensures c.in-Next-b.is
+    ways.value_fit (value_there c.before.before.before.before.before.before.before.before.before.before.before.before.before.before.before.before.before.before.before.before.before.before.before) c.compile_value-b.ensures c.in-Next-b.is
 
 pub returns : goal.returns
 returns c =
-    λ d. ways.var-done _ d _ _ c.requires.1 _ c.u8_at-flag.ensures _ c.span_at-span.ensures _ c.u16_at-name.ensures _ (c.is_global-global.ensures.says c.args.code.now c.args.spans.now)
+    λ d. ways.var_done _ d _ _ c.requires.1 _ c.u8_at-flag.ensures _ c.span_at-span.ensures _ c.u16_at-name.ensures _ (c.is_global-global.ensures.says c.args.code.now c.args.spans.now)
     (c.open_var-a.ensures.gives c.args.code.now c.args.spans.now c.requires.2) c.in-Next.is (c.compile_value-b.ensures _) c.in-Next-b.is (c.close_var.ensures _)

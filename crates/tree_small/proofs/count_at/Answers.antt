@@ -15,4 +15,4 @@ u16_at-requires c = there c.has.ensures c.if-not-has.false
 pub returns : goal.returns
 returns c =
     told (ap Is c.u16_at.ensures) (count_is c.args.tree.now c.args.at
-    (there c.has.ensures c.if-not-has.false) (omega (arith, c.u16_at.ensures, c.u16_at.type-inv)))
+    (there c.has.ensures c.if-not-has.false) (omega (arith, c.u16_at.ensures, c.u16_at.type_inv)))

@@ -28,7 +28,7 @@ put_constants-b-requires c = (
 
 pub put_runs-c-requires : goal.put_runs-c-requires
 put_runs-c-requires c = (
-  omega (arith, c.requires.0.runs-order, c.requires.0.runs-room),
+  omega (arith, c.requires.0.runs_order, c.requires.0.runs_room),
   omega (
     arith,
     c.requires.1,
@@ -36,12 +36,12 @@ put_runs-c-requires c = (
     c.requires.0.wf.fewConstants c.args.level c.requires.0.low,
     constants_next
         (constant_at c.args.t.now) _ _ c.put_constants-b.ensures,
-    c.requires.0.runs-order,
-    c.requires.0.runs-few,
-    c.requires.0.runs-room,
-    c.requires.0.code-small,
-    c.requires.0.code-order,
-    c.requires.0.code-room,
+    c.requires.0.runs_order,
+    c.requires.0.runs_few,
+    c.requires.0.runs_room,
+    c.requires.0.code_small,
+    c.requires.0.code_order,
+    c.requires.0.code_room,
   ),
 )
 
@@ -54,19 +54,19 @@ put_mark-d-requires c =
       c.requires.0.wf.fewConstants c.args.level c.requires.0.low,
       constants_next
           (constant_at c.args.t.now) _ _ c.put_constants-b.ensures,
-      c.requires.0.runs-order,
-      c.requires.0.runs-few,
-      c.requires.0.runs-room,
-      c.requires.0.code-small,
-      c.requires.0.code-order,
-      c.requires.0.code-room,
+      c.requires.0.runs_order,
+      c.requires.0.runs_few,
+      c.requires.0.runs_room,
+      c.requires.0.code_small,
+      c.requires.0.code_order,
+      c.requires.0.code_room,
       runs_next
           (run_at c.args.spans.now) _ _ c.put_runs-c.ensures,
     )
 
 pub put_code-requires : goal.put_code-requires
 put_code-requires c = (
-  omega (arith, c.requires.0.code-order, c.requires.0.code-room),
+  omega (arith, c.requires.0.code_order, c.requires.0.code_room),
   omega (
     arith,
     c.requires.1,
@@ -74,12 +74,12 @@ put_code-requires c = (
     c.requires.0.wf.fewConstants c.args.level c.requires.0.low,
     constants_next
         (constant_at c.args.t.now) _ _ c.put_constants-b.ensures,
-    c.requires.0.runs-order,
-    c.requires.0.runs-few,
-    c.requires.0.runs-room,
-    c.requires.0.code-small,
-    c.requires.0.code-order,
-    c.requires.0.code-room,
+    c.requires.0.runs_order,
+    c.requires.0.runs_few,
+    c.requires.0.runs_room,
+    c.requires.0.code_small,
+    c.requires.0.code_order,
+    c.requires.0.code_room,
     runs_next
         (run_at c.args.spans.now) _ _ c.put_runs-c.ensures,
     c.put_mark-d.ensures.next,

@@ -8,6 +8,8 @@ use borrow.Author.Tests.{not-true, not-false, leb-true, leb-false}
 use Rattle.writer_directory.specs.Walk.{constant_size, constant_end}
 use Rattle.writer_directory.proofs.Ends.{constant_cut, constant_there, number_size, string_size, function_size}
 use Rattle.writer_directory.proofs.constant_end.Goals as goal
+use Rattle.writer_directory.proofs.constant_end.Lts as lts
+use Rattle.writer_directory.proofs.constant_end.Reads as reads
 
 pub returns-then-not-has : goal.returns-then-not-has
 returns-then-not-has c =
@@ -18,7 +20,7 @@ returns-then-not-has c =
 room : (c : goal.Else-not-has) → (start-of-else1 c).args.at + 2 ≤ length (start-of-else1 c).args.s.now
 room c = leb-true _ _ (sym c.has.ensures ∙ not-false c.has.result c.if-not-has.false)
 
-ends : (c : goal.After-mark_at-mark) {size : ℕ} → size ≡ constant_size c.mark-at.result → (start-of-mark-at c).args.at + size ≡ constant_end
+ends : (c : lts.After-mark_at reads.Pre reads.Post) {size : ℕ} → size ≡ constant_size c.mark_at.result → (start-of-mark-at c).args.at + size ≡ constant_end
     (start-of-mark-at c).args.s.now (start-of-mark-at c).args.at
 ends c e =
     let a = c.args in

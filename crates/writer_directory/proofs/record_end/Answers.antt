@@ -30,7 +30,7 @@ runs_are c = c.wide32-runs.ensures.0 ∙ c.u32_at.ensures
 code_is : (c : goal.After-constants_end-runs_at) → c.before.wide322.result ≡ word32 (start-of-constants-end c).args.s.now ((start-of-constants-end c).args.at + 13)
 code_is c = c.wide32-code.ensures.0 ∙ c.u32_at-2.ensures
 
-near : (c : goal.After-constants_end-runs_at) → c.constants-end.result ≤ length (start-of-constants-end c).args.s.now + 8
+near : (c : goal.After-constants_end-runs_at) → c.constants_end.result ≤ length (start-of-constants-end c).args.s.now + 8
 near c =
     omega (
       arith,

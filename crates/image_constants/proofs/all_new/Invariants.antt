@@ -1,0 +1,16 @@
+-- `all_new` meets its contract: the words that are passed are different, and their slots have the mark.
+use Prim.Native.Nat.{ℕ, ◌+◌, ◌-◌, ◌*◌, ◌/◌, ◌%◌, ◌<◌, ◌≤◌}
+use native.Mathlib.Omega.{arith}
+use mathlib.Core.Path.{◌≡◌, refl, sym, ◌∙◌, ap}
+use lib.ListN.{length, get_or}
+use borrow.Author.Rules.{rules}
+use borrow.Author.Count.{below_more}
+use Rattle.image_constants.specs.Words.{slot_in}
+use Rattle.image_constants.proofs.New.{News, same_slot, news_begin, news_looked, news_stamped, news_done, news_broken}
+use Rattle.image_constants.proofs.all_new.Given as goal
+
+abbrev pub invariant-loop-i : goal.invariant-loop-i
+invariant-loop-i l = (l.i ≤ l.n) × News (slot_in (length l.initial.stamps)) (length l.initial.stamps) l.words l.stamps l.mark l.i
+
+abbrev pub decreases-loop-i : goal.decreases-loop-i
+decreases-loop-i l = l.n - l.i

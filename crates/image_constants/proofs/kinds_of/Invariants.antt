@@ -1,0 +1,16 @@
+-- `kinds_of` meets its contract: the words that are passed are right, and so is the table up to there.
+use Prim.Native.Nat.{ℕ, ◌+◌, ◌-◌, ◌*◌, ◌/◌, ◌%◌, ◌<◌, ◌≤◌}
+use native.Mathlib.Omega.{arith}
+use mathlib.Core.Path.{◌≡◌, refl, sym, ◌∙◌, ap}
+use lib.ListN.{length, get_or}
+use borrow.Author.Rules.{rules}
+use borrow.Author.Count.{below_more}
+use Rattle.image_constants.specs.Earlier.{earlier}
+use Rattle.image_constants.proofs.Kinding.{earlier_number, Passing, passing_begin, passing_set, passing_on, passing_bad, passing_late, passing_done}
+use Rattle.image_constants.proofs.kinds_of.Given as goal
+
+abbrev pub invariant-loop-i : goal.invariant-loop-i
+invariant-loop-i l = (l.i ≤ l.n) × Passing (earlier l.s l.k) l.k l.words l.kinds l.i
+
+abbrev pub decreases-loop-i : goal.decreases-loop-i
+decreases-loop-i l = l.n - l.i

@@ -1,0 +1,96 @@
+-- `judge_all` meets its contract: the functions that are passed were judged, and what is left comes to what there was.
+use Prim.Native.Nat.{ℕ, ◌+◌, ◌-◌, ◌*◌, ◌<◌, ◌≤◌}
+use native.Mathlib.Omega.{arith}
+use mathlib.Core.Path.{◌≡◌, refl, sym, ◌∙◌, ap}
+use mathlib.Core.Bool.{true, false}
+use lib.ListN.{length, get_or}
+use borrow.Author.Rules.{rules}
+use borrow.Author.Tests.{not-true, not-false}
+use Rattle.image_functions.proofs.All.{Going, going_begin, going_stop, next_is, going_on, going_done}
+use Rattle.image_functions.proofs.judge_all.Goals as goal
+
+pub loop-k-init : goal.loop-k-init
+loop-k-init c =
+    going_begin c.args.s.now c.args.count c.args.counts.now c.args.words.now
+    c.args.stamps.now c.args.ring.now c.requires.0.1 c.requires.1.0
+
+pub function-requires : goal.function-requires
+function-requires c = (
+  (omega (arith, c.requires.0.0, c.loop-k-test.true), c.loop-k.invariant.counts_are),
+  (
+    c.loop-k.invariant.words_size,
+    (
+      omega (arith, c.requires.1.1.0, c.loop-k.invariant.stamps_size),
+      λ p h. omega (arith, c.requires.1.1.1 p h, c.loop-k.invariant.ring_size),
+    ),
+  ),
+)
+
+pub shape_of-counts-in_default : goal.shape_of-counts-in_default
+shape_of-counts-in_default c = c.loop-k.invariant.counts_size
+
+pub shape_of-stamps-in_default : goal.shape_of-stamps-in_default
+shape_of-stamps-in_default c = c.function.auto.1.1.1.1.1.0 ∙ c.loop-k.invariant.stamps_size
+
+pub shape_of-ring-in_default : goal.shape_of-ring-in_default
+shape_of-ring-in_default c = c.function.auto.1.1.1.1.1.1.0 ∙ c.loop-k.invariant.ring_size
+
+pub returns-in_default : goal.returns-in_default
+returns-in_default c =
+    going_stop c.args.s.now c.args.count (length c.args.counts.now)
+    (length c.args.stamps.now) (length c.args.ring.now)
+    c.loop-k.counts c.loop-k.words c.loop-k.stamps c.loop-k.ring
+    c.loop-k.at c.loop-k.k c.loop-k.total c.loop-k.invariant
+    c.loop-k-test.true (sym c.in_default.is ∙ c.function.ensures.0.told)
+
+pub note_count-requires : goal.note_count-requires
+note_count-requires c = (
+  c.loop-k.invariant.counts_are,
+  next_is c.args.s.now c.args.count
+      (length c.args.counts.now) (length c.args.stamps.now)
+      (length c.args.ring.now) c.loop-k.counts c.loop-k.words
+      c.loop-k.stamps c.loop-k.ring c.loop-k.at
+      c.loop-k.k c.loop-k.total c.loop-k.invariant
+      c.in-Is.n c.in-Is.next (sym c.in-Is.is ∙ c.function.ensures.0.told),
+)
+
+pub overflow_add-total : goal.overflow_add-total
+overflow_add-total c =
+    let g = c.function.ensures.0.grows c.in-Is.n c.in-Is.next
+    c.in-Is.is in omega (arith, g.0, g.1, c.loop-k.invariant.low, c.well_formed)
+
+pub overflow_add-k : goal.overflow_add-k
+overflow_add-k c = omega (arith, c.loop-k-test.true)
+
+pub loop-k-smaller : goal.loop-k-smaller
+loop-k-smaller c = omega (arith, c.loop-k-test.true)
+
+pub loop-k-preserved : goal.loop-k-preserved
+loop-k-preserved c =
+    going_on c.args.s.now c.args.count (length c.args.counts.now)
+    (length c.args.stamps.now) (length c.args.ring.now)
+    c.loop-k.counts c.loop-k.words c.loop-k.stamps
+    c.loop-k.ring c.loop-k.at c.loop-k.k
+    c.loop-k.total c.loop-k.invariant c.in-Is.n
+    c.in-Is.next (sym c.in-Is.is ∙ c.function.ensures.0.told)
+    c.loop-k-test.true (c.function.ensures.0.grows c.in-Is.n
+    c.in-Is.next c.in-Is.is) _ _ _ _ c.note_count.ensures
+    (c.note_count.auto.1.1.1.0 ∙ c.loop-k.invariant.counts_size)
+    c.function.ensures.1 (c.function.auto.1.1.1.1.1.0 ∙ c.loop-k.invariant.stamps_size)
+    (c.function.auto.1.1.1.1.1.1.0 ∙ c.loop-k.invariant.ring_size)
+
+pub shape_of-counts : goal.shape_of-counts
+shape_of-counts c = c.loop-k.invariant.counts_size
+
+pub shape_of-stamps : goal.shape_of-stamps
+shape_of-stamps c = c.loop-k.invariant.stamps_size
+
+pub shape_of-ring : goal.shape_of-ring
+shape_of-ring c = c.loop-k.invariant.ring_size
+
+pub returns : goal.returns
+returns c =
+    going_done c.args.s.now c.args.count (length c.args.counts.now)
+    (length c.args.stamps.now) (length c.args.ring.now) c.loop-k.counts
+    c.loop-k.words c.loop-k.stamps c.loop-k.ring c.loop-k.at
+    c.loop-k.k c.loop-k.total c.loop-k.invariant c.loop-k-test.false

@@ -1,0 +1,16 @@
+-- `judge_all` meets its contract: the functions that are passed were judged, and what is left comes to what there was.
+use Prim.Native.Nat.{ℕ, ◌+◌, ◌-◌, ◌*◌, ◌<◌, ◌≤◌}
+use native.Mathlib.Omega.{arith}
+use mathlib.Core.Path.{◌≡◌, refl, sym, ◌∙◌, ap}
+use mathlib.Core.Bool.{true, false}
+use lib.ListN.{length, get_or}
+use borrow.Author.Rules.{rules}
+use borrow.Author.Tests.{not-true, not-false}
+use Rattle.image_functions.proofs.All.{Going, going_begin, going_stop, next_is, going_on, going_done}
+use Rattle.image_functions.proofs.judge_all.Given as goal
+
+abbrev pub invariant-loop-k : goal.invariant-loop-k
+invariant-loop-k l = Going l.s l.count (length l.initial.counts) (length l.initial.stamps) (length l.initial.ring) l.counts l.words l.stamps l.ring l.at l.k l.total
+
+abbrev pub decreases-loop-k : goal.decreases-loop-k
+decreases-loop-k l = l.count - l.k

@@ -1,0 +1,23 @@
+-- `judge_with` meets its contract.
+use Prim.Native.Nat.{ℕ, ◌+◌, ◌<◌, ◌≤◌}
+use native.Mathlib.Omega.{arith}
+use mathlib.Core.Path.{◌≡◌, ◌∙◌}
+use lib.ListN.{length}
+use Rattle.image_functions.proofs.One.{blank_size}
+use borrow.Author.Rules.{rules}
+use Rattle.image_functions.proofs.judge_with.Goals as goal
+
+pub judge_all-requires : goal.judge_all-requires
+judge_all-requires c = (c.requires.0, (blank_size 256, c.requires.1))
+
+pub shape_of-counts : goal.shape_of-counts
+shape_of-counts c = c.judge_all.auto.1.1.0
+
+pub shape_of-stamps : goal.shape_of-stamps
+shape_of-stamps c = c.judge_all.auto.1.1.1.1.0
+
+pub shape_of-ring : goal.shape_of-ring
+shape_of-ring c = c.judge_all.auto.1.1.1.1.1.0
+
+pub returns : goal.returns
+returns c = c.judge_all.ensures

@@ -1,0 +1,24 @@
+-- `once_in` meets its contract.
+use Prim.Native.Nat.{ℕ, ◌+◌, ◌<◌, ◌≤◌}
+use native.Mathlib.Omega.{arith}
+use mathlib.Core.Path.{◌≡◌, sym, ◌∙◌}
+use lib.ListN.{length}
+use Rattle.rules.specs.Checker.{names_in_all}
+use Rattle.image_constants.specs.Earlier.{earlier}
+use Rattle.image_naming.proofs.Walking.{zeros_capped, block_is}
+use Rattle.image_naming.proofs.once_in.Goals as goal
+
+pub note_all-requires : goal.note_all-requires
+note_all-requires c = (zeros_capped c.args.seen.now c.requires.0.1, c.requires.1)
+
+pub all_one-requires : goal.all_one-requires
+all_one-requires c = omega (arith, c.requires.0.0, c.note_all.auto.1.1.1.0)
+
+pub shape_of-seen : goal.shape_of-seen
+shape_of-seen c = c.note_all.auto.1.1.1.0
+
+pub returns : goal.returns
+returns c =
+    c.all_one.ensures ∙ block_is c.args.seen.now c.requires.0.1 c.args.base
+    c.args.most (λ (number : ℕ). names_in_all number (earlier c.args.s.now c.args.count)) _
+    c.requires.0.0 c.note_all.ensures
