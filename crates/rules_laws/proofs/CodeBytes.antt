@@ -19,7 +19,7 @@ use Rattle.rules.specs.Image as image
 use Rattle.rules_laws.proofs.Keeps.{After}
 use Rattle.rules_laws.proofs.Layer as layer
 use Rattle.rules_laws.proofs.Coded.{write_constants}
-use Rattle.rules_laws.proofs.Facts.{Fact, All, all_map, all_end, ChunkLaws, Form, plain, byte, captured_at, value_at, text_at, invoke, Still, Grown, as_before, one_more, IsValue, write_all, with_constants, with_ops, jump_bytes, loop_bytes, Bytes}
+use Rattle.rules_laws.proofs.Facts.{Fact, All, all_map, all_end, ChunkLaws, Form, plain, byte, captured_at, value_at, text_at, invoke, ahead, back, closure, Still, Grown, as_before, one_more, IsValue, write_all, with_constants, with_ops, jump_bytes, loop_bytes, Bytes}
 use Rattle.rules.proofs.Computes as computes
 
 -- what a table has is under one of its numbers
@@ -51,6 +51,9 @@ form_bytes st l (captured_at i b) = (b, tt)
 form_bytes {cs = cs} st l (value_at {place = p} {v = v} e q) = (omega (arith, at_inside cs p v e), tt)
 form_bytes {cs = cs} st l (text_at {place = p} e) = (omega (arith, at_inside cs p _ e), tt)
 form_bytes {cs = cs} st l (invoke {place = p} e b) = (omega (arith, at_inside cs p _ e), (b, tt))
+form_bytes {fs = fs} {cs = cs} {n = n} st l (ahead {a = a} {b = b}) = elim st [ ]
+form_bytes {fs = fs} {cs = cs} {n = n} st l (back {a = a} {b = b}) = elim st [ ]
+form_bytes {fs = fs} {cs = cs} {n = n} st l (closure {place = place} {number = number} {f = f} {pairs = pairs} _ _ _ _) = elim st [ ]
 
 set_bytes : (bs : List ℕ) (i v : ℕ) → v < 256 → Bytes bs → Bytes (set bs i v)
 set_bytes [] i v l h = tt

@@ -168,6 +168,9 @@ unfolding naming
 still_closes cs number Plain q bs = refl
 still_closes cs number Byte q bs = refl
 still_closes cs number Captured q bs = refl
+still_closes cs number Ahead q bs = elim q [ ]
+still_closes cs number Back q bs = elim q [ ]
+still_closes cs number Closure q bs = elim q [ ]
 still_closes cs number Value q bs = refl
 still_closes cs number Text q bs = refl
 still_closes cs number Invoke q bs = refl
@@ -295,6 +298,9 @@ still : (kind : Operands) → Still kind → (W : List ℕ) (all : List Piece) (
 still Plain q W all start bs = tt
 still Byte q W all start bs = tt
 still Captured q W all start bs = tt
+still Ahead q W all start bs = elim q [ ]
+still Back q W all start bs = elim q [ ]
+still Closure q W all start bs = elim q [ ]
 still Value q W all start bs = tt
 still Text q W all start bs = tt
 still Invoke q W all start bs = tt

@@ -20,7 +20,7 @@ use Rattle.rules.specs.Compiler.{Compiler, Outcome, ok, err}
 use Rattle.rules_laws.proofs.Keeps.{After}
 use Rattle.rules_laws.proofs.Facts.{All, Form, plain, byte, captured_at, value_at, text_at, invoke, ahead, back, closure, IsValue, a_number, a_string}
 use Rattle.rules_laws.proofs.Tests.{both, or_left, or_right, all_cons}
-use Rattle.rules_laws.proofs.Pieces.{Piece, bytes, code, Border, end, under, Good, Fine, Lands, lands, border_le}
+use Rattle.rules_laws.proofs.Pieces.{Piece, bytes, code, Border, end, under, Good, Fine, Lands, lands, waits, border_le}
 use Rattle.rules_laws.proofs.Runs.{Counts, Counted, counted}
 use Rattle.rules_laws.proofs.Coded.{Formed, Coded, none_known, coded}
 
@@ -162,6 +162,7 @@ module _ (fs : List ObjectFunction) (cs : List Constant) (n : ℕ) (ps : List Pi
 
   jump_fits : {at t : ℕ} → Lands [] ps at t → T (d.is_start whole t || eqb t (length (code ps)))
   jump_fits (lands b) = land_fits b
+  jump_fits {at = at} {t = t} (waits x) = elim x [ ]
 
   form_lands : {kind : Operands} {bs : List ℕ} → Form fs cs n kind bs → (at : ℕ) → at < length (code ps) → Fine (some kind) [] ps at bs →
       T (d.lands_by whole (length (code ps)) at kind bs)

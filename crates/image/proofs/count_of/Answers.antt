@@ -1,4 +1,6 @@
 -- `count_of` meets its contract.
+use mathlib.Core.Path.{ap}
+use mathlib.Core.Bool.{not}
 use Prim.Native.Nat.{ℕ, ◌<◌, ◌≤◌}
 use native.Mathlib.Omega.{arith}
 use mathlib.Core.Path.{◌≡◌, sym, ◌∙◌}
@@ -16,7 +18,7 @@ use Rattle.image.proofs.count_of.Goals as goal
 
 -- the mark and the count are there
 room : (c : goal.Else-not-has) → 6 ≤ length (start-of-else1 c).args.image.now
-room c = leb-true _ _ (sym c.has.ensures ∙ not-false c.has.result c.if-not-has.false)
+room c = leb-true _ _ (sym c.has.ensures ∙ not-false c.has.result (ap not c.if-not-has.false))
 
 -- what is known once they are read
 module _ (c : tie.Else3) where
@@ -60,7 +62,7 @@ module _ (c : tie.After_n) where
 
 pub returns-then-not-has : goal.returns-then-not-has
 returns-then-not-has c =
-    no_room c.args.image.now (leb-false _ _ (sym c.has.ensures ∙ not-true c.has.result c.if-not-has.true))
+    no_room c.args.image.now (leb-false _ _ (sym c.has.ensures ∙ not-true c.has.result (ap not c.if-not-has.true)))
 
 pub mark_at-requires : goal.mark_at-requires
 mark_at-requires c = omega (arith, room c)
@@ -93,7 +95,7 @@ pub returns-then-not-behind : goal.returns-then-not-behind
 returns-then-not-behind c =
     let h = header c in
     answered_behind (image h) (fits h) (marked h) (count h) (counted h) (some h) (bytes h) (number c) (end c) (judged c)
-    (sym (not-true c.behind.result c.if-not-behind.true) ∙ c.behind.ensures)
+    (sym (not-true c.behind.result (ap not c.if-not-behind.true)) ∙ c.behind.ensures)
 
 pub all_named_once-requires : goal.all_named_once-requires
 all_named_once-requires c =
@@ -104,10 +106,10 @@ pub returns-then-all_named_once : goal.returns-then-all_named_once
 returns-then-all_named_once c =
     let h = header c in
     answered_yes (image h) (fits h) (marked h) (count h) (counted h) (some h) (bytes h) (number c) (end c) (judged c)
-    (sym (not-false c.behind.result c.if-not-behind.false) ∙ c.behind.ensures) (sym c.if-all_named_once.true ∙ c.all_named_once.ensures)
+    (sym (not-false c.behind.result (ap not c.if-not-behind.false)) ∙ c.behind.ensures) (sym c.if-all_named_once.true ∙ c.all_named_once.ensures)
 
 pub returns : goal.returns
 returns c =
     let h = header c in
     answered_unnamed (image h) (fits h) (marked h) (count h) (counted h) (some h) (bytes h) (number c) (end c) (judged c)
-    (sym (not-false c.behind.result c.if-not-behind.false) ∙ c.behind.ensures) (sym c.if-all_named_once.false ∙ c.all_named_once.ensures)
+    (sym (not-false c.behind.result (ap not c.if-not-behind.false)) ∙ c.behind.ensures) (sym c.if-all_named_once.false ∙ c.all_named_once.ensures)

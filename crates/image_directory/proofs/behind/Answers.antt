@@ -1,5 +1,7 @@
 -- `behind` meets its contract: what is refused is no directory of the functions, and of one that is as long as theirs the entries decide. Assumes
 -- nothing.
+use mathlib.Core.Path.{ap}
+use mathlib.Core.Bool.{not}
 use Prim.Native.Nat.{◌+◌, ◌≤◌}
 use native.Mathlib.Omega.{arith}
 use mathlib.Core.Path.{sym, ◌∙◌}
@@ -11,7 +13,7 @@ use Rattle.image_directory.proofs.behind.Goals as goal
 
 -- the mark and the count are there
 room : (c : goal.Else-not-has) → (start-of-else2 c).args.at + 6 ≤ length (start-of-else2 c).args.image.now
-room c = leb-true _ _ (sym c.has.ensures ∙ not-false c.has.result c.if-not-has.false)
+room c = leb-true _ _ (sym c.has.ensures ∙ not-false c.has.result (ap not c.if-not-has.false))
 
 pub returns-then-at-image : goal.returns-then-at-image
 returns-then-at-image c =
@@ -20,7 +22,7 @@ returns-then-at-image c =
 pub returns-then-not-has : goal.returns-then-not-has
 returns-then-not-has c =
     no_room c.args.image.now c.args.count c.args.at c.requires c.if-at-image.false
-    (leb-false _ _ (sym c.has.ensures ∙ not-true c.has.result c.if-not-has.true))
+    (leb-false _ _ (sym c.has.ensures ∙ not-true c.has.result (ap not c.if-not-has.true)))
 
 pub mark_at-requires : goal.mark_at-requires
 mark_at-requires c = omega (arith, room c)

@@ -1,4 +1,6 @@
 -- `code_through` meets its contract.
+use mathlib.Core.Path.{ap}
+use mathlib.Core.Bool.{not}
 use Prim.Native.Nat.{◌+◌, ◌≤◌}
 use native.Mathlib.Omega.{arith}
 use mathlib.Core.Path.{sym, ◌∙◌}
@@ -10,12 +12,12 @@ use Rattle.image_directory.proofs.code_through.Goals as goal
 
 -- the mark and the count are there
 room : (c : goal.Else-not-has) → (start-of-else1 c).args.place + 6 ≤ length (start-of-else1 c).args.image.now
-room c = leb-true _ _ (sym c.has.ensures ∙ not-false c.has.result c.if-not-has.false)
+room c = leb-true _ _ (sym c.has.ensures ∙ not-false c.has.result (ap not c.if-not-has.false))
 
 pub returns-then-not-has : goal.returns-then-not-has
 returns-then-not-has c =
     c.refused.ensures ∙ no_room c.args.image.now c.args.place c.args.k
-    (leb-false _ _ (sym c.has.ensures ∙ not-true c.has.result c.if-not-has.true))
+    (leb-false _ _ (sym c.has.ensures ∙ not-true c.has.result (ap not c.if-not-has.true)))
 
 pub mark_at-requires : goal.mark_at-requires
 mark_at-requires c = omega (arith, room c)

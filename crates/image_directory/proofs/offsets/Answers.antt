@@ -19,14 +19,14 @@ u32_at-requires c = omega (arith, c.loop-left-test.true, c.loop-left.invariant.0
 pub returns-then-wide32-at : goal.returns-then-wide32-at
 returns-then-wide32-at c =
     let image = c.args.image.now in
-    other image c.loop-left.at c.loop-left.entry c.loop-left.false (omega (arith, c.loop-left-test.true))
+    other image c.loop-left.at c.loop-left.entry c.loop-left.left (omega (arith, c.loop-left-test.true))
     (omega (arith, c.loop-left-test.true, c.loop-left.invariant.0)) (λ q. c.if-wide32-at.true (c.wide32.ensures.0 ∙ c.u32_at.ensures ∙ q)) ∙
     sym c.loop-left.invariant.1
 
 pub returns-in_default : goal.returns-in_default
 returns-in_default c =
     let image = c.args.image.now in
-    lost image c.loop-left.at c.loop-left.entry c.loop-left.false (omega (arith, c.loop-left-test.true))
+    lost image c.loop-left.at c.loop-left.entry c.loop-left.left (omega (arith, c.loop-left-test.true))
     (sym c.in_default.is ∙ c.skip_function.ensures) ∙ sym c.loop-left.invariant.1
 
 pub overflow_add-entry : goal.overflow_add-entry
@@ -43,7 +43,7 @@ pub loop-left-preserved : goal.loop-left-preserved
 loop-left-preserved c =
     let image = c.args.image.now in (
       omega (arith, c.loop-left-test.true, c.loop-left.invariant.0),
-      c.loop-left.invariant.1 ∙ passed image c.loop-left.at c.loop-left.entry c.loop-left.false c.in-At.next
+      c.loop-left.invariant.1 ∙ passed image c.loop-left.at c.loop-left.entry c.loop-left.left c.in-At.next
           (sym c.in-At.is ∙ c.skip_function.ensures) (omega (arith, c.loop-left-test.true))
           (omega (arith, c.loop-left-test.true, c.loop-left.invariant.0)) (sym c.u32_at.ensures ∙ sym c.wide32.ensures.0 ∙ c.if-wide32-at.false),
     )
@@ -51,5 +51,5 @@ loop-left-preserved c =
 pub returns : goal.returns
 returns c =
     let image = c.args.image.now in
-    none_left image c.loop-left.at c.loop-left.entry c.loop-left.false (omega (arith, c.loop-left-test.false))
+    none_left image c.loop-left.at c.loop-left.entry c.loop-left.left (omega (arith, c.loop-left-test.false))
     (omega (arith, c.loop-left-test.false, c.loop-left.invariant.0)) ∙ sym c.loop-left.invariant.1

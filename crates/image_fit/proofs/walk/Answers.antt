@@ -1,4 +1,6 @@
 -- `walk` meets its contract.
+use mathlib.Core.Path.{ap}
+use mathlib.Core.Bool.{not}
 use Prim.Native.Nat.{◌+◌, ◌-◌, ◌≤◌}
 use native.Mathlib.Omega.{arith}
 use mathlib.Core.Path.{◌≡◌, sym, ◌∙◌}
@@ -63,7 +65,7 @@ returns-then-not-fits c =
     (operands_fit (kinds_in c.args.kinds.now) c.args.upvalues) c.loop-at.n
     c.loop-at.at c.loop-at.skip c.width_at-w.result (omega (arith, c.if-skip-gt0.false))
     c.loop-at-test.true c.width_at-w.ensures (omega (arith, c.if-w-eq0.false))
-    (sym c.fits2.ensures ∙ not-true c.fits2.result c.if-not-fits.true))
+    (sym c.fits2.ensures ∙ not-true c.fits2.result (ap not c.if-not-fits.true)))
 
 pub overflow_sub-skip-else-skip-gt0 : goal.overflow_sub-skip-else-skip-gt0
 overflow_sub-skip-else-skip-gt0 c = omega (arith, c.if-w-eq0.false)
@@ -86,7 +88,7 @@ loop-at-preserved c = (
       c.args.code.now (operands_fit (kinds_in c.args.kinds.now) c.args.upvalues)
       c.loop-at.n c.loop-at.at c.loop-at.skip c.width_at-w.result
       (omega (arith, c.if-skip-gt0.false)) c.loop-at-test.true c.width_at-w.ensures
-      (omega (arith, c.if-w-eq0.false)) (sym c.fits2.ensures ∙ not-false c.fits2.result c.if-not-fits.false),
+      (omega (arith, c.if-w-eq0.false)) (sym c.fits2.ensures ∙ not-false c.fits2.result (ap not c.if-not-fits.false)),
 )
 
 pub returns : goal.returns

@@ -1,4 +1,5 @@
 -- `constants_in` meets its contract.
+use mathlib.Core.Bool.{not}
 use Prim.Native.Nat.{ℕ, ◌+◌, ◌-◌, ◌*◌, ◌<◌, ◌≤◌}
 use native.Mathlib.Omega.{arith}
 use mathlib.Core.Path.{◌≡◌, refl, sym, ◌∙◌, ap}
@@ -33,7 +34,7 @@ pub returns-then-not-all_new : goal.returns-then-not-all_new
 returns-then-not-all_new c =
     constants_old c.args.s.now c.args.k c.args.at c.args.n
     c.gather.new.1.1.1.0 c.in-At.next c.gather.result c.in-At.is
-    c.gather.ensures _ (sym (not-true c.all_new.result c.if-not-all_new.true) ∙ c.all_new.ensures)
+    c.gather.ensures _ (sym (not-true c.all_new.result (ap not c.if-not-all_new.true)) ∙ c.all_new.ensures)
 
 pub kinds_of-requires : goal.kinds_of-requires
 kinds_of-requires c =
@@ -49,7 +50,7 @@ pub returns-then-not-kinds_of : goal.returns-then-not-kinds_of
 returns-then-not-kinds_of c =
     constants_wrong c.args.s.now c.args.k c.args.at c.args.n
     c.gather.new.1.1.1.0 c.in-At.next c.gather.result c.in-At.is
-    c.gather.ensures _ (rw (not-true c.kinds_of.result c.if-not-kinds_of.true) at c.kinds_of.ensures)
+    c.gather.ensures _ (rw (not-true c.kinds_of.result (ap not c.if-not-kinds_of.true)) at c.kinds_of.ensures)
 
 pub shape_of-words : goal.shape_of-words
 shape_of-words c = c.gather.auto.1.1.1.0
@@ -61,4 +62,4 @@ pub returns : goal.returns
 returns c =
     constants_done c.args.s.now c.args.k c.args.at c.args.n
     c.gather.new.1.1.1.0 c.in-At.next c.gather.result c.in-At.is
-    c.gather.ensures _ (sym (not-false c.all_new.result c.if-not-all_new.false) ∙ c.all_new.ensures) (rw (not-false c.kinds_of.result c.if-not-kinds_of.false) at c.kinds_of.ensures)
+    c.gather.ensures _ (sym (not-false c.all_new.result (ap not c.if-not-all_new.false)) ∙ c.all_new.ensures) (rw (not-false c.kinds_of.result (ap not c.if-not-kinds_of.false)) at c.kinds_of.ensures)

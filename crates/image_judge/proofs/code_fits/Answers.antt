@@ -1,4 +1,5 @@
 -- `code_fits` meets its contract.
+use mathlib.Core.Bool.{not}
 use mathlib.Core.Path.{refl, sym, ◌∙◌, ap}
 use mathlib.Core.Bool.{Bool}
 use Rattle.rules.specs.Base.{if◌then◌else◌}
@@ -42,7 +43,7 @@ returns-then-not-jumps c =
     (sym c.in-Yes.is ∙ c.walk.ensures ∙ ap
     (judged (operands_fit (kinds_in c.args.kinds.now) c.args.upvalues) 0)
     (division_is (kinds_in c.args.kinds.now) c.args.code.now)))
-    (sym (not-true c.jumps.result c.if-not-jumps.true) ∙ c.jumps.ensures) ∙ ap
+    (sym (not-true c.jumps.result (ap not c.if-not-jumps.true)) ∙ c.jumps.ensures) ∙ ap
     (judged_code (kinds_in c.args.kinds.now) c.args.upvalues (length c.args.code.now))
     (sym (division_is (kinds_in c.args.kinds.now) c.args.code.now))
 
@@ -60,7 +61,7 @@ shape_of-ring-then-not-all_once c = c.jumps.auto.1.1.0
 
 pub returns-then-not-all_once : goal.returns-then-not-all_once
 returns-then-not-all_once c =
-    ap (λ (b : Bool). if b then Yes c.in-Yes.n else No) (sym (not-true c.all_once.result c.if-not-all_once.true)) ∙ once_is
+    ap (λ (b : Bool). if b then Yes c.in-Yes.n else No) (sym (not-true c.all_once.result (ap not c.if-not-all_once.true))) ∙ once_is
     (kinds_in c.args.kinds.now) c.args.upvalues (length c.args.code.now)
     c.in-Yes.n (from (kinds_in c.args.kinds.now) c.args.code.now 0 0)
     (walked_yes (operands_fit (kinds_in c.args.kinds.now) c.args.upvalues) c.in-Yes.n
@@ -68,7 +69,7 @@ returns-then-not-all_once c =
     (sym c.in-Yes.is ∙ c.walk.ensures ∙ ap
     (judged (operands_fit (kinds_in c.args.kinds.now) c.args.upvalues) 0)
     (division_is (kinds_in c.args.kinds.now) c.args.code.now))) c.all_once.result
-    (sym (not-false c.jumps.result c.if-not-jumps.false) ∙ c.jumps.ensures)
+    (sym (not-false c.jumps.result (ap not c.if-not-jumps.false)) ∙ c.jumps.ensures)
     (c.all_once.ensures ∙ counted_once c.args.kinds.now c.closures.new.1.1.0
     c.args.code.now c.closures.ensures) ∙ ap
     (judged_code (kinds_in c.args.kinds.now) c.args.upvalues (length c.args.code.now))
@@ -79,7 +80,7 @@ shape_of-ring c = c.jumps.auto.1.1.0
 
 pub returns : goal.returns
 returns c =
-    ap (λ (b : Bool). if b then Yes c.in-Yes.n else No) (sym (not-false c.all_once.result c.if-not-all_once.false)) ∙ once_is
+    ap (λ (b : Bool). if b then Yes c.in-Yes.n else No) (sym (not-false c.all_once.result (ap not c.if-not-all_once.false))) ∙ once_is
     (kinds_in c.args.kinds.now) c.args.upvalues (length c.args.code.now)
     c.in-Yes.n (from (kinds_in c.args.kinds.now) c.args.code.now 0 0)
     (walked_yes (operands_fit (kinds_in c.args.kinds.now) c.args.upvalues) c.in-Yes.n
@@ -87,7 +88,7 @@ returns c =
     (sym c.in-Yes.is ∙ c.walk.ensures ∙ ap
     (judged (operands_fit (kinds_in c.args.kinds.now) c.args.upvalues) 0)
     (division_is (kinds_in c.args.kinds.now) c.args.code.now))) c.all_once.result
-    (sym (not-false c.jumps.result c.if-not-jumps.false) ∙ c.jumps.ensures)
+    (sym (not-false c.jumps.result (ap not c.if-not-jumps.false)) ∙ c.jumps.ensures)
     (c.all_once.ensures ∙ counted_once c.args.kinds.now c.closures.new.1.1.0
     c.args.code.now c.closures.ensures) ∙ ap
     (judged_code (kinds_in c.args.kinds.now) c.args.upvalues (length c.args.code.now))

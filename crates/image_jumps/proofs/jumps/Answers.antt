@@ -1,4 +1,6 @@
 -- `jumps` meets its contract.
+use mathlib.Core.Path.{ap}
+use mathlib.Core.Bool.{not}
 use Prim.Native.Nat.{◌+◌, ◌-◌}
 use mathlib.Core.Path.{◌≡◌, refl, sym, ◌∙◌}
 use native.Mathlib.Omega.{arith}
@@ -79,7 +81,7 @@ returns-then-not-lands c =
     (width (kinds_in c.args.kinds.now) (get_or c.args.code.now c.loop-at.at 0)
     (drop (c.loop-at.at + 1) c.args.code.now)) c.loop-at.lead.at
     c.loop-at.lead.skip c.loop-at.invariant.0 (omega (arith, c.if-skip-gt0.false))
-    c.loop-at-test.true refl (sym (not-true c.lands.result c.if-not-lands.true) ∙ c.lands.ensures)
+    c.loop-at-test.true refl (sym (not-true c.lands.result (ap not c.if-not-lands.true)) ∙ c.lands.ensures)
 
 pub width_at-skip-requires : goal.width_at-skip-requires
 width_at-skip-requires c = c.loop-at-test.true
@@ -108,7 +110,7 @@ loop-at-preserved c = (
       c.fill-lead.result.skip c.fill-lead.ensures.0 c.fill-lead.ensures.1)
       (omega (arith, c.fill-lead.ensures.0, c.least.ensures.0.0))
       (omega (arith, c.fill-lead.ensures.0, c.least.ensures.0.1))
-      (sym (not-false c.lands.result c.if-not-lands.false) ∙ c.lands.ensures),
+      (sym (not-false c.lands.result (ap not c.if-not-lands.false)) ∙ c.lands.ensures),
   c.fill-lead.auto.1.1.0 ∙ c.loop-at.invariant.1,
 )
 

@@ -1,4 +1,5 @@
 -- `all_named_once` meets its contract: each function before the block is named once.
+use mathlib.Core.Bool.{not}
 use Prim.Native.Nat.{ℕ, ◌+◌, ◌-◌, ◌*◌, ◌/◌, ◌%◌, ◌<◌, ◌≤◌}
 use native.Mathlib.Omega.{arith}
 use mathlib.Core.Path.{◌≡◌, refl, sym, ◌∙◌, ap}
@@ -32,7 +33,7 @@ pub returns-then-not-block_once : goal.returns-then-not-block_once
 returns-then-not-block_once c =
     named_no c.args.s.now c.args.count (c.args.count - 1) refl c.requires.1
     c.loop-base.base c.least-most.result
-    (sym (not-true c.block_once.result c.if-not-block_once.true) ∙ c.block_once.ensures)
+    (sym (not-true c.block_once.result (ap not c.if-not-block_once.true)) ∙ c.block_once.ensures)
     (omega (arith, c.least-most.ensures.0.1, c.loop-base.invariant.1.0, c.loop-base-test.true))
 
 pub overflow_add-base : goal.overflow_add-base
@@ -51,7 +52,7 @@ loop-base-preserved c = (
     blocks_on
         (λ (number : ℕ). eqb (names_in_all number (earlier c.args.s.now c.args.count)) 1)
         c.loop-base.base c.least-most.result c.loop-base.invariant.1.1
-        (sym (sym (not-false c.block_once.result c.if-not-block_once.false) ∙ c.block_once.ensures)),
+        (sym (sym (not-false c.block_once.result (ap not c.if-not-block_once.false)) ∙ c.block_once.ensures)),
   ),
 )
 

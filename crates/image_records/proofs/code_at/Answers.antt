@@ -1,4 +1,5 @@
 -- `code_at` meets its contract.
+use mathlib.Core.Bool.{not}
 use Prim.Native.Nat.{ℕ, ◌+◌, ◌-◌, ◌*◌, ◌<◌, ◌≤◌}
 use native.Mathlib.Omega.{arith}
 use mathlib.Core.Path.{◌≡◌, refl, sym, ◌∙◌, ap}
@@ -13,18 +14,18 @@ pub returns-then-not-has : goal.returns-then-not-has
 unfolding code_told
 returns-then-not-has c =
     rw (lt-leb _ _ (leb-false (c.args.at + 2) (length c.args.s.now)
-    (sym c.has.ensures ∙ not-true c.has.result c.if-not-has.true))) refl
+    (sym c.has.ensures ∙ not-true c.has.result (ap not c.if-not-has.true)))) refl
 
 pub mark_at-requires : goal.mark_at-requires
 mark_at-requires c =
-    (leb-true (c.args.at + 2) (length c.args.s.now) (sym c.has.ensures ∙ not-false c.has.result c.if-not-has.false))
+    (leb-true (c.args.at + 2) (length c.args.s.now) (sym c.has.ensures ∙ not-false c.has.result (ap not c.if-not-has.false)))
 
 pub returns-then-mark_at-ne-CODE : goal.returns-then-mark_at-ne-CODE
 unfolding code_told
 returns-then-mark_at-ne-CODE c =
     rw (
       le-leb _ _ (leb-true (c.args.at + 2) (length c.args.s.now)
-          (sym c.has.ensures ∙ not-false c.has.result c.if-not-has.false)),
+          (sym c.has.ensures ∙ not-false c.has.result (ap not c.if-not-has.false))),
       ne_eqb _ _
           (λ q. c.if-mark_at-ne-CODE.true (c.mark_at.ensures ∙ q)),
     ) refl
@@ -32,31 +33,31 @@ returns-then-mark_at-ne-CODE c =
 pub overflow_add-at : goal.overflow_add-at
 overflow_add-at c =
     let h = (leb-true (c.args.at + 2) (length c.args.s.now)
-    (sym c.has.ensures ∙ not-false c.has.result c.if-not-has.false)) in omega arith
+    (sym c.has.ensures ∙ not-false c.has.result (ap not c.if-not-has.false))) in omega arith
 
 pub returns-then-not-has-2 : goal.returns-then-not-has-2
 unfolding code_told
 returns-then-not-has-2 c =
     rw (
       le-leb _ _ (leb-true (c.args.at + 2) (length c.args.s.now)
-          (sym c.has.ensures ∙ not-false c.has.result c.if-not-has.false)),
+          (sym c.has.ensures ∙ not-false c.has.result (ap not c.if-not-has.false))),
       eq-eqb _ _
           (sym c.mark_at.ensures ∙ c.if-mark_at-ne-CODE.false),
-      sym c.has-2.ensures ∙ not-true c.has-2.result c.if-not-has-2.true,
+      sym c.has-2.ensures ∙ not-true c.has-2.result (ap not c.if-not-has-2.true),
     ) refl
 
 pub overflow_add-result : goal.overflow_add-result
 overflow_add-result c =
     let h = (leb-true (c.args.at + 2) (length c.args.s.now)
-    (sym c.has.ensures ∙ not-false c.has.result c.if-not-has.false)) in omega (arith, h, c.well_formed)
+    (sym c.has.ensures ∙ not-false c.has.result (ap not c.if-not-has.false))) in omega (arith, h, c.well_formed)
 
 pub returns : goal.returns
 unfolding code_told
 returns c =
     rw (
       le-leb _ _ (leb-true (c.args.at + 2) (length c.args.s.now)
-          (sym c.has.ensures ∙ not-false c.has.result c.if-not-has.false)),
+          (sym c.has.ensures ∙ not-false c.has.result (ap not c.if-not-has.false))),
       eq-eqb _ _
           (sym c.mark_at.ensures ∙ c.if-mark_at-ne-CODE.false),
-      sym c.has-2.ensures ∙ not-false c.has-2.result c.if-not-has-2.false,
+      sym c.has-2.ensures ∙ not-false c.has-2.result (ap not c.if-not-has-2.false),
     ) refl

@@ -1,4 +1,5 @@
 -- `runs` meets its contract: after the runs that are passed, what is left comes to what there was.
+use mathlib.Core.Bool.{not}
 use Prim.Native.Nat.{ℕ, ◌+◌, ◌-◌, ◌*◌, ◌<◌, ◌≤◌}
 use native.Mathlib.Omega.{arith}
 use mathlib.Core.Path.{◌≡◌, refl, sym, ◌∙◌, ap}
@@ -22,17 +23,17 @@ returns-then-not-has c =
     c.loop-i.sum c.loop-i-test.true
     (run_short c.args.s.now c.loop-i.at
     (leb-false (c.loop-i.at + 11) (length c.args.s.now)
-    (sym c.has.ensures ∙ not-true c.has.result c.if-not-has.true))) ∙ sym c.loop-i.invariant.2
+    (sym c.has.ensures ∙ not-true c.has.result (ap not c.if-not-has.true)))) ∙ sym c.loop-i.invariant.2
 
 pub mark_at-requires : goal.mark_at-requires
 mark_at-requires c =
     let h = (leb-true (c.loop-i.at + 11) (length c.args.s.now)
-    (sym c.has.ensures ∙ not-false c.has.result c.if-not-has.false)) in omega (arith, h, c.well_formed)
+    (sym c.has.ensures ∙ not-false c.has.result (ap not c.if-not-has.false))) in omega (arith, h, c.well_formed)
 
 pub returns-then-mark_at-ne-RUN : goal.returns-then-mark_at-ne-RUN
 returns-then-mark_at-ne-RUN c =
     let h = (leb-true (c.loop-i.at + 11) (length c.args.s.now)
-    (sym c.has.ensures ∙ not-false c.has.result c.if-not-has.false)) in runs_stop
+    (sym c.has.ensures ∙ not-false c.has.result (ap not c.if-not-has.false))) in runs_stop
     c.args.s.now c.args.n c.loop-i.i c.loop-i.at
     (run_of c.loop-i.start c.loop-i.end c.loop-i.count) c.loop-i.sum
     c.loop-i-test.true (run_unmarked c.args.s.now c.loop-i.at (omega (arith, h))
@@ -41,32 +42,32 @@ returns-then-mark_at-ne-RUN c =
 pub overflow_add-at : goal.overflow_add-at
 overflow_add-at c =
     let h = (leb-true (c.loop-i.at + 11) (length c.args.s.now)
-    (sym c.has.ensures ∙ not-false c.has.result c.if-not-has.false)) in omega (arith, h, c.well_formed)
+    (sym c.has.ensures ∙ not-false c.has.result (ap not c.if-not-has.false))) in omega (arith, h, c.well_formed)
 
 pub u32_at-a-requires : goal.u32_at-a-requires
 u32_at-a-requires c =
     let h = (leb-true (c.loop-i.at + 11) (length c.args.s.now)
-    (sym c.has.ensures ∙ not-false c.has.result c.if-not-has.false)) in omega (arith, h, c.well_formed)
+    (sym c.has.ensures ∙ not-false c.has.result (ap not c.if-not-has.false))) in omega (arith, h, c.well_formed)
 
 pub overflow_add-at-in-loop-i : goal.overflow_add-at-in-loop-i
 overflow_add-at-in-loop-i c =
     let h = (leb-true (c.loop-i.at + 11) (length c.args.s.now)
-    (sym c.has.ensures ∙ not-false c.has.result c.if-not-has.false)) in omega (arith, h, c.well_formed)
+    (sym c.has.ensures ∙ not-false c.has.result (ap not c.if-not-has.false))) in omega (arith, h, c.well_formed)
 
 pub u32_at-e-requires : goal.u32_at-e-requires
 u32_at-e-requires c =
     let h = (leb-true (c.loop-i.at + 11) (length c.args.s.now)
-    (sym c.has.ensures ∙ not-false c.has.result c.if-not-has.false)) in omega (arith, h, c.well_formed)
+    (sym c.has.ensures ∙ not-false c.has.result (ap not c.if-not-has.false))) in omega (arith, h, c.well_formed)
 
 pub overflow_add-at-in-loop-i-2 : goal.overflow_add-at-in-loop-i-2
 overflow_add-at-in-loop-i-2 c =
     let h = (leb-true (c.loop-i.at + 11) (length c.args.s.now)
-    (sym c.has.ensures ∙ not-false c.has.result c.if-not-has.false)) in omega (arith, h, c.well_formed)
+    (sym c.has.ensures ∙ not-false c.has.result (ap not c.if-not-has.false))) in omega (arith, h, c.well_formed)
 
 pub u8_at-requires : goal.u8_at-requires
 u8_at-requires c =
     let h = (leb-true (c.loop-i.at + 11) (length c.args.s.now)
-    (sym c.has.ensures ∙ not-false c.has.result c.if-not-has.false)) in omega (arith, h, c.well_formed)
+    (sym c.has.ensures ∙ not-false c.has.result (ap not c.if-not-has.false))) in omega (arith, h, c.well_formed)
 
 pub returns-then-c-eq0 : goal.returns-then-c-eq0
 returns-then-c-eq0 c =
@@ -74,7 +75,7 @@ returns-then-c-eq0 c =
     (run_of c.loop-i.start c.loop-i.end c.loop-i.count) c.loop-i.sum
     c.u32_at-a.result c.u32_at-e.result c.long8-c.result c.loop-i-test.true
     (leb-true (c.loop-i.at + 11) (length c.args.s.now)
-    (sym c.has.ensures ∙ not-false c.has.result c.if-not-has.false))
+    (sym c.has.ensures ∙ not-false c.has.result (ap not c.if-not-has.false)))
     (sym c.mark_at.ensures ∙ c.if-mark_at-ne-RUN.false) c.u32_at-a.ensures
     c.u32_at-e.ensures (c.long8-c.ensures.0 ∙ c.u8_at.ensures) c.if-c-eq0.true ∙ sym c.loop-i.invariant.2
 
@@ -84,10 +85,10 @@ returns-then-not-follows c =
     (run_of c.loop-i.start c.loop-i.end c.loop-i.count) c.loop-i.sum
     c.u32_at-a.result c.u32_at-e.result c.long8-c.result
     c.loop-i-test.true (leb-true (c.loop-i.at + 11) (length c.args.s.now)
-    (sym c.has.ensures ∙ not-false c.has.result c.if-not-has.false))
+    (sym c.has.ensures ∙ not-false c.has.result (ap not c.if-not-has.false)))
     (sym c.mark_at.ensures ∙ c.if-mark_at-ne-RUN.false) c.u32_at-a.ensures
     c.u32_at-e.ensures (c.long8-c.ensures.0 ∙ c.u8_at.ensures)
-    (sym (not-true c.follows.result c.if-not-follows.true) ∙ c.follows.ensures) ∙ sym c.loop-i.invariant.2
+    (sym (not-true c.follows.result (ap not c.if-not-follows.true)) ∙ c.follows.ensures) ∙ sym c.loop-i.invariant.2
 
 pub overflow_add-sum : goal.overflow_add-sum
 overflow_add-sum c = omega (arith, c.long8-c.ensures.1, c.loop-i.invariant.1, c.loop-i-test.true, c.requires)
@@ -95,7 +96,7 @@ overflow_add-sum c = omega (arith, c.long8-c.ensures.1, c.loop-i.invariant.1, c.
 pub overflow_add-at-in-loop-i-3 : goal.overflow_add-at-in-loop-i-3
 overflow_add-at-in-loop-i-3 c =
     let h = (leb-true (c.loop-i.at + 11) (length c.args.s.now)
-    (sym c.has.ensures ∙ not-false c.has.result c.if-not-has.false)) in omega (arith, h, c.well_formed)
+    (sym c.has.ensures ∙ not-false c.has.result (ap not c.if-not-has.false))) in omega (arith, h, c.well_formed)
 
 pub overflow_add-i : goal.overflow_add-i
 overflow_add-i c = omega (arith, c.loop-i-test.true, c.requires)
@@ -111,11 +112,11 @@ loop-i-preserved c = (
       c.loop-i.at (run_of c.loop-i.start c.loop-i.end c.loop-i.count)
       c.loop-i.sum c.u32_at-a.result c.u32_at-e.result c.long8-c.result
       c.loop-i-test.true (leb-true (c.loop-i.at + 11) (length c.args.s.now)
-      (sym c.has.ensures ∙ not-false c.has.result c.if-not-has.false))
+      (sym c.has.ensures ∙ not-false c.has.result (ap not c.if-not-has.false)))
       (sym c.mark_at.ensures ∙ c.if-mark_at-ne-RUN.false) c.u32_at-a.ensures
       c.u32_at-e.ensures (c.long8-c.ensures.0 ∙ c.u8_at.ensures)
       (let z = c.if-c-eq0.false in omega (arith, z)) c.long8-c.ensures.1
-      (sym (not-false c.follows.result c.if-not-follows.false) ∙ c.follows.ensures),
+      (sym (not-false c.follows.result (ap not c.if-not-follows.false)) ∙ c.follows.ensures),
 )
 
 pub returns : goal.returns

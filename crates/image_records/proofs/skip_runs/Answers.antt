@@ -1,4 +1,5 @@
 -- `skip_runs` meets its contract: where the runs that are left end is where all of them end.
+use mathlib.Core.Bool.{not}
 use Prim.Native.Nat.{ℕ, ◌+◌, ◌-◌, ◌*◌, ◌<◌, ◌≤◌}
 use native.Mathlib.Omega.{arith}
 use mathlib.Core.Path.{◌≡◌, refl, sym, ◌∙◌, ap}
@@ -22,17 +23,17 @@ returns-then-not-has c =
     c.loop-i.at c.loop-i-test.true
     (run_short c.args.s.now c.loop-i.at
     (leb-false (c.loop-i.at + 11) (length c.args.s.now)
-    (sym c.has.ensures ∙ not-true c.has.result c.if-not-has.true))) ∙ sym c.loop-i.invariant.1
+    (sym c.has.ensures ∙ not-true c.has.result (ap not c.if-not-has.true)))) ∙ sym c.loop-i.invariant.1
 
 pub mark_at-requires : goal.mark_at-requires
 mark_at-requires c =
     let h = (leb-true (c.loop-i.at + 11) (length c.args.s.now)
-    (sym c.has.ensures ∙ not-false c.has.result c.if-not-has.false)) in omega (arith, h, c.well_formed)
+    (sym c.has.ensures ∙ not-false c.has.result (ap not c.if-not-has.false))) in omega (arith, h, c.well_formed)
 
 pub returns-then-mark_at-ne-RUN : goal.returns-then-mark_at-ne-RUN
 returns-then-mark_at-ne-RUN c =
     let h = (leb-true (c.loop-i.at + 11) (length c.args.s.now)
-    (sym c.has.ensures ∙ not-false c.has.result c.if-not-has.false)) in skip_stops
+    (sym c.has.ensures ∙ not-false c.has.result (ap not c.if-not-has.false))) in skip_stops
     (read_run c.args.s.now) c.args.n c.loop-i.i c.loop-i.at
     c.loop-i-test.true (run_unmarked c.args.s.now c.loop-i.at (omega (arith, h))
     (λ q. c.if-mark_at-ne-RUN.true (c.mark_at.ensures ∙ q))) ∙ sym c.loop-i.invariant.1
@@ -40,7 +41,7 @@ returns-then-mark_at-ne-RUN c =
 pub overflow_add-at : goal.overflow_add-at
 overflow_add-at c =
     let h = (leb-true (c.loop-i.at + 11) (length c.args.s.now)
-    (sym c.has.ensures ∙ not-false c.has.result c.if-not-has.false)) in omega (arith, h, c.well_formed)
+    (sym c.has.ensures ∙ not-false c.has.result (ap not c.if-not-has.false))) in omega (arith, h, c.well_formed)
 
 pub overflow_add-i : goal.overflow_add-i
 overflow_add-i c = omega (arith, c.loop-i-test.true)
@@ -55,7 +56,7 @@ loop-i-preserved c = (
       c.args.n c.loop-i.i c.loop-i.at (c.loop-i.at + 11) _
       c.loop-i-test.true (run_there c.args.s.now c.loop-i.at
       (leb-true (c.loop-i.at + 11) (length c.args.s.now)
-      (sym c.has.ensures ∙ not-false c.has.result c.if-not-has.false)) (sym c.mark_at.ensures ∙ c.if-mark_at-ne-RUN.false)),
+      (sym c.has.ensures ∙ not-false c.has.result (ap not c.if-not-has.false))) (sym c.mark_at.ensures ∙ c.if-mark_at-ne-RUN.false)),
 )
 
 pub returns : goal.returns

@@ -1,4 +1,6 @@
 -- `constants` meets its contract.
+use mathlib.Core.Path.{ap}
+use mathlib.Core.Bool.{not}
 use native.Mathlib.Omega.{arith}
 use mathlib.Core.Path.{◌∙◌}
 use borrow.Author.Tests.{not-true, not-false}
@@ -25,7 +27,7 @@ pub returns-then-not-kinds_of : goal.returns-then-not-kinds_of
 returns-then-not-kinds_of c =
     (
       known_wrong c.args.s.now c.args.k c.args.at c.args.n c.args.first c.requires.0.0 _ c.gather.result _ c.gather.ensures
-          (rw (not-true c.kinds_of.result c.if-not-kinds_of.true) at c.kinds_of.ensures) _,
+          (rw (not-true c.kinds_of.result (ap not c.if-not-kinds_of.true)) at c.kinds_of.ensures) _,
       c.gather.kept.1.1.1.0 ∙ c.requires.1.0,
     )
 
@@ -37,6 +39,6 @@ returns c =
     (
       known_done c.args.s.now c.args.k c.args.at c.args.n c.args.first c.requires.0.0 _ c.gather.result c.skip_constants.result
           c.in-At.next _ c.gather.ensures c.in-At.is
-          (rw (not-false c.kinds_of.result c.if-not-kinds_of.false) at c.kinds_of.ensures) c.skip_constants.ensures,
+          (rw (not-false c.kinds_of.result (ap not c.if-not-kinds_of.false)) at c.kinds_of.ensures) c.skip_constants.ensures,
       c.gather.kept.1.1.1.0 ∙ c.requires.1.0,
     )

@@ -1,4 +1,5 @@
 -- `touches` meets its contract.
+use mathlib.Core.Bool.{not}
 use Prim.Native.Nat.{ℕ, ◌+◌, ◌*◌}
 use native.Mathlib.Omega.{arith}
 use mathlib.Core.Path.{◌≡◌, sym, ◌∙◌, ap}
@@ -13,12 +14,12 @@ use Rattle.image_touch.proofs.touches.Goals as goal
 
 -- one of the three opcodes
 global : (c : goal.Else-not-names_global) → names_global (get_or (start-of-else1 c).args.code.now (start-of-else1 c).args.at 0) ≡ true
-global c = sym c.names_global.ensures ∙ not-false c.names_global.result c.if-not-names_global.false
+global c = sym c.names_global.ensures ∙ not-false c.names_global.result (ap not c.if-not-names_global.false)
 
 pub returns-then-not-names_global : goal.returns-then-not-names_global
 returns-then-not-names_global c =
     other_op c.args.code.now c.args.kinds.now c.args.words.now c.args.at c.args.n c.args.name
-    (sym c.names_global.ensures ∙ not-true c.names_global.result c.if-not-names_global.true)
+    (sym c.names_global.ensures ∙ not-true c.names_global.result (ap not c.if-not-names_global.true))
 
 pub bounds-code-at-2 : goal.bounds-code-at-2
 bounds-code-at-2 c =

@@ -44,7 +44,7 @@ returns-then-left-count c =
     cc (
       holds c.args.words.now
           c.loop-at.at
-          c.loop-at.false
+          c.loop-at.left
           c.loop-at-test.true
           (omega (arith, c.if-left-count.true, c.wide32-count.ensures.0)),
       c.long32.ensures.0,
@@ -64,7 +64,7 @@ loop-at-preserved c = (
   cc (
     c.loop-at.invariant.1,
     passes c.args.words.now
-        c.loop-at.at c.loop-at.false c.loop-at-test.true
+        c.loop-at.at c.loop-at.left c.loop-at-test.true
         (omega (arith, c.if-left-count.false, c.wide32-count.ensures.0)),
     c.wide32-count.ensures.0,
   ),

@@ -1,5 +1,7 @@
 -- The jump back, and where there is a condition the end that its jump lands on. The places first, each over the one before: of a call `-asked` is the place where it is made,
 -- `-left` the call from where its areas have come back, `-went` and `-halted` the call once its answer is known.
+use mathlib.Core.Path.{ap}
+use mathlib.Core.Bool.{not}
 use mathlib.Core.Path.{◌≡◌}
 use mathlib.Core.Bool.{true}
 use borrow.Author.Rules.{rules}
@@ -10,7 +12,7 @@ use Rattle.stmt_jumps.proofs.close_loop.Lts as lts
 use Rattle.stmt_jumps.proofs.close_loop.Reads as reads
 
 has : (c : lts.Else1 reads.Pre reads.Post) → (start (back-asked (back-went c.before).before)).args.has_cond ≡ true
-has c = ways.there_is (start (back-asked)).args.has_cond c.if-not-has_cond.false
+has c = ways.there_is (start (back-asked)).args.has_cond (ap not c.if-not-has_cond.false)
 
 pub returns-in_default : goal.returns-in_default
 returns-in_default c =
@@ -18,7 +20,7 @@ returns-in_default c =
 
 pub returns-then-not-has_cond : goal.returns-then-not-has_cond
 returns-then-not-has_cond c =
-    λ class. ways.loop_plain _ _ _ c.args.has_cond (ways.there_is_none c.args.has_cond c.if-not-has_cond.true) (c.emit_loop-a.ensures class) c.in-Next.is
+    λ class. ways.loop_plain _ _ _ c.args.has_cond (ways.there_is_none c.args.has_cond (ap not c.if-not-has_cond.true)) (c.emit_loop-a.ensures class) c.in-Next.is
 
 pub patch_jump-b-requires : goal.patch_jump-b-requires
 patch_jump-b-requires c =

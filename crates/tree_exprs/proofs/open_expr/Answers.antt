@@ -1,4 +1,6 @@
 -- `open_expr` meets its contract: one law for each way out.
+use mathlib.Core.Path.{ap}
+use mathlib.Core.Bool.{not}
 use Rattle.rules.specs.TreeFile.{expr_marks}
 use Rattle.tree_small.proofs.Places.{cut, there}
 use Rattle.tree_small.proofs.Tables.{known_some}
@@ -23,14 +25,14 @@ returns-then-not-has c =
     opens_bad c.args.tree.now c.args.names c.args.depth c.args.start
     (cut_expr c.args.tree.now c.args.names c.args.depth c.args.start
     (known_some expr_marks c.args.tree.now c.args.start c.expr_mark-mark.ensures
-    c.if-mark-eq0.false) c.if-depth-eq0.false (cut c.has.ensures c.if-not-has.true))
+    c.if-mark-eq0.false) c.if-depth-eq0.false (cut c.has.ensures (ap not c.if-not-has.true)))
 
 pub expr_kids-requires : goal.expr_kids-requires
-expr_kids-requires c = there c.has.ensures c.if-not-has.false
+expr_kids-requires c = there c.has.ensures (ap not c.if-not-has.false)
 
 pub returns : goal.returns
 returns c =
     opens_kids c.args.tree.now c.args.names c.args.depth
     c.args.start (known_some expr_marks c.args.tree.now c.args.start
     c.expr_mark-mark.ensures c.if-mark-eq0.false) c.if-depth-eq0.false
-    (there c.has.ensures c.if-not-has.false) c.expr_kids.ensures
+    (there c.has.ensures (ap not c.if-not-has.false)) c.expr_kids.ensures

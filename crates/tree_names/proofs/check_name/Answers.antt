@@ -1,4 +1,6 @@
 -- `check_name` meets its contract: one law for each way out.
+use mathlib.Core.Path.{ap}
+use mathlib.Core.Bool.{not}
 use mathlib.Core.Path.{sym, ◌∙◌}
 use Prim.Native.Nat.{◌+◌}
 use native.Mathlib.Omega.{arith}
@@ -15,33 +17,33 @@ returns-then-not-has c =
     read_bad c.args.tree.now c.args.last c.args.at
     (name_cut c.args.tree.now
     (last_name c.args.tree.now c.args.last c.args.at)
-    c.args.at (cut c.has.ensures c.if-not-has.true))
+    c.args.at (cut c.has.ensures (ap not c.if-not-has.true)))
 
 pub mark_at-requires : goal.mark_at-requires
-mark_at-requires c = omega (arith, there {a = c.args.at + 4} {b = length c.args.tree.now} c.has.ensures c.if-not-has.false)
+mark_at-requires c = omega (arith, there {a = c.args.at + 4} {b = length c.args.tree.now} c.has.ensures (ap not c.if-not-has.false))
 
 pub returns-then-mark_at-ne-NAME : goal.returns-then-mark_at-ne-NAME
 returns-then-mark_at-ne-NAME c =
     read_bad c.args.tree.now c.args.last c.args.at
     (name_not c.args.tree.now (last_name c.args.tree.now c.args.last
-    c.args.at) c.args.at (there c.has.ensures c.if-not-has.false)
+    c.args.at) c.args.at (there c.has.ensures (ap not c.if-not-has.false))
     (λ e. c.if-mark_at-ne-NAME.true (c.mark_at.ensures ∙ e)))
 
 pub u16_at-size-requires : goal.u16_at-size-requires
 u16_at-size-requires c =
-    omega (arith, there {a = c.args.at + 4} {b = length c.args.tree.now} c.has.ensures c.if-not-has.false)
+    omega (arith, there {a = c.args.at + 4} {b = length c.args.tree.now} c.has.ensures (ap not c.if-not-has.false))
 
 pub returns-then-not-has-2 : goal.returns-then-not-has-2
 returns-then-not-has-2 c =
     read_bad c.args.tree.now c.args.last c.args.at
     (text_cut c.args.tree.now (last_name c.args.tree.now c.args.last
     c.args.at) c.args.at c.u16_at-size.result
-    (there c.has.ensures c.if-not-has.false)
-    (sym c.mark_at.ensures ∙ c.if-mark_at-ne-NAME.false) c.u16_at-size.ensures (cut c.has-2.ensures c.if-not-has-2.true))
+    (there c.has.ensures (ap not c.if-not-has.false))
+    (sym c.mark_at.ensures ∙ c.if-mark_at-ne-NAME.false) c.u16_at-size.ensures (cut c.has-2.ensures (ap not c.if-not-has-2.true)))
 
 pub slice_bounds-is_above-end : goal.slice_bounds-is_above-end
 slice_bounds-is_above-end c =
-    omega (arith, there {a = c.args.at + 4 + c.u16_at-size.result} {b = length c.args.tree.now} c.has-2.ensures c.if-not-has-2.false)
+    omega (arith, there {a = c.args.at + 4 + c.u16_at-size.result} {b = length c.args.tree.now} c.has-2.ensures (ap not c.if-not-has-2.false))
 
 pub returns-then-not-is_above : goal.returns-then-not-is_above
 unfolding text
@@ -49,16 +51,16 @@ returns-then-not-is_above c =
     read_bad c.args.tree.now c.args.last c.args.at
     (not_above c.args.tree.now (last_name c.args.tree.now c.args.last
     c.args.at) c.args.at c.u16_at-size.result
-    (there c.has.ensures c.if-not-has.false) (sym c.mark_at.ensures ∙ c.if-mark_at-ne-NAME.false)
-    c.u16_at-size.ensures (there c.has-2.ensures c.if-not-has-2.false)
-    (sym c.is_above.ensures ∙ not-true c.is_above.result c.if-not-is_above.true))
+    (there c.has.ensures (ap not c.if-not-has.false)) (sym c.mark_at.ensures ∙ c.if-mark_at-ne-NAME.false)
+    c.u16_at-size.ensures (there c.has-2.ensures (ap not c.if-not-has-2.false))
+    (sym c.is_above.ensures ∙ not-true c.is_above.result (ap not c.if-not-is_above.true)))
 
 pub slice_bounds-may_be_written-end : goal.slice_bounds-may_be_written-end
 slice_bounds-may_be_written-end c =
     omega (
       arith,
       there {a = c.args.at + 4 + c.u16_at-size.result} {b = length c.args.tree.now}
-          c.has-2.ensures c.if-not-has-2.false,
+          c.has-2.ensures (ap not c.if-not-has-2.false),
     )
 
 pub returns-then-not-may_be_written : goal.returns-then-not-may_be_written
@@ -67,10 +69,10 @@ returns-then-not-may_be_written c =
     read_bad c.args.tree.now c.args.last c.args.at
     (not_written c.args.tree.now (last_name c.args.tree.now c.args.last
     c.args.at) c.args.at c.u16_at-size.result
-    (there c.has.ensures c.if-not-has.false) (sym c.mark_at.ensures ∙ c.if-mark_at-ne-NAME.false)
-    c.u16_at-size.ensures (there c.has-2.ensures c.if-not-has-2.false)
-    (sym c.is_above.ensures ∙ not-false c.is_above.result c.if-not-is_above.false)
-    (fixed_in c.args.tree.now _ _ ∙ sym c.may_be_written.ensures ∙ not-true c.may_be_written.result c.if-not-may_be_written.true))
+    (there c.has.ensures (ap not c.if-not-has.false)) (sym c.mark_at.ensures ∙ c.if-mark_at-ne-NAME.false)
+    c.u16_at-size.ensures (there c.has-2.ensures (ap not c.if-not-has-2.false))
+    (sym c.is_above.ensures ∙ not-false c.is_above.result (ap not c.if-not-is_above.false))
+    (fixed_in c.args.tree.now _ _ ∙ sym c.may_be_written.ensures ∙ not-true c.may_be_written.result (ap not c.if-not-may_be_written.true)))
 
 pub returns : goal.returns
 unfolding text
@@ -79,8 +81,8 @@ returns c =
     (c.args.at + 4 + c.u16_at-size.result)
     (name_is c.args.tree.now (last_name c.args.tree.now c.args.last
     c.args.at) c.args.at c.u16_at-size.result
-    (there c.has.ensures c.if-not-has.false) (sym c.mark_at.ensures ∙ c.if-mark_at-ne-NAME.false)
-    c.u16_at-size.ensures (there c.has-2.ensures c.if-not-has-2.false)
-    (sym c.is_above.ensures ∙ not-false c.is_above.result c.if-not-is_above.false)
+    (there c.has.ensures (ap not c.if-not-has.false)) (sym c.mark_at.ensures ∙ c.if-mark_at-ne-NAME.false)
+    c.u16_at-size.ensures (there c.has-2.ensures (ap not c.if-not-has-2.false))
+    (sym c.is_above.ensures ∙ not-false c.is_above.result (ap not c.if-not-is_above.false))
     (fixed_in c.args.tree.now _ _ ∙ sym c.may_be_written.ensures ∙ not-false c.may_be_written.result
-    c.if-not-may_be_written.false)) (omega arith) (there c.has-2.ensures c.if-not-has-2.false)
+    (ap not c.if-not-may_be_written.false))) (omega arith) (there c.has-2.ensures (ap not c.if-not-has-2.false))

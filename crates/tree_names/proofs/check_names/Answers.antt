@@ -20,16 +20,16 @@ check_name-step-requires c = c.loop-left.invariant.1.0
 
 pub returns-in_default : goal.returns-in_default
 returns-in_default c =
-    c.in_default.is ∙ sym (names_stop c.args.tree.now c.loop-left.false
+    c.in_default.is ∙ sym (names_stop c.args.tree.now c.loop-left.left
     (last_name c.args.tree.now c.loop-left.last c.loop-left.next)
     c.loop-left.next c.loop-left-test.true
     (was_bad _ c.check_name-step.ensures.whole c.in_default.is)) ∙ c.loop-left.invariant.0
 
 pub loop-left-preserved : goal.loop-left-preserved
 loop-left-preserved c = (
-  ap (λ (l : Option (List ℕ)). place (read_names c.args.tree.now (c.loop-left.false - 1) l
+  ap (λ (l : Option (List ℕ)). place (read_names c.args.tree.now (c.loop-left.left - 1) l
       c.in-At.past)) (last_some c.args.tree.now c.loop-left.next _
-      c.loop-left.invariant.1.1) ∙ names_go c.args.tree.now c.loop-left.false
+      c.loop-left.invariant.1.1) ∙ names_go c.args.tree.now c.loop-left.left
       (last_name c.args.tree.now c.loop-left.last c.loop-left.next)
       c.loop-left.next c.loop-left-test.true
       (c.check_name-step.ensures.is _ c.in-At.is) ∙ c.loop-left.invariant.0,
@@ -45,5 +45,5 @@ loop-left-preserved c = (
 
 pub returns : goal.returns
 returns c =
-    sym (names_none c.args.tree.now c.loop-left.false
+    sym (names_none c.args.tree.now c.loop-left.left
     (last_name c.args.tree.now c.loop-left.last c.loop-left.next) c.loop-left.next c.loop-left-test.false) ∙ c.loop-left.invariant.0

@@ -1,4 +1,5 @@
 -- `byte_at` meets its contract.
+use mathlib.Core.Bool.{not}
 use mathlib.Core.Path.{ap}
 use native.Mathlib.Omega.{arith}
 use Rattle.tree_small.specs.declared.Field.TheVariants.{Is}
@@ -7,17 +8,17 @@ use borrow.Author.Rules.{rules}
 use Rattle.tree_small.proofs.byte_at.Goals as goal
 
 pub returns-then-not-has : goal.returns-then-not-has
-returns-then-not-has c = byte_cut c.args.tree.now c.args.most c.args.at (cut c.has.ensures c.if-not-has.true)
+returns-then-not-has c = byte_cut c.args.tree.now c.args.most c.args.at (cut c.has.ensures (ap not c.if-not-has.true))
 
 pub u8_at-byte-requires : goal.u8_at-byte-requires
-u8_at-byte-requires c = there c.has.ensures c.if-not-has.false
+u8_at-byte-requires c = there c.has.ensures (ap not c.if-not-has.false)
 
 pub returns-then-most-byte : goal.returns-then-most-byte
 returns-then-most-byte c =
     byte_big c.args.tree.now c.args.most c.args.at
-    (there c.has.ensures c.if-not-has.false) (omega (arith, c.u8_at-byte.ensures, c.if-most-byte.true))
+    (there c.has.ensures (ap not c.if-not-has.false)) (omega (arith, c.u8_at-byte.ensures, c.if-most-byte.true))
 
 pub returns : goal.returns
 returns c =
     told (ap Is c.u8_at-byte.ensures) (byte_is c.args.tree.now c.args.most c.args.at
-    (there c.has.ensures c.if-not-has.false) (omega (arith, c.u8_at-byte.ensures, c.if-most-byte.false)))
+    (there c.has.ensures (ap not c.if-not-has.false)) (omega (arith, c.u8_at-byte.ensures, c.if-most-byte.false)))

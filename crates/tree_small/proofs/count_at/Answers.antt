@@ -1,4 +1,5 @@
 -- `count_at` meets its contract.
+use mathlib.Core.Bool.{not}
 use mathlib.Core.Path.{ap}
 use native.Mathlib.Omega.{arith}
 use Rattle.tree_small.specs.declared.Field.TheVariants.{Is}
@@ -7,12 +8,12 @@ use borrow.Author.Rules.{rules}
 use Rattle.tree_small.proofs.count_at.Goals as goal
 
 pub returns-then-not-has : goal.returns-then-not-has
-returns-then-not-has c = count_cut c.args.tree.now c.args.at (cut c.has.ensures c.if-not-has.true)
+returns-then-not-has c = count_cut c.args.tree.now c.args.at (cut c.has.ensures (ap not c.if-not-has.true))
 
 pub u16_at-requires : goal.u16_at-requires
-u16_at-requires c = there c.has.ensures c.if-not-has.false
+u16_at-requires c = there c.has.ensures (ap not c.if-not-has.false)
 
 pub returns : goal.returns
 returns c =
     told (ap Is c.u16_at.ensures) (count_is c.args.tree.now c.args.at
-    (there c.has.ensures c.if-not-has.false) (omega (arith, c.u16_at.ensures, c.u16_at.type_inv)))
+    (there c.has.ensures (ap not c.if-not-has.false)) (omega (arith, c.u16_at.ensures, c.u16_at.type_inv)))

@@ -15,7 +15,7 @@ pub returns-in_default : goal.returns-in_default
 unfolding place
 returns-in_default c =
     sym (row_stops (λ n. place (name c.args.tree.now c.args.names
-    (TreeForm c.args.start) n)) c.loop-left.false c.loop-left.next
+    (TreeForm c.args.start) n)) c.loop-left.left c.loop-left.next
     c.loop-left-test.true (ap place
     (c.name_at.ensures.no c.in_default.is (TreeForm c.args.start)))) ∙ c.loop-left.invariant
 
@@ -26,10 +26,10 @@ pub loop-left-preserved : goal.loop-left-preserved
 unfolding place
 loop-left-preserved c =
     sym (row_goes (λ n. place (name c.args.tree.now c.args.names (TreeForm c.args.start)
-    n)) c.loop-left.false c.loop-left.next c.loop-left-test.true
+    n)) c.loop-left.left c.loop-left.next c.loop-left-test.true
     (ap place (c.name_at.ensures.is _ c.in-Is.is (TreeForm c.args.start)))) ∙ c.loop-left.invariant
 
 pub returns : goal.returns
 returns c =
     sym (row_none (λ n. place (name c.args.tree.now c.args.names
-    (TreeForm c.args.start) n)) c.loop-left.false c.loop-left.next c.loop-left-test.false) ∙ c.loop-left.invariant
+    (TreeForm c.args.start) n)) c.loop-left.left c.loop-left.next c.loop-left-test.false) ∙ c.loop-left.invariant

@@ -1,4 +1,6 @@
 -- `open_stmt` meets its contract: one law for each way out.
+use mathlib.Core.Path.{ap}
+use mathlib.Core.Bool.{not}
 use mathlib.Core.Logic.{⊎_elim}
 use Rattle.tree_small.proofs.Places.{cut, there}
 use Rattle.tree_stmts.proofs.Statements.{stmt_known, no_stmt, deep_stmt, full_stmt, cut_stmt, opens_bad, opens_kids, some_left}
@@ -38,10 +40,10 @@ returns-then-not-has c =
     c.args.method c.args.start
     (stmt_known c.args.tree.now c.args.start c.args.method
     c.stmt_mark-mark.ensures c.if-mark-eq0.false) c.if-depth-eq0.false
-    (⊎_elim (λ w e. some_left w.1.left) (λ w e. absurd (w.left e)) c.if-mark-eq-FUN.branch) (cut c.has.ensures c.if-not-has.true))
+    (⊎_elim (λ w e. some_left w.1.left) (λ w e. absurd (w.left e)) c.if-mark-eq-FUN.branch) (cut c.has.ensures (ap not c.if-not-has.true)))
 
 pub stmt_kids-requires : goal.stmt_kids-requires
-stmt_kids-requires c = (there c.has.ensures c.if-not-has.false, ⊎_elim (λ w e. some_left w.1.left) (λ w e. absurd (w.left e)) c.if-mark-eq-FUN.branch)
+stmt_kids-requires c = (there c.has.ensures (ap not c.if-not-has.false), ⊎_elim (λ w e. some_left w.1.left) (λ w e. absurd (w.left e)) c.if-mark-eq-FUN.branch)
 
 pub returns : goal.returns
 returns c =
@@ -50,4 +52,4 @@ returns c =
     (stmt_known c.args.tree.now c.args.start c.args.method
     c.stmt_mark-mark.ensures c.if-mark-eq0.false) c.if-depth-eq0.false
     (⊎_elim (λ w e. some_left w.1.left) (λ w e. absurd (w.left e)) c.if-mark-eq-FUN.branch)
-    (there c.has.ensures c.if-not-has.false) c.stmt_kids.ensures
+    (there c.has.ensures (ap not c.if-not-has.false)) c.stmt_kids.ensures

@@ -1,4 +1,5 @@
 -- `superclass` meets its contract: one law for each way out.
+use mathlib.Core.Bool.{not}
 use mathlib.Core.Path.{sym, ap, ◌∙◌}
 use Prim.Native.Nat.{◌+◌}
 use native.Mathlib.Omega.{arith}
@@ -14,39 +15,39 @@ pub returns-then-not-has : goal.returns-then-not-has
 unfolding place
 returns-then-not-has c =
     sym (ap place (super_cut c.args.tree.now c.args.names c.args.depth
-    c.args.at (cut c.has.ensures c.if-not-has.true)))
+    c.args.at (cut c.has.ensures (ap not c.if-not-has.true))))
 
 pub mark_at-requires : goal.mark_at-requires
-mark_at-requires c = there c.has.ensures c.if-not-has.false
+mark_at-requires c = there c.has.ensures (ap not c.if-not-has.false)
 
 pub returns-then-mark_at-ne-VARIABLE : goal.returns-then-mark_at-ne-VARIABLE
 unfolding place
 returns-then-mark_at-ne-VARIABLE c =
     sym (ap place (super_not c.args.tree.now c.args.names c.args.depth c.args.at
-    (there c.has.ensures c.if-not-has.false) (λ e. c.if-mark_at-ne-VARIABLE.true (c.mark_at.ensures ∙ e))))
+    (there c.has.ensures (ap not c.if-not-has.false)) (λ e. c.if-mark_at-ne-VARIABLE.true (c.mark_at.ensures ∙ e))))
 
 pub returns-then-depth-eq0 : goal.returns-then-depth-eq0
 unfolding place
 returns-then-depth-eq0 c =
     sym (ap place (super_deep c.args.tree.now c.args.names c.args.depth c.args.at
-    (there c.has.ensures c.if-not-has.false) (sym c.mark_at.ensures ∙ c.if-mark_at-ne-VARIABLE.false) c.if-depth-eq0.true))
+    (there c.has.ensures (ap not c.if-not-has.false)) (sym c.mark_at.ensures ∙ c.if-mark_at-ne-VARIABLE.false) c.if-depth-eq0.true))
 
 pub returns-then-not-has-2 : goal.returns-then-not-has-2
 unfolding place
 returns-then-not-has-2 c =
     sym (ap place (super_span c.args.tree.now c.args.names c.args.depth c.args.at
-    (there c.has.ensures c.if-not-has.false) (sym c.mark_at.ensures ∙ c.if-mark_at-ne-VARIABLE.false)
-    c.if-depth-eq0.false (cut c.has-2.ensures c.if-not-has-2.true)))
+    (there c.has.ensures (ap not c.if-not-has.false)) (sym c.mark_at.ensures ∙ c.if-mark_at-ne-VARIABLE.false)
+    c.if-depth-eq0.false (cut c.has-2.ensures (ap not c.if-not-has-2.true))))
 
 pub overflow_add-at : goal.overflow_add-at
-overflow_add-at c = omega (arith, there {a = c.args.at + 10} {b = length c.args.tree.now} c.has-2.ensures c.if-not-has-2.false)
+overflow_add-at c = omega (arith, there {a = c.args.at + 10} {b = length c.args.tree.now} c.has-2.ensures (ap not c.if-not-has-2.false))
 
 pub returns-in_default : goal.returns-in_default
 unfolding place
 returns-in_default c =
     sym (ap place (super_unnamed c.args.tree.now c.args.names c.args.depth
     c.args.at (sym c.mark_at.ensures ∙ c.if-mark_at-ne-VARIABLE.false)
-    c.if-depth-eq0.false (there c.has-2.ensures c.if-not-has-2.false)
+    c.if-depth-eq0.false (there c.has-2.ensures (ap not c.if-not-has-2.false))
     (c.name_at.ensures.no c.in_default.is (TreeForm c.args.at))))
 
 pub overflow_add-result : goal.overflow_add-result
@@ -57,5 +58,5 @@ unfolding place
 returns c =
     sym (ap place (super_is c.args.tree.now c.args.names c.args.depth
     c.args.at (sym c.mark_at.ensures ∙ c.if-mark_at-ne-VARIABLE.false) c.if-depth-eq0.false
-    (there c.has-2.ensures c.if-not-has-2.false)
+    (there c.has-2.ensures (ap not c.if-not-has-2.false))
     (moved (c.name_at.ensures.is _ c.in-Is.is (TreeForm c.args.at)) (omega arith))))

@@ -22,7 +22,7 @@ overflow_add-i c = omega (arith, c.loop-left.invariant.2, c.loop-left-test.true)
 pub loop-left-preserved : goal.loop-left-preserved
 loop-left-preserved c = (
   putting_step c.loop-left.invariant.0 (stretch_more (byte_at c.args.code.now)
-      c.loop-left.i c.loop-left.false c.loop-left-test.true)
+      c.loop-left.i c.loop-left.left c.loop-left-test.true)
       c.set_u8-next.ensures,
   omega (
     arith,
@@ -38,4 +38,4 @@ pub shape_of-out : goal.shape_of-out
 shape_of-out c = c.loop-left.invariant.0.put.size
 
 pub returns : goal.returns
-returns c = putting_end c.loop-left.invariant.0 (stretch_none (byte_at c.args.code.now) c.loop-left.i c.loop-left.false (omega (arith, c.loop-left-test.false)))
+returns c = putting_end c.loop-left.invariant.0 (stretch_none (byte_at c.args.code.now) c.loop-left.i c.loop-left.left (omega (arith, c.loop-left-test.false)))

@@ -15,7 +15,7 @@ set_u8-next-requires c = omega (arith, c.loop-left.invariant.1, c.loop-left-test
 
 pub loop-left-preserved : goal.loop-left-preserved
 loop-left-preserved c = (
-  putting_step c.loop-left.invariant.0 (le_more c.loop-left.false c.loop-left.m
+  putting_step c.loop-left.invariant.0 (le_more c.loop-left.left c.loop-left.m
       c.loop-left-test.true) c.set_u8-next.ensures,
   omega
       (arith, c.set_u8-next.ensures.next, c.set_u8-next.ensures.size, c.loop-left.invariant.1, c.loop-left-test.true),
@@ -25,4 +25,4 @@ pub shape_of-out : goal.shape_of-out
 shape_of-out c = c.loop-left.invariant.0.put.size
 
 pub returns : goal.returns
-returns c = putting_end c.loop-left.invariant.0 (le_none c.loop-left.false c.loop-left.m (omega (arith, c.loop-left-test.false)))
+returns c = putting_end c.loop-left.invariant.0 (le_none c.loop-left.left c.loop-left.m (omega (arith, c.loop-left-test.false)))

@@ -28,7 +28,7 @@ overflow_add-i c = omega (arith, c.loop-left.invariant.2, c.loop-left-test.true)
 pub loop-left-preserved : goal.loop-left-preserved
 loop-left-preserved c = (
   putting_step c.loop-left.invariant.0 (join_more constant_bytes (constant_at c.args.t.now)
-      c.loop-left.i c.loop-left.false c.loop-left-test.true)
+      c.loop-left.i c.loop-left.left c.loop-left-test.true)
       c.put_constant-next.ensures,
   omega (
     arith,
@@ -47,4 +47,4 @@ shape_of-out c = c.loop-left.invariant.0.put.size
 pub returns : goal.returns
 returns c =
     putting_end c.loop-left.invariant.0 (join_none constant_bytes (constant_at c.args.t.now) c.loop-left.i
-    c.loop-left.false (omega (arith, c.loop-left-test.false)))
+    c.loop-left.left (omega (arith, c.loop-left-test.false)))

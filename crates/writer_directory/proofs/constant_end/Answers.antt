@@ -1,4 +1,5 @@
 -- `constant_end` goes on by the mark.
+use mathlib.Core.Bool.{not}
 use mathlib.Core.Path.{◌≡◌, sym, ap, ◌∙◌}
 use Prim.Native.Nat.{ℕ, ◌+◌, ◌≤◌}
 use native.Mathlib.Omega.{arith}
@@ -14,11 +15,11 @@ use Rattle.writer_directory.proofs.constant_end.Reads as reads
 pub returns-then-not-has : goal.returns-then-not-has
 returns-then-not-has c =
     constant_cut c.args.s.now c.args.at
-    (leb-false _ _ (sym c.has.ensures ∙ not-true c.has.result c.if-not-has.true))
+    (leb-false _ _ (sym c.has.ensures ∙ not-true c.has.result (ap not c.if-not-has.true)))
 
 -- ## A mark is there
 room : (c : goal.Else-not-has) → (start-of-else1 c).args.at + 2 ≤ length (start-of-else1 c).args.s.now
-room c = leb-true _ _ (sym c.has.ensures ∙ not-false c.has.result c.if-not-has.false)
+room c = leb-true _ _ (sym c.has.ensures ∙ not-false c.has.result (ap not c.if-not-has.false))
 
 ends : (c : lts.After-mark_at reads.Pre reads.Post) {size : ℕ} → size ≡ constant_size c.mark_at.result → (start-of-mark-at c).args.at + size ≡ constant_end
     (start-of-mark-at c).args.s.now (start-of-mark-at c).args.at

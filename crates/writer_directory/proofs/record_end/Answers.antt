@@ -1,4 +1,5 @@
 -- `record_end` goes on by the counts of the record's head.
+use mathlib.Core.Bool.{not}
 use mathlib.Core.Path.{◌≡◌, sym, ap, ◌∙◌}
 use Prim.Native.Nat.{ℕ, ◌+◌, ◌≤◌}
 use native.Mathlib.Omega.{arith}
@@ -13,11 +14,11 @@ use Rattle.writer_directory.proofs.record_end.Goals as goal
 pub returns-then-not-has : goal.returns-then-not-has
 returns-then-not-has c =
     record_cut c.args.s.now c.args.at
-    (leb-false _ _ (sym c.has.ensures ∙ not-true c.has.result c.if-not-has.true))
+    (leb-false _ _ (sym c.has.ensures ∙ not-true c.has.result (ap not c.if-not-has.true)))
 
 -- ## The head is there, and its counts are
 room : (c : goal.Else-not-has) → (start-of-else1 c).args.at + 17 ≤ length (start-of-else1 c).args.s.now
-room c = leb-true _ _ (sym c.has.ensures ∙ not-false c.has.result c.if-not-has.false)
+room c = leb-true _ _ (sym c.has.ensures ∙ not-false c.has.result (ap not c.if-not-has.false))
 
 constants_are : (c : goal.After-constants_end-runs_at) → (wide16-of-constants-end c).wide16.result
     ≡ word16 (start-of-constants-end c).args.s.now ((start-of-constants-end c).args.at + 7)

@@ -55,7 +55,7 @@ overflow_add-i-in-loop-left-2 c = omega (arith, c.loop-left.invariant.2, c.loop-
 pub loop-left-preserved : goal.loop-left-preserved
 loop-left-preserved c = (
   putting_step c.loop-left.invariant.0 (join_more run_bytes (run_at c.args.spans.now)
-      c.loop-left.i c.loop-left.false c.loop-left-test.true)
+      c.loop-left.i c.loop-left.left c.loop-left-test.true)
       c.put_run-next.ensures,
   omega (
     arith,
@@ -73,4 +73,4 @@ shape_of-out c = c.loop-left.invariant.0.put.size
 
 pub returns : goal.returns
 returns c =
-    putting_end c.loop-left.invariant.0 (join_none run_bytes (run_at c.args.spans.now) c.loop-left.i c.loop-left.false (omega (arith, c.loop-left-test.false)))
+    putting_end c.loop-left.invariant.0 (join_none run_bytes (run_at c.args.spans.now) c.loop-left.i c.loop-left.left (omega (arith, c.loop-left-test.false)))
