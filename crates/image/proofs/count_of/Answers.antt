@@ -15,14 +15,16 @@ use Rattle.image_functions.specs.declared.Done.TheVariants.{Is}
 use Rattle.image_functions.specs.Judged.{functions_done}
 use Rattle.image.proofs.Whole.{no_room, no_mark, no_functions, answered_wrong, ends_at, answered_behind, all_read, answered_unnamed, answered_yes}
 use Rattle.image.proofs.count_of.Goals as goal
+use Rattle.image.proofs.count_of.Lts as lts
+use Rattle.image.proofs.count_of.Reads as reads
 
 -- the mark and the count are there
-room : (c : goal.Else-not-has) → 6 ≤ length (start-of-else1 c).args.image.now
+room : (c : lts.Else1 reads.Pre reads.Post) → 6 ≤ length c.args.image.now
 room c = leb-true _ _ (sym c.has.ensures ∙ not-false c.has.result (ap not c.if-not-has.false))
 
 -- what is known once they are read
 module _ (c : tie.Else3) where
-  abbrev start : tie.Start
+  abbrev start : lts.Start reads.Pre reads.Post
   start = start-of-else1 (else1-of-else2 (else2-of-else3 c))
 
   abbrev image : List ℕ
@@ -47,7 +49,7 @@ module _ (c : tie.Else3) where
   bytes i = omega (arith, (else1-of-else2 (else2-of-else3 c)).before.before.shared_slice_known.given i)
 
 -- and once the functions are judged
-module _ (c : tie.After_n) where
+module _ (c : tie.After-n) where
   abbrev header : tie.Else3
   header = (judge-of-n c).before
 

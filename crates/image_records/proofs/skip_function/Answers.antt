@@ -18,23 +18,23 @@ use Rattle.image_records.proofs.skip_function.Reads as reads
 
 -- ## What was read, at the place where it is known
 constants-skipped : (c : lts.After-skip_constants reads.Pre reads.Post) → c.skip_constants.result
-    ≡ place_told (many (h-of-skip-constants c).h.given.0.0.constants (read_constant (start-of-skip-constants c).args.s.now) ((start-of-skip-constants c).args.at + 17))
+    ≡ place_told (many c.in-Is.h.constants (read_constant c.args.s.now) (c.args.at + 17))
 constants-skipped c = rw c.wide16.ensures.0 at c.skip_constants.ensures
 
 constants-read : (c : lts.After-runs_at reads.Pre reads.Post) →
-    Gives (many (h-of-runs-at c).h.given.0.0.constants (read_constant (start-of-runs-at c).args.s.now) ((start-of-runs-at c).args.at + 17)) c.runs_at.given.0.0
+    Gives (many c.in-Is.h.constants (read_constant c.args.s.now) (c.args.at + 17)) c.in-At.runs_at
 constants-read c = place_at _ _ (sym c.in-At.is ∙ constants-skipped c.before.before)
 
-runs-skipped : (c : lts.After-skip_runs reads.Pre reads.Post) → c.Skip_runs.result
-    ≡ place_told (many (h-of-skip-runs c).h.given.0.0.runs (read_run (start-of-skip-runs c).args.s.now) (runs-at-of-skip-runs c).runs_at.given.0.0)
+runs-skipped : (c : lts.After-skip_runs reads.Pre reads.Post) → c.skip_runs.result
+    ≡ place_told (many c.in-Is.h.runs (read_run c.args.s.now) c.in-At.runs_at)
 runs-skipped c = rw c.wide32.ensures.0 at c.skip_runs.ensures
 
 runs_read : (c : lts.After-mark_at reads.Pre reads.Post) →
-    Gives (many (h-of-mark-at c).h.given.0.0.runs (read_run (start-of-mark-at c).args.s.now) (runs-at-of-mark-at c).runs_at.given.0.0) c.mark_at.given.0.0
+    Gives (many c.in-Is.h.runs (read_run c.args.s.now) c.in-At.runs_at) c.in-At-skip_runs.mark_at
 runs_read c = place_at _ _ (sym c.in-At-skip_runs.is ∙ runs-skipped c.before.before)
 
 code-placed : (c : lts.After-code_at reads.Pre reads.Post) → c.code_at.result
-    ≡ code_told (start-of-wide322 c.before).args.s.now (h-of-wide322 c.before).h.given.0.0.code (mark-at-of-wide322 c.before).mark_at.given.0.0
+    ≡ code_told c.args.s.now c.in-Is.h.code c.in-At-skip_runs.mark_at
 code-placed c = rw c.wide32-size.ensures.0 at c.code_at.ensures
 
 pub returns-in_default : goal.returns-in_default

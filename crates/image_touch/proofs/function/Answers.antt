@@ -15,10 +15,11 @@ use Rattle.image_touch.proofs.Stepping.{headless, head_within, constants_lost, r
 use Rattle.image_touch.proofs.function.Goals as goal
 use Rattle.image_touch.proofs.function.Lts as lts
 use Rattle.image_touch.proofs.function.Reads as reads
+use Rattle.image_touch.proofs.function.Tie as tie
 
 -- what is known once the header is read
-module _ (c : tie.After_known_told) where
-  abbrev start : tie.Start
+module _ (c : tie.After-known-told) where
+  abbrev start : lts.Start tie.the-claims reads.Pre reads.Post
   start = start-of-head-of (head-of-of-known-told c)
 
   abbrev s : List ℕ
@@ -81,33 +82,33 @@ returns-in_default-code_at c =
     c.code_at.result c.code_at.ensures c.in_default-code_at.is)
 
 -- the tables as `constants` leaves them
-abbrev words : lts.After-constants reads.Pre reads.Post → List ℕ
+abbrev words : lts.After-constants tie.the-claims reads.Pre reads.Post → List ℕ
 words c = c.constants.new.1.1.1.1.1.1.0
 
-abbrev kinds : lts.After-constants reads.Pre reads.Post → List ℕ
+abbrev kinds : lts.After-constants tie.the-claims reads.Pre reads.Post → List ℕ
 kinds c = c.constants.new.1.1.1.1.1.1.1.0
 
 -- the code is there
-module _ (c : tie.After_known_told4) where
-  abbrev coded : tie.After_code_at
+module _ (c : tie.After-known-told4) where
+  abbrev coded : tie.After-code-at
   coded = code-at-of-known-told4 c
 
-  abbrev marked : tie.After_known_told3
+  abbrev marked : tie.After-known-told3
   marked = known-told3-of-code-at coded
 
-  abbrev ran : tie.After_skip_runs
+  abbrev ran : tie.After-skip-runs
   ran = skip-runs-of-known-told3 marked
 
-  abbrev runs : tie.After_known_told2
+  abbrev runs : tie.After-known-told2
   runs = known-told2-of-skip-runs ran
 
-  abbrev known : tie.After_constants
+  abbrev known : lts.After-constants tie.the-claims reads.Pre reads.Post
   known = constants-of-known-told2 runs
 
-  abbrev least : tie.After_least
+  abbrev least : tie.After-least
   least = least-of-constants known
 
-  abbrev header : tie.After_known_told
+  abbrev header : tie.After-known-told
   header = known-told-of-least least
 
   abbrev first : ℕ
@@ -125,7 +126,7 @@ module _ (c : tie.After_known_told4) where
       coded.before.wide322.ensures.0 coded.code_at.result coded.code_at.ensures first c.before.start.given.1
 
 -- the image is bytes
-bytes : (c : goal.In-At-code_at) → (i : ℕ) → get_or (s (header c)) i 0 < 256
+bytes : (c : lts.After-known_told4 tie.the-claims reads.Pre reads.Post) → (i : ℕ) → get_or (s (header c)) i 0 < 256
 bytes c i = omega (arith, (head-of-of-known-told (header c)).before.before.shared_slice_known.given i)
 
 pub overflow_add-end : goal.overflow_add-end

@@ -12,10 +12,12 @@ use Rattle.image_touch.specs.declared.Step.TheVariants.{Is}
 use Rattle.image_touch.specs.Walked.{step_of}
 use Rattle.image_touch.proofs.Searching.{Searching, search_begin, function_right, next_is, not_lost, search_hit, search_on, search_done}
 use Rattle.image_touch.proofs.search.Goals as goal
+use Rattle.image_touch.proofs.search.Lts as lts
+use Rattle.image_touch.proofs.search.Reads as reads
 
 -- what is known in the loop
 module _ (c : tie.In_loop invariant-loop decreases-loop) where
-  abbrev start : tie.Start invariant-loop decreases-loop
+  abbrev start : lts.Start tie.the-claims reads.Pre reads.Post goal.the-invariant-loop-k goal.the-decreases-loop-k invariant-loop decreases-loop
   start = start-of-at-loop c.before
 
   abbrev image : List ℕ

@@ -9,7 +9,7 @@ use Rattle.image_touch.proofs.touch.Lts as lts
 use Rattle.image_touch.proofs.touch.Reads as reads
 
 -- the image is one
-is-sound : (c : lts.After-wide32 reads.Pre reads.Post) → Sound (start-of-check (check-of-else1 (else1-of-wide32 c))).args.image.now c.wide32.result
+is-sound : (c : lts.After-wide32 reads.Pre reads.Post) → Sound c.args.image.now c.wide32-count.result
 is-sound c =
     image_sound c.args.image.now c.check-checked.result c.check-checked.ensures c.if-checked-ne0.false
     (λ i. omega (arith, c.type_inv.image i)) c.wide32-count.result (c.wide32-count.ensures.0 ∙ c.u32_at.ensures) c.wide32-count.ensures.1

@@ -8,9 +8,10 @@ use Rattle.state.specs.Layout.{constant_count_place, level_words}
 use Rattle.state_code.proofs.write_constant.Goals as goal
 use Rattle.state_code.proofs.write_constant.Lts as lts
 use Rattle.state_code.proofs.write_constant.Reads as reads
+use Rattle.state_code.proofs.write_constant.Tie as tie
 
-few : (s : lts.Start reads.Pre reads.Post) → get_or s.args.t.now (s.args.level * level_words + constant_count_place) 0 ≤ 256
-few s = s.requires.1.fewConstants s.args.level s.requires.0
+few : (s : lts.Start tie.the-claims reads.Pre reads.Post) → get_or s.args.t.now (s.args.level * level_words + constant_count_place) 0 ≤ 256
+few s = s.requires.1.few_constants s.args.level s.requires.0
 
 pub first-place-requires : goal.first-place-requires
 first-place-requires c = omega (arith, few c.before.before)

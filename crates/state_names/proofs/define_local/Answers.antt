@@ -6,9 +6,12 @@ use borrow.Author.Rules.{rules}
 use Rattle.state_names.proofs.Declare as ways
 use Rattle.state.specs.Layout.{level_words, local_count_place}
 use Rattle.state_names.proofs.define_local.Goals as goal
+use Rattle.state_names.proofs.define_local.Lts as lts
+use Rattle.state_names.proofs.define_local.Reads as reads
+use Rattle.state_names.proofs.define_local.Tie as tie
 
-few : (s : goal.Start) → get_or s.args.t.now (s.args.level * level_words + local_count_place) 0 ≤ 256
-few s = s.requires.1.fewLocals s.args.level s.requires.0
+few : (s : lts.Start tie.the-claims reads.Pre reads.Post) → get_or s.args.t.now (s.args.level * level_words + local_count_place) 0 ≤ 256
+few s = s.requires.1.few_locals s.args.level s.requires.0
 
 pub returns-then-n-eq0 : goal.returns-then-n-eq0
 returns-then-n-eq0 c =

@@ -10,14 +10,14 @@ use Rattle.state.specs.Layout.{level_words, local_count_place}
 use Rattle.state_names.proofs.resolve_local.Goals as goal
 use Rattle.state_names.proofs.resolve_local.Lts as lts
 use Rattle.state_names.proofs.resolve_local.Reads as reads
+use Rattle.state_names.proofs.resolve_local.Tie as tie
 
-few : (s : lts.Start reads.Pre reads.Post) → get_or s.args.t.now (s.args.level * level_words + local_count_place) 0 ≤ 256
-few s = s.requires.1.fewLocals s.args.level s.requires.0
+few : (s : lts.Start tie.the-claims reads.Pre reads.Post) → get_or s.args.t.now (s.args.level * level_words + local_count_place) 0 ≤ 256
+few s = s.requires.1.few_locals s.args.level s.requires.0
 
 -- where a local of the name was found: its place is one less than what topmost answers
-top : (c : goal.Else-place-eq0) → let s =
-    start-of-else1 c in Topmost s.args.t.now (s.args.level * level_words) (get_or s.args.t.now (s.args.level * level_words + local_count_place) 0)
-    s.args.name (suc (c.before.topmost.result - 1))
+top : (c : lts.Else1 tie.the-claims reads.Pre reads.Post) → Topmost c.args.t.now (c.args.level * level_words) (get_or c.args.t.now (c.args.level * level_words + local_count_place) 0)
+    c.args.name (suc (c.topmost-place.result - 1))
 top c =
     let e : c.topmost-place.result ≡ suc (c.topmost-place.result - 1) = omega arith in
     subst (λ (r : ℕ). Topmost c.args.t.now (c.args.level * level_words) (get_or c.args.t.now (c.args.level * level_words + local_count_place) 0)
@@ -52,7 +52,7 @@ overflow_cast-slot c = omega (arith, few c.before.before.before.before.before.be
 pub overflow_add-t : goal.overflow_add-t
 overflow_add-t c =
     let j = c.topmost-place.result - 1 in
-    omega (arith, c.type_inv.t (c.args.level * level_words + j))
+    omega (arith, c.slice_known-3-1.given (c.args.level * level_words + j))
 
 pub offset_bounds-t-at-then-w-eq0-2 : goal.offset_bounds-t-at-then-w-eq0-2
 offset_bounds-t-at-then-w-eq0-2 c = omega (arith, few c.before.before.before.before.before.before.before.before)

@@ -10,32 +10,33 @@ use Rattle.statements.proofs.Walks.{RowOf, row_start, row_child, row_stop, row_s
 use Rattle.statements.proofs.compile_stmts.Goals as goal
 use Rattle.statements.proofs.compile_stmts.Lts as lts
 use Rattle.statements.proofs.compile_stmts.Reads as reads
+use Rattle.statements.proofs.compile_stmts.Tie as tie
 
-abbrev here : (tie.invariant_loop → tie.decreases_loop → Type 0) → Type 0
+abbrev here : (tie.invariant-loop → tie.decreases-loop → Type 0) → Type 0
 here place = place invariant-loop decreases-loop
 
-abbrev known : here lts.After-slice_known2 reads.Pre reads.Post goal.the-invariant-loop-more goal.the-decreases-loop-more → here lts.Start reads.Pre reads.Post goal.the-invariant-loop-more goal.the-decreases-loop-more
+abbrev known : here lts.After-slice_known2 tie.the-claims reads.Pre reads.Post goal.the-invariant-loop-more goal.the-decreases-loop-more → here lts.Start tie.the-claims reads.Pre reads.Post goal.the-invariant-loop-more goal.the-decreases-loop-more
 known c = c.before.before.before
 
-abbrev stmt-args : here goal.After-compile_stmt-arg-in-loop-more-3-1 → here lts.After-compile_stmt-arg reads.Pre reads.Post goal.the-invariant-loop-more goal.the-decreases-loop-more
+abbrev stmt-args : here lts.After-compile_stmt-arg4 tie.the-claims reads.Pre reads.Post goal.the-invariant-loop-more goal.the-decreases-loop-more → here lts.After-compile_stmt-arg tie.the-claims reads.Pre reads.Post goal.the-invariant-loop-more goal.the-decreases-loop-more
 stmt-args c = c.before.before.before
 
-abbrev stmt-asked : here goal.After-compile_stmt-arg-in-loop-more-3-1 → here lts.In-loop reads.Pre reads.Post goal.the-invariant-loop-more goal.the-decreases-loop-more
+abbrev stmt-asked : here lts.After-compile_stmt-arg4 tie.the-claims reads.Pre reads.Post goal.the-invariant-loop-more goal.the-decreases-loop-more → here lts.In-loop tie.the-claims reads.Pre reads.Post goal.the-invariant-loop-more goal.the-decreases-loop-more
 stmt-asked c = (stmt-args c).before
 
-abbrev stmt-some : here lts.After-slice_known8 reads.Pre reads.Post goal.the-invariant-loop-more goal.the-decreases-loop-more → here lts.After-spans reads.Pre reads.Post goal.the-invariant-loop-more goal.the-decreases-loop-more
+abbrev stmt-some : here lts.After-slice_known8 tie.the-claims reads.Pre reads.Post goal.the-invariant-loop-more goal.the-decreases-loop-more → here lts.After-spans tie.the-claims reads.Pre reads.Post goal.the-invariant-loop-more goal.the-decreases-loop-more
 stmt-some c = c.before.before.before
 
-abbrev stmt-half : here lts.After-slice_known8 reads.Pre reads.Post goal.the-invariant-loop-more goal.the-decreases-loop-more → here lts.After-slice_known5 reads.Pre reads.Post goal.the-invariant-loop-more goal.the-decreases-loop-more
+abbrev stmt-half : here lts.After-slice_known8 tie.the-claims reads.Pre reads.Post goal.the-invariant-loop-more goal.the-decreases-loop-more → here lts.After-slice_known5 tie.the-claims reads.Pre reads.Post goal.the-invariant-loop-more goal.the-decreases-loop-more
 stmt-half c = (stmt-some c).before.before.before
 
-abbrev stmt-left : here lts.After-slice_known8 reads.Pre reads.Post goal.the-invariant-loop-more goal.the-decreases-loop-more → here lts.After-compile_stmt reads.Pre reads.Post goal.the-invariant-loop-more goal.the-decreases-loop-more
+abbrev stmt-left : here lts.After-slice_known8 tie.the-claims reads.Pre reads.Post goal.the-invariant-loop-more goal.the-decreases-loop-more → here lts.After-compile_stmt tie.the-claims reads.Pre reads.Post goal.the-invariant-loop-more goal.the-decreases-loop-more
 stmt-left c = (stmt-half c).before.before
 
-abbrev stmt-went : here goal.In-Next → here lts.After-compile_stmt reads.Pre reads.Post goal.the-invariant-loop-more goal.the-decreases-loop-more
+abbrev stmt-went : here lts.After-known_told tie.the-claims reads.Pre reads.Post goal.the-invariant-loop-more goal.the-decreases-loop-more → here lts.After-compile_stmt tie.the-claims reads.Pre reads.Post goal.the-invariant-loop-more goal.the-decreases-loop-more
 stmt-went c = stmt-left c.before.before.before
 
-abbrev stmt-halted : here goal.In_default → here lts.After-compile_stmt reads.Pre reads.Post goal.the-invariant-loop-more goal.the-decreases-loop-more
+abbrev stmt-halted : here lts.After-enum_told tie.the-claims reads.Pre reads.Post goal.the-invariant-loop-more goal.the-decreases-loop-more → here lts.After-compile_stmt tie.the-claims reads.Pre reads.Post goal.the-invariant-loop-more goal.the-decreases-loop-more
 stmt-halted c = stmt-left c.before.before
 
 -- ## The needs

@@ -12,7 +12,7 @@ use Rattle.step_jumps.proofs.emit_loop.Goals as goal
 
 pub overflow_add-back : goal.overflow_add-back
 unfolding code_len
-overflow_add-back c = omega (arith, c.code_length.ensures.is [] [], c.requires.0.coded.within, c.requires.0.coded.roomCode)
+overflow_add-back c = omega (arith, c.code_length.ensures.is [] [], c.requires.0.coded.within, c.requires.0.coded.room_code)
 
 pub overflow_sub-back : goal.overflow_sub-back
 unfolding code_len

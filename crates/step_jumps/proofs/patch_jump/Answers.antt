@@ -28,7 +28,7 @@ overflow_add-at c = let k = c.requires.1 in omega arith
 
 pub bounds-code-at : goal.bounds-code-at
 unfolding code_len
-bounds-code-at c = let k = c.requires.1 in omega (arith, c.requires.0.coded.within, c.requires.0.coded.roomCode)
+bounds-code-at c = let k = c.requires.1 in omega (arith, c.requires.0.coded.within, c.requires.0.coded.room_code)
 
 pub overflow_add-code : goal.overflow_add-code
 unfolding code_len
@@ -37,7 +37,7 @@ overflow_add-code c = let k = c.requires.1 in omega arith
 pub bounds-code-at-2 : goal.bounds-code-at-2
 unfolding code_len
 bounds-code-at-2 c =
-    let k = c.requires.1 in simp length-set (omega (arith, c.requires.0.coded.within, c.requires.0.coded.roomCode))
+    let k = c.requires.1 in simp length-set (omega (arith, c.requires.0.coded.within, c.requires.0.coded.room_code))
 
 pub returns : goal.returns
 unfolding code_len

@@ -27,7 +27,7 @@ overflow_add-w c =
     omega (
       arith,
       c.requires.0.wf.size,
-      c.requires.0.wf.fewUpvalues (c.args.level + 1)
+      c.requires.0.wf.few_upvalues (c.args.level + 1)
           c.requires.1,
       c.loop-i.invariant.1,
       c.loop-i.invariant.2,
@@ -39,7 +39,7 @@ overflow_mul-w c =
     omega (
       arith,
       c.requires.0.wf.size,
-      c.requires.0.wf.fewUpvalues (c.args.level + 1)
+      c.requires.0.wf.few_upvalues (c.args.level + 1)
           c.requires.1,
       c.loop-i.invariant.1,
       c.loop-i.invariant.2,
@@ -51,7 +51,7 @@ overflow_add-w-in-loop-i c =
     omega (
       arith,
       c.requires.0.wf.size,
-      c.requires.0.wf.fewUpvalues (c.args.level + 1)
+      c.requires.0.wf.few_upvalues (c.args.level + 1)
           c.requires.1,
       c.loop-i.invariant.1,
       c.loop-i.invariant.2,
@@ -63,7 +63,7 @@ overflow_add-w-in-loop-i-2 c =
     omega (
       arith,
       c.requires.0.wf.size,
-      c.requires.0.wf.fewUpvalues (c.args.level + 1)
+      c.requires.0.wf.few_upvalues (c.args.level + 1)
           c.requires.1,
       c.loop-i.invariant.1,
       c.loop-i.invariant.2,
@@ -75,7 +75,7 @@ offset_bounds-t-level-in-loop-i c =
     omega (
       arith,
       c.requires.0.wf.size,
-      c.requires.0.wf.fewUpvalues (c.args.level + 1)
+      c.requires.0.wf.few_upvalues (c.args.level + 1)
           c.requires.1,
       c.loop-i.invariant.1,
       c.loop-i.invariant.2,
@@ -87,7 +87,7 @@ bounds-t-level-in-loop-i c =
     omega (
       arith,
       c.requires.0.wf.size,
-      c.requires.0.wf.fewUpvalues (c.args.level + 1)
+      c.requires.0.wf.few_upvalues (c.args.level + 1)
           c.requires.1,
       c.loop-i.invariant.1,
       c.loop-i.invariant.2,
@@ -116,12 +116,12 @@ returns-in_default c =
     (upvalues_place + c.loop-i.i) c.requires.1
     (omega (
       arith,
-      c.requires.0.wf.fewUpvalues (a.level + 1) c.requires.1,
+      c.requires.0.wf.few_upvalues (a.level + 1) c.requires.1,
       c.loop-i.invariant.1,
     ))) c.emit_pair-a.ensures c.in_default.is
 
 pub overflow_add-i : goal.overflow_add-i
-overflow_add-i c = omega (arith, c.requires.0.wf.fewUpvalues (c.args.level + 1) c.requires.1, c.loop-i.invariant.1)
+overflow_add-i c = omega (arith, c.requires.0.wf.few_upvalues (c.args.level + 1) c.requires.1, c.loop-i.invariant.1)
 
 pub loop-i-smaller : goal.loop-i-smaller
 loop-i-smaller c = omega arith
@@ -133,7 +133,7 @@ loop-i-preserved c =
           c.loop-i.invariant.0 (omega arith) _
           (ways.word_kept a.limit a.level a.span _ _ _ c.loop-i.i _ _ c.loop-i.invariant.0
           (upvalues_place + c.loop-i.i) c.requires.1
-          (omega (arith, c.requires.0.wf.fewUpvalues (a.level + 1) c.requires.1, c.loop-i.invariant.1)))
+          (omega (arith, c.requires.0.wf.few_upvalues (a.level + 1) c.requires.1, c.loop-i.invariant.1)))
           c.emit_pair-a.ensures c.in-Next.is,
       c.loop-i.invariant.1,
       omega arith,

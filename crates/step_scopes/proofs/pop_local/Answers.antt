@@ -8,13 +8,13 @@ pub returns-then-n-eq0 : goal.returns-then-n-eq0
 returns-then-n-eq0 c = let a = c.args in ways.popped_none a.level a.limit a.span a.t.now a.code.now a.spans.now c.requires c.if-n-eq0.true
 
 pub overflow_add-w : goal.overflow_add-w
-overflow_add-w c = omega (arith, c.requires.wf.fewLocals c.args.level c.requires.low, c.requires.wf.size)
+overflow_add-w c = omega (arith, c.requires.wf.few_locals c.args.level c.requires.low, c.requires.wf.size)
 
 pub offset_bounds-t-level-2 : goal.offset_bounds-t-level-2
-offset_bounds-t-level-2 c = omega (arith, c.requires.wf.fewLocals c.args.level c.requires.low, c.requires.wf.size)
+offset_bounds-t-level-2 c = omega (arith, c.requires.wf.few_locals c.args.level c.requires.low, c.requires.wf.size)
 
 pub bounds-t-level-2 : goal.bounds-t-level-2
-bounds-t-level-2 c = omega (arith, c.requires.wf.fewLocals c.args.level c.requires.low, c.requires.wf.size)
+bounds-t-level-2 c = omega (arith, c.requires.wf.few_locals c.args.level c.requires.low, c.requires.wf.size)
 
 pub returns-then-w-depth : goal.returns-then-w-depth
 returns-then-w-depth c =

@@ -10,8 +10,9 @@ use Rattle.stmt_jumps.proofs.Loops as ways
 use Rattle.stmt_jumps.proofs.close_loop.Goals as goal
 use Rattle.stmt_jumps.proofs.close_loop.Lts as lts
 use Rattle.stmt_jumps.proofs.close_loop.Reads as reads
+use Rattle.stmt_jumps.proofs.close_loop.Tie as tie
 
-has : (c : lts.Else1 reads.Pre reads.Post) → (start (back-asked (back-went c.before).before)).args.has_cond ≡ true
+has : (c : lts.Else1 tie.the-claims reads.Pre reads.Post) → (start (back-asked)).args.has_cond ≡ true
 has c = ways.there_is (start (back-asked)).args.has_cond (ap not c.if-not-has_cond.false)
 
 pub returns-in_default : goal.returns-in_default

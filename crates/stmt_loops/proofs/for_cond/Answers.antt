@@ -7,8 +7,9 @@ use Rattle.stmt_loops.proofs.Loops.{cond_expr, cond_none, cond_stop, cond_stop_2
 use Rattle.stmt_loops.proofs.for_cond.Goals as goal
 use Rattle.stmt_loops.proofs.for_cond.Lts as lts
 use Rattle.stmt_loops.proofs.for_cond.Reads as reads
+use Rattle.stmt_loops.proofs.for_cond.Tie as tie
 
-value_there : (c : lts.Else1 reads.Pre reads.Post) → Somewhere (start c.before).args.tree.now (start c.before).args.at
+value_there : (c : lts.Else1 tie.the-claims reads.Pre reads.Post) → Somewhere c.args.tree.now c.args.at
 value_there c = cond_expr c.requires.0 c.if-parts-ne1.false
 
 -- ## The needs

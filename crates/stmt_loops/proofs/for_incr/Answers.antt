@@ -7,8 +7,9 @@ use Rattle.stmt_loops.proofs.Loops.{incr_expr, incr_none, incr_stop, incr_done}
 use Rattle.stmt_loops.proofs.for_incr.Goals as goal
 use Rattle.stmt_loops.proofs.for_incr.Lts as lts
 use Rattle.stmt_loops.proofs.for_incr.Reads as reads
+use Rattle.stmt_loops.proofs.for_incr.Tie as tie
 
-value_there : (c : lts.Else1 reads.Pre reads.Post) → Somewhere (start c.before).args.tree.now (start c.before).args.at
+value_there : (c : lts.Else1 tie.the-claims reads.Pre reads.Post) → Somewhere c.args.tree.now c.args.at
 value_there c = incr_expr c.requires.0 c.if-parts-ne1.false
 
 -- ## The needs

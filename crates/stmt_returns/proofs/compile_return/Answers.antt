@@ -10,11 +10,12 @@ use Rattle.stmt_returns.proofs.Returns as ways
 use Rattle.stmt_returns.proofs.compile_return.Goals as goal
 use Rattle.stmt_returns.proofs.compile_return.Lts as lts
 use Rattle.stmt_returns.proofs.compile_return.Reads as reads
+use Rattle.stmt_returns.proofs.compile_return.Tie as tie
 
-bound : (c : lts.Start reads.Pre reads.Post) → c.args.at + 11 ≤ length c.args.tree.now
+bound : (c : lts.Start tie.the-claims reads.Pre reads.Post) → c.args.at + 11 ≤ length c.args.tree.now
 bound c = ways.return_bound c.requires.1 c.requires.0
 
-value_there : (c : goal.Else-u8_at-eq0) → Somewhere (start (flagged c.before)).args.tree.now ((start (flagged c.before)).args.at + 11)
+value_there : (c : lts.Else1 tie.the-claims reads.Pre reads.Post) → Somewhere c.args.tree.now (c.args.at + 11)
 value_there c = ways.return_there c.requires.1 _ c.u8_at.ensures c.if-u8_at-eq0.false c.requires.0
 
 -- ## The needs

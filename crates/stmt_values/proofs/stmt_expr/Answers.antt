@@ -7,8 +7,11 @@ use Rattle.expr_laws.specs.Exprs.{Somewhere}
 use Rattle.expressions.proofs.Arms.{ran_fit}
 use Rattle.stmt_plain_laws.proofs.Values as ways
 use Rattle.stmt_values.proofs.stmt_expr.Goals as goal
+use Rattle.stmt_values.proofs.stmt_expr.Lts as lts
+use Rattle.stmt_values.proofs.stmt_expr.Reads as reads
+use Rattle.stmt_values.proofs.stmt_expr.Tie as tie
 
-value_there : (c : goal.After-span_at-span) → Somewhere (start c.before).args.tree.now ((start c.before).args.at + 10)
+value_there : (c : lts.After-span_at tie.the-claims reads.Pre reads.Post) → Somewhere c.args.tree.now (c.args.at + 10)
 value_there c = ways.one_there {limit = 0} (ways.an_expression _ _ _ c.requires.1) c.requires.0.there
 
 -- ## The needs

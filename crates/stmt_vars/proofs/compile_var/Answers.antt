@@ -10,11 +10,12 @@ use Rattle.stmt_vars.proofs.Vars as ways
 use Rattle.stmt_vars.proofs.compile_var.Goals as goal
 use Rattle.stmt_vars.proofs.compile_var.Lts as lts
 use Rattle.stmt_vars.proofs.compile_var.Reads as reads
+use Rattle.stmt_vars.proofs.compile_var.Tie as tie
 
-bound : (c : lts.Start reads.Pre reads.Post) → c.args.at + 13 ≤ length c.args.tree.now
+bound : (c : lts.Start tie.the-claims reads.Pre reads.Post) → c.args.at + 13 ≤ length c.args.tree.now
 bound c = ways.var_bound c.requires.1 c.requires.0
 
-value_there : (c : goal.After-u8_at-flag) → Announced (start (flagged c)).args.tree.now ((start (flagged c)).args.at + 13) c.u8_at.result
+value_there : (c : lts.After-u8_at tie.the-claims reads.Pre reads.Post) → Announced c.args.tree.now (c.args.at + 13) c.u8_at-flag.result
 value_there c = ways.var_value c.requires.1 c.u8_at-flag.ensures c.requires.0
 
 -- ## The needs

@@ -16,13 +16,13 @@ put_constants-b-requires c = (
     arith,
     c.requires.0.wf.size,
     c.requires.0.low,
-    c.requires.0.wf.fewConstants c.args.level c.requires.0.low,
+    c.requires.0.wf.few_constants c.args.level c.requires.0.low,
   ),
   omega (
     arith,
     c.requires.1,
     head_next _ _ _ _ _ _ c.put_head-a.ensures,
-    c.requires.0.wf.fewConstants c.args.level c.requires.0.low,
+    c.requires.0.wf.few_constants c.args.level c.requires.0.low,
   ),
 )
 
@@ -33,7 +33,7 @@ put_runs-c-requires c = (
     arith,
     c.requires.1,
     head_next _ _ _ _ _ _ c.put_head-a.ensures,
-    c.requires.0.wf.fewConstants c.args.level c.requires.0.low,
+    c.requires.0.wf.few_constants c.args.level c.requires.0.low,
     constants_next
         (constant_at c.args.t.now) _ _ c.put_constants-b.ensures,
     c.requires.0.runs_order,
@@ -51,7 +51,7 @@ put_mark-d-requires c =
       arith,
       c.requires.1,
       head_next _ _ _ _ _ _ c.put_head-a.ensures,
-      c.requires.0.wf.fewConstants c.args.level c.requires.0.low,
+      c.requires.0.wf.few_constants c.args.level c.requires.0.low,
       constants_next
           (constant_at c.args.t.now) _ _ c.put_constants-b.ensures,
       c.requires.0.runs_order,
@@ -71,7 +71,7 @@ put_code-requires c = (
     arith,
     c.requires.1,
     head_next _ _ _ _ _ _ c.put_head-a.ensures,
-    c.requires.0.wf.fewConstants c.args.level c.requires.0.low,
+    c.requires.0.wf.few_constants c.args.level c.requires.0.low,
     constants_next
         (constant_at c.args.t.now) _ _ c.put_constants-b.ensures,
     c.requires.0.runs_order,

@@ -8,8 +8,9 @@ use borrow.Author.Rules.{rules}
 use Rattle.writer_constants.proofs.put_number.Goals as goal
 use Rattle.writer_constants.proofs.put_number.Lts as lts
 use Rattle.writer_constants.proofs.put_number.Reads as reads
+use Rattle.writer_constants.proofs.put_number.Tie as tie
 
-room : (c : lts.Then1 reads.Pre reads.Post) → (start-of-then1 c).args.at + 10 ≤ length (start-of-then1 c).args.out.now
+room : (c : lts.Then1 tie.the-claims reads.Pre reads.Post) → c.args.at + 10 ≤ length c.args.out.now
 room c = has_room c.args.at 10 c.args.out.now c.has.ensures c.if-has.true
 
 pub set_mark-next-requires : goal.set_mark-next-requires

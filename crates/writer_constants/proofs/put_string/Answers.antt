@@ -8,8 +8,9 @@ use borrow.Author.Rules.{rules}
 use Rattle.writer_constants.proofs.put_string.Goals as goal
 use Rattle.writer_constants.proofs.put_string.Lts as lts
 use Rattle.writer_constants.proofs.put_string.Reads as reads
+use Rattle.writer_constants.proofs.put_string.Tie as tie
 
-room : (c : lts.Then1 reads.Pre reads.Post) → (start-of-then1 c).args.at + 4 ≤ length (start-of-then1 c).args.out.now
+room : (c : lts.Then1 tie.the-claims reads.Pre reads.Post) → c.args.at + 4 ≤ length c.args.out.now
 room c = has_room c.args.at 4 c.args.out.now c.has.ensures c.if-has.true
 
 pub set_mark-next-requires : goal.set_mark-next-requires

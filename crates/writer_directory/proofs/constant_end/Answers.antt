@@ -18,11 +18,11 @@ returns-then-not-has c =
     (leb-false _ _ (sym c.has.ensures ∙ not-true c.has.result (ap not c.if-not-has.true)))
 
 -- ## A mark is there
-room : (c : goal.Else-not-has) → (start-of-else1 c).args.at + 2 ≤ length (start-of-else1 c).args.s.now
+room : (c : lts.Else1 reads.Pre reads.Post) → c.args.at + 2 ≤ length c.args.s.now
 room c = leb-true _ _ (sym c.has.ensures ∙ not-false c.has.result (ap not c.if-not-has.false))
 
-ends : (c : lts.After-mark_at reads.Pre reads.Post) {size : ℕ} → size ≡ constant_size c.mark_at.result → (start-of-mark-at c).args.at + size ≡ constant_end
-    (start-of-mark-at c).args.s.now (start-of-mark-at c).args.at
+ends : (c : lts.After-mark_at reads.Pre reads.Post) {size : ℕ} → size ≡ constant_size c.mark_at-mark.result → c.args.at + size ≡ constant_end
+    c.args.s.now c.args.at
 ends c e =
     let a = c.args in
     ap (λ (k : ℕ). a.at + k) (e ∙ ap constant_size c.mark_at-mark.ensures) ∙ constant_there a.s.now a.at (room c.before)

@@ -10,6 +10,8 @@ use Rattle.fields.specs.Words.{word16, word32}
 use Rattle.writer_directory.specs.Walk.{constants_end}
 use Rattle.writer_directory.proofs.Ends.{record_cut, record_there, constants_near}
 use Rattle.writer_directory.proofs.record_end.Goals as goal
+use Rattle.writer_directory.proofs.record_end.Lts as lts
+use Rattle.writer_directory.proofs.record_end.Reads as reads
 
 pub returns-then-not-has : goal.returns-then-not-has
 returns-then-not-has c =
@@ -17,21 +19,21 @@ returns-then-not-has c =
     (leb-false _ _ (sym c.has.ensures ∙ not-true c.has.result (ap not c.if-not-has.true)))
 
 -- ## The head is there, and its counts are
-room : (c : goal.Else-not-has) → (start-of-else1 c).args.at + 17 ≤ length (start-of-else1 c).args.s.now
+room : (c : lts.Else1 reads.Pre reads.Post) → c.args.at + 17 ≤ length c.args.s.now
 room c = leb-true _ _ (sym c.has.ensures ∙ not-false c.has.result (ap not c.if-not-has.false))
 
-constants_are : (c : goal.After-constants_end-runs_at) → (wide16-of-constants-end c).wide16.result
-    ≡ word16 (start-of-constants-end c).args.s.now ((start-of-constants-end c).args.at + 7)
+constants_are : (c : lts.After-constants_end reads.Pre reads.Post) → c.wide16-constants.result
+    ≡ word16 c.args.s.now (c.args.at + 7)
 constants_are c = c.wide16-constants.ensures.0 ∙ c.u16_at.ensures
 
-runs_are : (c : goal.After-constants_end-runs_at) → (wide32-of-constants-end c).wide32.result
-    ≡ word32 (start-of-constants-end c).args.s.now ((start-of-constants-end c).args.at + 9)
+runs_are : (c : lts.After-constants_end reads.Pre reads.Post) → c.wide32-runs.result
+    ≡ word32 c.args.s.now (c.args.at + 9)
 runs_are c = c.wide32-runs.ensures.0 ∙ c.u32_at.ensures
 
-code_is : (c : goal.After-constants_end-runs_at) → c.before.wide322.result ≡ word32 (start-of-constants-end c).args.s.now ((start-of-constants-end c).args.at + 13)
+code_is : (c : lts.After-constants_end reads.Pre reads.Post) → c.wide32-code.result ≡ word32 c.args.s.now (c.args.at + 13)
 code_is c = c.wide32-code.ensures.0 ∙ c.u32_at-2.ensures
 
-near : (c : goal.After-constants_end-runs_at) → c.constants_end.result ≤ length (start-of-constants-end c).args.s.now + 8
+near : (c : lts.After-constants_end reads.Pre reads.Post) → c.constants_end-runs_at.result ≤ length c.args.s.now + 8
 near c =
     omega (
       arith,
