@@ -45,7 +45,7 @@ code_fits-requires c =
     (length c.args.ring.now) c.requires
 
 pub shape_of-ring-in_default-code_fits : goal.shape_of-ring-in_default-code_fits
-shape_of-ring-in_default-code_fits c = c.code_fits.auto.1.1.1.0
+shape_of-ring-in_default-code_fits c = c.code_fits.auto.ring
 
 pub returns-in_default-code_fits : goal.returns-in_default-code_fits
 returns-in_default-code_fits c = (
@@ -59,7 +59,7 @@ returns-in_default-code_fits c = (
 )
 
 pub shape_of-ring : goal.shape_of-ring
-shape_of-ring c = c.code_fits.auto.1.1.1.0
+shape_of-ring c = c.code_fits.auto.ring
 
 pub returns : goal.returns
 returns c = (

@@ -14,7 +14,7 @@ pub gather-requires : goal.gather-requires
 gather-requires c = c.requires.1.0.0
 
 pub shape_of-words-in_default : goal.shape_of-words-in_default
-shape_of-words-in_default c = c.gather.auto.1.1.1.0
+shape_of-words-in_default c = c.gather.auto.words
 
 pub returns-in_default : goal.returns-in_default
 returns-in_default c =
@@ -22,13 +22,13 @@ returns-in_default c =
     (rw c.in_default.is at c.gather.ensures)
 
 pub all_new-requires : goal.all_new-requires
-all_new-requires c = (omega (arith, c.requires.1.0.0, c.gather.auto.1.1.1.0), c.requires.1.0.1)
+all_new-requires c = (omega (arith, c.requires.1.0.0, c.gather.auto.words), c.requires.1.0.1)
 
 pub shape_of-words-then-not-all_new : goal.shape_of-words-then-not-all_new
-shape_of-words-then-not-all_new c = c.gather.auto.1.1.1.0
+shape_of-words-then-not-all_new c = c.gather.auto.words
 
 pub shape_of-stamps-then-not-all_new : goal.shape_of-stamps-then-not-all_new
-shape_of-stamps-then-not-all_new c = c.all_new.auto.1.1.1.0
+shape_of-stamps-then-not-all_new c = c.all_new.auto.stamps
 
 pub returns-then-not-all_new : goal.returns-then-not-all_new
 returns-then-not-all_new c =
@@ -38,13 +38,13 @@ returns-then-not-all_new c =
 
 pub kinds_of-requires : goal.kinds_of-requires
 kinds_of-requires c =
-    ((omega (arith, c.requires.1.0.0, c.gather.auto.1.1.1.0), c.requires.0.1), c.requires.1.1)
+    ((omega (arith, c.requires.1.0.0, c.gather.auto.words), c.requires.0.1), c.requires.1.1)
 
 pub shape_of-words-then-not-kinds_of : goal.shape_of-words-then-not-kinds_of
-shape_of-words-then-not-kinds_of c = c.gather.auto.1.1.1.0
+shape_of-words-then-not-kinds_of c = c.gather.auto.words
 
 pub shape_of-stamps-then-not-kinds_of : goal.shape_of-stamps-then-not-kinds_of
-shape_of-stamps-then-not-kinds_of c = c.all_new.auto.1.1.1.0
+shape_of-stamps-then-not-kinds_of c = c.all_new.auto.stamps
 
 pub returns-then-not-kinds_of : goal.returns-then-not-kinds_of
 returns-then-not-kinds_of c =
@@ -53,10 +53,10 @@ returns-then-not-kinds_of c =
     c.gather.ensures _ (rw (not-true c.kinds_of.result (ap not c.if-not-kinds_of.true)) at c.kinds_of.ensures)
 
 pub shape_of-words : goal.shape_of-words
-shape_of-words c = c.gather.auto.1.1.1.0
+shape_of-words c = c.gather.auto.words
 
 pub shape_of-stamps : goal.shape_of-stamps
-shape_of-stamps c = c.all_new.auto.1.1.1.0
+shape_of-stamps c = c.all_new.auto.stamps
 
 pub returns : goal.returns
 returns c =

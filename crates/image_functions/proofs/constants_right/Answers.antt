@@ -19,10 +19,10 @@ constants_in-requires c = (
 )
 
 pub shape_of-stamps-then-n-le256 : goal.shape_of-stamps-then-n-le256
-shape_of-stamps-then-n-le256 c = c.constants_in.auto.1.1.1.1.1.1.0
+shape_of-stamps-then-n-le256 c = c.constants_in.auto.stamps
 
 pub returns-then-n-le256 : goal.returns-then-n-le256
-returns-then-n-le256 c = (c.constants_in.ensures, c.constants_in.auto.1.1.1.1.1.0 ∙ c.requires.1.0.0)
+returns-then-n-le256 c = (c.constants_in.ensures, c.constants_in.auto.words ∙ c.requires.1.0.0)
 
 pub constants_many-requires : goal.constants_many-requires
 constants_many-requires c = (c.requires.0, c.requires.1.1)

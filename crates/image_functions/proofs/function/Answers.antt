@@ -30,7 +30,7 @@ pub constants_right-requires : goal.constants_right-requires
 constants_right-requires c = ((c.wide16.ensures.1, c.requires.0), ((c.requires.1.0, c.requires.1.1.0), (refl, zeros 256)))
 
 pub shape_of-stamps-in_default-constants_right : goal.shape_of-stamps-in_default-constants_right
-shape_of-stamps-in_default-constants_right c = c.constants_right.auto.1.1.1.1.1.1.0
+shape_of-stamps-in_default-constants_right c = c.constants_right.auto.stamps
 
 pub returns-in_default-constants_right : goal.returns-in_default-constants_right
 returns-in_default-constants_right c = (
@@ -46,7 +46,7 @@ pub runs-requires : goal.runs-requires
 runs-requires c = c.wide32.ensures.1
 
 pub shape_of-stamps-in_default-runs : goal.shape_of-stamps-in_default-runs
-shape_of-stamps-in_default-runs c = c.constants_right.auto.1.1.1.1.1.1.0
+shape_of-stamps-in_default-runs c = c.constants_right.auto.stamps
 
 pub returns-in_default-runs : goal.returns-in_default-runs
 returns-in_default-runs c = (
@@ -68,10 +68,10 @@ pub code_right-requires : goal.code_right-requires
 code_right-requires c = c.requires.1.1.1
 
 pub shape_of-stamps : goal.shape_of-stamps
-shape_of-stamps c = c.constants_right.auto.1.1.1.1.1.1.0
+shape_of-stamps c = c.constants_right.auto.stamps
 
 pub shape_of-ring : goal.shape_of-ring
-shape_of-ring c = c.code_right.auto.1.1.1.1.1.1.0
+shape_of-ring c = c.code_right.auto.ring
 
 pub returns : goal.returns
 returns c = (

@@ -30,10 +30,10 @@ pub shape_of-counts-in_default : goal.shape_of-counts-in_default
 shape_of-counts-in_default c = c.loop-k.invariant.counts_size
 
 pub shape_of-stamps-in_default : goal.shape_of-stamps-in_default
-shape_of-stamps-in_default c = c.function.auto.1.1.1.1.1.0 ∙ c.loop-k.invariant.stamps_size
+shape_of-stamps-in_default c = c.function.auto.stamps ∙ c.loop-k.invariant.stamps_size
 
 pub shape_of-ring-in_default : goal.shape_of-ring-in_default
-shape_of-ring-in_default c = c.function.auto.1.1.1.1.1.1.0 ∙ c.loop-k.invariant.ring_size
+shape_of-ring-in_default c = c.function.auto.ring ∙ c.loop-k.invariant.ring_size
 
 pub returns-in_default : goal.returns-in_default
 returns-in_default c =
@@ -75,9 +75,9 @@ loop-k-preserved c =
     c.in-Is.next (sym c.in-Is.is ∙ c.function.ensures.0.told)
     c.loop-k-test.true (c.function.ensures.0.grows c.in-Is.n
     c.in-Is.next c.in-Is.is) _ _ _ _ c.note_count.ensures
-    (c.note_count.auto.1.1.1.0 ∙ c.loop-k.invariant.counts_size)
-    c.function.ensures.1 (c.function.auto.1.1.1.1.1.0 ∙ c.loop-k.invariant.stamps_size)
-    (c.function.auto.1.1.1.1.1.1.0 ∙ c.loop-k.invariant.ring_size)
+    (c.note_count.auto.counts ∙ c.loop-k.invariant.counts_size)
+    c.function.ensures.1 (c.function.auto.stamps ∙ c.loop-k.invariant.stamps_size)
+    (c.function.auto.ring ∙ c.loop-k.invariant.ring_size)
 
 pub shape_of-counts : goal.shape_of-counts
 shape_of-counts c = c.loop-k.invariant.counts_size

@@ -11,13 +11,13 @@ pub judge_all-requires : goal.judge_all-requires
 judge_all-requires c = (c.requires.0, (blank_size 256, c.requires.1))
 
 pub shape_of-counts : goal.shape_of-counts
-shape_of-counts c = c.judge_all.auto.1.1.0
+shape_of-counts c = c.judge_all.auto.counts
 
 pub shape_of-stamps : goal.shape_of-stamps
-shape_of-stamps c = c.judge_all.auto.1.1.1.1.0
+shape_of-stamps c = c.judge_all.auto.stamps
 
 pub shape_of-ring : goal.shape_of-ring
-shape_of-ring c = c.judge_all.auto.1.1.1.1.1.0
+shape_of-ring c = c.judge_all.auto.ring
 
 pub returns : goal.returns
 returns c = c.judge_all.ensures

@@ -32,7 +32,7 @@ jumps-requires c = (
 )
 
 pub shape_of-ring-then-not-jumps : goal.shape_of-ring-then-not-jumps
-shape_of-ring-then-not-jumps c = c.jumps.auto.1.1.0
+shape_of-ring-then-not-jumps c = c.jumps.auto.ring
 
 pub returns-then-not-jumps : goal.returns-then-not-jumps
 returns-then-not-jumps c =
@@ -57,7 +57,7 @@ closures-requires c =
     (division_is (kinds_in c.args.kinds.now) c.args.code.now))).divides
 
 pub shape_of-ring-then-not-all_once : goal.shape_of-ring-then-not-all_once
-shape_of-ring-then-not-all_once c = c.jumps.auto.1.1.0
+shape_of-ring-then-not-all_once c = c.jumps.auto.ring
 
 pub returns-then-not-all_once : goal.returns-then-not-all_once
 returns-then-not-all_once c =
@@ -76,7 +76,7 @@ returns-then-not-all_once c =
     (sym (division_is (kinds_in c.args.kinds.now) c.args.code.now))
 
 pub shape_of-ring : goal.shape_of-ring
-shape_of-ring c = c.jumps.auto.1.1.0
+shape_of-ring c = c.jumps.auto.ring
 
 pub returns : goal.returns
 returns c =

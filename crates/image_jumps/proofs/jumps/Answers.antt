@@ -72,7 +72,7 @@ lands-requires c = (
 )
 
 pub shape_of-ring-then-not-lands : goal.shape_of-ring-then-not-lands
-shape_of-ring-then-not-lands c = c.fill-lead.auto.1.1.0 ∙ c.loop-at.invariant.1
+shape_of-ring-then-not-lands c = c.fill-lead.auto.ring ∙ c.loop-at.invariant.1
 
 pub returns-then-not-lands : goal.returns-then-not-lands
 returns-then-not-lands c =
@@ -111,7 +111,7 @@ loop-at-preserved c = (
       (omega (arith, c.fill-lead.ensures.0, c.least.ensures.0.0))
       (omega (arith, c.fill-lead.ensures.0, c.least.ensures.0.1))
       (sym (not-false c.lands.result (ap not c.if-not-lands.false)) ∙ c.lands.ensures),
-  c.fill-lead.auto.1.1.0 ∙ c.loop-at.invariant.1,
+  c.fill-lead.auto.ring ∙ c.loop-at.invariant.1,
 )
 
 pub shape_of-ring : goal.shape_of-ring

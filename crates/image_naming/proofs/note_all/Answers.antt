@@ -22,7 +22,7 @@ note_function-requires c =
     c.loop-i.i c.loop-i.invariant
 
 pub shape_of-seen-in_default : goal.shape_of-seen-in_default
-shape_of-seen-in_default c = c.note_function.auto.1.1.1.0 ∙ c.loop-i.invariant.noted.size
+shape_of-seen-in_default c = c.note_function.auto.seen ∙ c.loop-i.invariant.noted.size
 
 pub returns-in_default : goal.returns-in_default
 returns-in_default c =

@@ -25,7 +25,7 @@ pub note_constants-requires : goal.note_constants-requires
 note_constants-requires c = c.requires
 
 pub shape_of-seen-in_default-note_constants : goal.shape_of-seen-in_default-note_constants
-shape_of-seen-in_default-note_constants c = c.note_constants.auto.1.1.1.1.0
+shape_of-seen-in_default-note_constants c = c.note_constants.auto.seen
 
 pub returns-in_default-note_constants : goal.returns-in_default-note_constants
 returns-in_default-note_constants c =
@@ -35,7 +35,7 @@ returns-in_default-note_constants c =
     c.wide16.ensures.0 _ c.note_constants.result c.note_constants.ensures c.in_default-note_constants.is
 
 pub shape_of-seen : goal.shape_of-seen
-shape_of-seen c = c.note_constants.auto.1.1.1.1.0
+shape_of-seen c = c.note_constants.auto.seen
 
 pub returns : goal.returns
 returns c =

@@ -12,10 +12,10 @@ pub note_all-requires : goal.note_all-requires
 note_all-requires c = (zeros_capped c.args.seen.now c.requires.0.1, c.requires.1)
 
 pub all_one-requires : goal.all_one-requires
-all_one-requires c = omega (arith, c.requires.0.0, c.note_all.auto.1.1.1.0)
+all_one-requires c = omega (arith, c.requires.0.0, c.note_all.auto.seen)
 
 pub shape_of-seen : goal.shape_of-seen
-shape_of-seen c = c.note_all.auto.1.1.1.0
+shape_of-seen c = c.note_all.auto.seen
 
 pub returns : goal.returns
 returns c =

@@ -16,7 +16,7 @@ returns-in_default c =
     (
       known_stop c.args.s.now c.args.k c.args.at c.args.n c.args.first c.requires.0.0 _ c.gather.result _ _
           c.in_default.is c.gather.ensures,
-      c.gather.auto.1.1.1.0 ∙ c.requires.1.0,
+      c.gather.auto.words ∙ c.requires.1.0,
     )
 
 pub kinds_of-requires : goal.kinds_of-requires

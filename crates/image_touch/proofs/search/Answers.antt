@@ -109,7 +109,7 @@ loop-k-preserved c =
     let g = t.before.loop.inv in
     search_on (image t) (start t).args.count (start t).args.name (start t).pre.0 _ _ _ (at t) (k t) (read t) g t.loop_test.taken
     (bytes c) (found c) (next c) (told c) c.if-found.false (grows c) _ _ c.note_count.ensures
-    (c.note_count.auto.1.1.1.0 ∙ g.counts_size) c.function.ensures.1
+    (c.note_count.auto.counts ∙ g.counts_size) c.function.ensures.1
 
 pub shape_of-counts : goal.shape_of-counts
 shape_of-counts c = c.loop-k.invariant.counts_size

@@ -6,7 +6,7 @@ pub search-requires : goal.search-requires
 search-requires c = (c.requires, blank_size 256)
 
 pub shape_of-counts : goal.shape_of-counts
-shape_of-counts c = c.search.auto.1.1.0
+shape_of-counts c = c.search.auto.counts
 
 pub returns : goal.returns
 returns c = c.search.ensures

@@ -1,12 +1,12 @@
 -- `entry` goes through all rows and holds the bytes of the opcode's.
 use Prim.Native.Nat.{ℕ, ◌-◌}
 use native.Mathlib.Omega.{arith}
-use mathlib.Core.Logic.{⊎_elim}
 use lib.ListN.{length}
 use borrow.Author.Rules.{rules}
 use Rattle.rules.proofs.Computes as computes
 use Rattle.op.proofs.Widths.{beside, Held, begun, taken, passed, found}
 use Rattle.op.proofs.entry.Goals as goal
+use Rattle.op.proofs.entry.Goals.{then-row-op, else-row-op}
 
 pub loop-place-init : goal.loop-place-init
 loop-place-init c = begun _ _
@@ -20,7 +20,10 @@ loop-place-smaller c = omega arith
 pub loop-place-preserved : goal.loop-place-preserved
 loop-place-preserved c =
     let held = c.loop-place.invariant in
-    ⊎_elim (λ p. taken held _ (omega arith) p.0.taken p.1) (λ p. passed held _ (omega arith) p.0.left p.1) c.if-row-op.branch
+    elim c.if-row-op.branch [
+      then-row-op w ↦ taken held _ (omega arith) w.if-row-op.true w.bytes-is |
+      else-row-op w ↦ passed held _ (omega arith) w.if-row-op.false w.bytes-is
+    ]
 
 pub returns : goal.returns
 unfolding computes.op beside

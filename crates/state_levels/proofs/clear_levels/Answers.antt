@@ -18,7 +18,7 @@ clear_level-requires c = (omega arith, c.loop-level.invariant.1 ∙ c.requires)
 pub loop-level-preserved : goal.loop-level-preserved
 loop-level-preserved c = (
   omega arith,
-  omega (arith, c.clear_level.auto.0, c.loop-level.invariant.1),
+  omega (arith, c.clear_level.auto.t, c.loop-level.invariant.1),
   empty_more _ _ _
       c.loop-level.invariant.2 c.clear_level.ensures,
 )

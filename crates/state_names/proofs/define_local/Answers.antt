@@ -30,7 +30,7 @@ bounds-t-at c = omega (arith, few c.before.before.before)
 pub overflow_add-t : goal.overflow_add-t
 overflow_add-t c =
     let a = c.args in
-    omega (arith, c.type_inv.t (a.level * level_words + (get_or a.t.now (a.level * level_words + local_count_place) 0 - 1)))
+    omega (arith, c.slice_known-2-1.given (a.level * level_words + (get_or a.t.now (a.level * level_words + local_count_place) 0 - 1)))
 
 pub offset_bounds-t-at-then-w-eq0 : goal.offset_bounds-t-at-then-w-eq0
 offset_bounds-t-at-then-w-eq0 c = omega (arith, few c.before.before.before.before)

@@ -138,11 +138,11 @@ loop-i-preserved c =
       c.loop-i.invariant.1,
       omega arith,
       omega
-          (arith, c.emit_pair-a.auto.0, c.loop-i.invariant.3),
+          (arith, c.emit_pair-a.auto.t, c.loop-i.invariant.3),
       omega
-          (arith, c.emit_pair-a.auto.1.0, c.loop-i.invariant.4),
+          (arith, c.emit_pair-a.auto.code, c.loop-i.invariant.4),
       omega
-          (arith, c.emit_pair-a.auto.1.1.0, c.loop-i.invariant.5),
+          (arith, c.emit_pair-a.auto.spans, c.loop-i.invariant.5),
     )
 
 pub returns : goal.returns

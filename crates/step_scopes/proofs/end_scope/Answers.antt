@@ -52,9 +52,9 @@ loop-preserved c = (
   ways.passing_then c.loop.invariant.0
       (ways.popped_as popped.More c.pop_local-step.ensures c.in-More.is).does.0,
   omega
-      (arith, c.pop_local-step.auto.0, c.loop.invariant.1),
+      (arith, c.pop_local-step.auto.t, c.loop.invariant.1),
   omega
-      (arith, c.pop_local-step.auto.1.0, c.loop.invariant.2),
+      (arith, c.pop_local-step.auto.code, c.loop.invariant.2),
   omega
-      (arith, c.pop_local-step.auto.1.1.0, c.loop.invariant.3),
+      (arith, c.pop_local-step.auto.spans, c.loop.invariant.3),
 )

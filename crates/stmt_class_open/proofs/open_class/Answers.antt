@@ -43,7 +43,7 @@ pub u16_at-requires : goal.u16_at-requires
 u16_at-requires c = omega (arith, c.requires.0.bound)
 
 pub shape_of-t-then-u16_at-eq0 : goal.shape_of-t-then-u16_at-eq0
-shape_of-t-then-u16_at-eq0 c = c.superclass-d.auto.1.1.0 ∙ c.define_name-b.auto.0 ∙ c.emit_op_name-a.auto.0
+shape_of-t-then-u16_at-eq0 c = c.superclass-d.auto.t ∙ c.define_name-b.auto.t ∙ c.emit_op_name-a.auto.t
 
 pub returns-then-u16_at-eq0 : goal.returns-then-u16_at-eq0
 returns-then-u16_at-eq0 c =
@@ -59,15 +59,15 @@ get_variable-requires c = opened_fit _ _ c.requires.0 c.superclass-d.ensures c.i
 
 pub shape_of-t : goal.shape_of-t
 shape_of-t c =
-    c.get_variable.auto.0 ∙ c.superclass-d.auto.1.1.0 ∙ c.define_name-b.auto.0 ∙ c.emit_op_name-a.auto.0
+    c.get_variable.auto.t ∙ c.superclass-d.auto.t ∙ c.define_name-b.auto.t ∙ c.emit_op_name-a.auto.t
 
 pub shape_of-code : goal.shape_of-code
 shape_of-code c =
-    c.get_variable.auto.1.0 ∙ c.superclass-d.auto.1.1.1.0 ∙ c.define_name-b.auto.1.0 ∙ c.emit_op_name-a.auto.1.0
+    c.get_variable.auto.code ∙ c.superclass-d.auto.code ∙ c.define_name-b.auto.code ∙ c.emit_op_name-a.auto.code
 
 pub shape_of-spans : goal.shape_of-spans
 shape_of-spans c =
-    c.get_variable.auto.1.1.0 ∙ c.superclass-d.auto.1.1.1.1.0 ∙ c.define_name-b.auto.1.1.0 ∙ c.emit_op_name-a.auto.1.1.0
+    c.get_variable.auto.spans ∙ c.superclass-d.auto.spans ∙ c.define_name-b.auto.spans ∙ c.emit_op_name-a.auto.spans
 
 pub returns : goal.returns
 returns c =

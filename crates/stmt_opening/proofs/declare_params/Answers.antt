@@ -41,7 +41,7 @@ loop-left-preserved c =
       walk_step a.tree.now a.level a.span c.loop-left.invariant.0
           c.u16_at-name.ensures c.declare_named-a.ensures c.loop-left-test.true
           c.in-Next.is,
-      omega (arith, c.declare_named-a.auto.0, c.loop-left.invariant.1),
+      omega (arith, c.declare_named-a.auto.t, c.loop-left.invariant.1),
     )
 
 pub returns : goal.returns

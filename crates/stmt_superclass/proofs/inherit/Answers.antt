@@ -39,7 +39,7 @@ get_variable-b-requires c = (went c.get_variable-a.ensures c.in-Next-a.is).ahead
 
 pub shape_of-t-in_default-b : goal.shape_of-t-in_default-b
 shape_of-t-in_default-b c =
-    c.get_variable-b.auto.0 ∙ c.get_variable-a.auto.0 ∙ c.define_local.auto.0 ∙ c.declare_local-d.auto.0 ∙ c.begin_scope.auto.0
+    c.get_variable-b.auto.t ∙ c.get_variable-a.auto.t ∙ c.define_local.auto.t ∙ c.declare_local-d.auto.t ∙ c.begin_scope.auto.t
 
 pub returns-in_default-b : goal.returns-in_default-b
 returns-in_default-b c =
@@ -57,8 +57,8 @@ emit_op-requires c = (went c.get_variable-b.ensures c.in-Next-b.is).ahead.fit
 
 pub shape_of-t : goal.shape_of-t
 shape_of-t c =
-    c.emit_op.auto.0 ∙ c.get_variable-b.auto.0 ∙ c.get_variable-a.auto.0 ∙ c.define_local.auto.0 ∙ c.declare_local-d.auto.0 ∙
-    c.begin_scope.auto.0
+    c.emit_op.auto.t ∙ c.get_variable-b.auto.t ∙ c.get_variable-a.auto.t ∙ c.define_local.auto.t ∙ c.declare_local-d.auto.t ∙
+    c.begin_scope.auto.t
 
 pub returns : goal.returns
 returns c =
