@@ -15,16 +15,17 @@ use Rattle.image_functions.specs.declared.Done.TheVariants.{Is}
 use Rattle.image_functions.specs.Judged.{functions_done}
 use Rattle.image.proofs.Whole.{no_room, no_mark, no_functions, answered_wrong, ends_at, answered_behind, all_read, answered_unnamed, answered_yes}
 use Rattle.image.proofs.count_of.Goals as goal
+use Rattle.image.proofs.count_of.Tie as tie
 use Rattle.image.proofs.count_of.Lts as lts
 use Rattle.image.proofs.count_of.Reads as reads
 
 -- the mark and the count are there
-room : (c : lts.Else1 reads.Pre reads.Post) → 6 ≤ length c.args.image.now
+room : (c : lts.Else1 tie.the-claims reads.Pre reads.Post) → 6 ≤ length c.args.image.now
 room c = leb-true _ _ (sym c.has.ensures ∙ not-false c.has.result (ap not c.if-not-has.false))
 
 -- what is known once they are read
 module _ (c : tie.Else3) where
-  abbrev start : lts.Start reads.Pre reads.Post
+  abbrev start : lts.Start tie.the-claims reads.Pre reads.Post
   start = start-of-else1 (else1-of-else2 (else2-of-else3 c))
 
   abbrev image : List ℕ

@@ -10,11 +10,12 @@ use borrow.Author.Rules.{rules}
 use borrow.Author.Tests.{not-true, not-false, leb-true, leb-false}
 use Rattle.image_directory.proofs.Directory.{nothing, no_room, no_mark, no_count, no_end, by_offsets}
 use Rattle.image_directory.proofs.behind.Goals as goal
+use Rattle.image_directory.proofs.behind.Tie as tie
 use Rattle.image_directory.proofs.behind.Lts as lts
 use Rattle.image_directory.proofs.behind.Reads as reads
 
 -- the mark and the count are there
-room : (c : lts.Else2 reads.Pre reads.Post) → c.args.at + 6 ≤ length c.args.image.now
+room : (c : lts.Else2 tie.the-claims reads.Pre reads.Post) → c.args.at + 6 ≤ length c.args.image.now
 room c = leb-true _ _ (sym c.has.ensures ∙ not-false c.has.result (ap not c.if-not-has.false))
 
 pub returns-then-at-image : goal.returns-then-at-image

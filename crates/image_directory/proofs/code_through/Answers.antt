@@ -9,11 +9,12 @@ use borrow.Author.Rules.{rules}
 use borrow.Author.Tests.{not-true, not-false, leb-true, leb-false}
 use Rattle.image_directory.proofs.Parts.{no_room, no_mark, no_end, no_function, through}
 use Rattle.image_directory.proofs.code_through.Goals as goal
+use Rattle.image_directory.proofs.code_through.Tie as tie
 use Rattle.image_directory.proofs.code_through.Lts as lts
 use Rattle.image_directory.proofs.code_through.Reads as reads
 
 -- the mark and the count are there
-room : (c : lts.Else1 reads.Pre reads.Post) → c.args.place + 6 ≤ length c.args.image.now
+room : (c : lts.Else1 tie.the-claims reads.Pre reads.Post) → c.args.place + 6 ≤ length c.args.image.now
 room c = leb-true _ _ (sym c.has.ensures ∙ not-false c.has.result (ap not c.if-not-has.false))
 
 pub returns-then-not-has : goal.returns-then-not-has

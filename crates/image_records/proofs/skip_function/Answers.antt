@@ -13,27 +13,28 @@ use Rattle.image_records.proofs.Many.{Gives, fails_bad, place_bad, place_at}
 use Rattle.image_records.proofs.Records.{head_fails, headed, at_constants, at_runs, at_code, coded, whole_function}
 use borrow.Author.Rules.{rules}
 use Rattle.image_records.proofs.skip_function.Goals as goal
+use Rattle.image_records.proofs.skip_function.Tie as tie
 use Rattle.image_records.proofs.skip_function.Lts as lts
 use Rattle.image_records.proofs.skip_function.Reads as reads
 
 -- ## What was read, at the place where it is known
-constants-skipped : (c : lts.After-skip_constants reads.Pre reads.Post) → c.skip_constants.result
+constants-skipped : (c : lts.After-skip_constants tie.the-claims reads.Pre reads.Post) → c.skip_constants.result
     ≡ place_told (many c.in-Is.h.constants (read_constant c.args.s.now) (c.args.at + 17))
 constants-skipped c = rw c.wide16.ensures.0 at c.skip_constants.ensures
 
-constants-read : (c : lts.After-runs_at reads.Pre reads.Post) →
+constants-read : (c : lts.After-runs_at tie.the-claims reads.Pre reads.Post) →
     Gives (many c.in-Is.h.constants (read_constant c.args.s.now) (c.args.at + 17)) c.in-At.runs_at
 constants-read c = place_at _ _ (sym c.in-At.is ∙ constants-skipped c.before.before)
 
-runs-skipped : (c : lts.After-skip_runs reads.Pre reads.Post) → c.skip_runs.result
+runs-skipped : (c : lts.After-skip_runs tie.the-claims reads.Pre reads.Post) → c.skip_runs.result
     ≡ place_told (many c.in-Is.h.runs (read_run c.args.s.now) c.in-At.runs_at)
 runs-skipped c = rw c.wide32.ensures.0 at c.skip_runs.ensures
 
-runs_read : (c : lts.After-mark_at reads.Pre reads.Post) →
+runs_read : (c : lts.After-mark_at tie.the-claims reads.Pre reads.Post) →
     Gives (many c.in-Is.h.runs (read_run c.args.s.now) c.in-At.runs_at) c.in-At-skip_runs.mark_at
 runs_read c = place_at _ _ (sym c.in-At-skip_runs.is ∙ runs-skipped c.before.before)
 
-code-placed : (c : lts.After-code_at reads.Pre reads.Post) → c.code_at.result
+code-placed : (c : lts.After-code_at tie.the-claims reads.Pre reads.Post) → c.code_at.result
     ≡ code_told c.args.s.now c.in-Is.h.code c.in-At-skip_runs.mark_at
 code-placed c = rw c.wide32-size.ensures.0 at c.code_at.ensures
 
@@ -74,7 +75,7 @@ returns-in_default-code_at c =
 pub overflow_add-result : goal.overflow_add-result
 overflow_add-result c =
     let d = (coded c.args.s.now c.in-Is.h.code c.in-At-skip_runs.mark_at
-    c.in-At-code_at.first (sym c.in-At-code_at.is ∙ code-placed c.before.before.before)) in omega
+    c.in-At-code_at.first (sym c.in-At-code_at.is ∙ code-placed c.before.before.before.before.before.before.before.before.before.before.before.before.before.before)) in omega
     (arith, d.within, c.wide32-size.ensures.0, c.well_formed)
 
 pub returns : goal.returns

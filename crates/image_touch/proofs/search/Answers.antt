@@ -12,6 +12,7 @@ use Rattle.image_touch.specs.declared.Step.TheVariants.{Is}
 use Rattle.image_touch.specs.Walked.{step_of}
 use Rattle.image_touch.proofs.Searching.{Searching, search_begin, function_right, next_is, not_lost, search_hit, search_on, search_done}
 use Rattle.image_touch.proofs.search.Goals as goal
+use Rattle.image_touch.proofs.search.Tie as tie
 use Rattle.image_touch.proofs.search.Lts as lts
 use Rattle.image_touch.proofs.search.Reads as reads
 

@@ -5,11 +5,12 @@ use borrow.Author.Rules.{rules}
 use Rattle.image_touch.specs.Walked.{Sound}
 use Rattle.image_touch.proofs.Searching.{not_image, image_room, image_sound}
 use Rattle.image_touch.proofs.touch.Goals as goal
+use Rattle.image_touch.proofs.touch.Tie as tie
 use Rattle.image_touch.proofs.touch.Lts as lts
 use Rattle.image_touch.proofs.touch.Reads as reads
 
 -- the image is one
-is-sound : (c : lts.After-wide32 reads.Pre reads.Post) → Sound c.args.image.now c.wide32-count.result
+is-sound : (c : lts.After-wide32 tie.the-claims reads.Pre reads.Post) → Sound c.args.image.now c.wide32-count.result
 is-sound c =
     image_sound c.args.image.now c.check-checked.result c.check-checked.ensures c.if-checked-ne0.false
     (λ i. omega (arith, c.type_inv.image i)) c.wide32-count.result (c.wide32-count.ensures.0 ∙ c.u32_at.ensures) c.wide32-count.ensures.1

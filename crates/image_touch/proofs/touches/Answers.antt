@@ -11,11 +11,12 @@ use borrow.Author.Rules.{rules}
 use Rattle.rules.specs.Touch.{names_global}
 use Rattle.image_touch.proofs.Walking.{other_op, operand_within, past_constants, by_word}
 use Rattle.image_touch.proofs.touches.Goals as goal
+use Rattle.image_touch.proofs.touches.Tie as tie
 use Rattle.image_touch.proofs.touches.Lts as lts
 use Rattle.image_touch.proofs.touches.Reads as reads
 
 -- one of the three opcodes
-global : (c : lts.Else1 reads.Pre reads.Post) → names_global (get_or c.args.code.now c.args.at 0) ≡ true
+global : (c : lts.Else1 tie.the-claims reads.Pre reads.Post) → names_global (get_or c.args.code.now c.args.at 0) ≡ true
 global c = sym c.names_global.ensures ∙ not-false c.names_global.result (ap not c.if-not-names_global.false)
 
 pub returns-then-not-names_global : goal.returns-then-not-names_global

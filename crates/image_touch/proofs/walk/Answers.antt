@@ -7,12 +7,13 @@ use Rattle.image_code.specs.Table.{kinds_in}
 use Rattle.image_constants.specs.Words.{constants_of}
 use Rattle.image_touch.proofs.Walking.{Walking, walk_begin, walk_width, walk_fits, walk_hit, walk_on, walk_done}
 use Rattle.image_touch.proofs.walk.Goals as goal
+use Rattle.image_touch.proofs.walk.Tie as tie
 use Rattle.image_touch.proofs.walk.Lts as lts
 use Rattle.image_touch.proofs.walk.Reads as reads
 
 -- what is known at an instruction
 module _ (c : tie.After_width_at invariant-loop decreases-loop) where
-  abbrev start : lts.Start reads.Pre reads.Post goal.the-invariant-loop-at goal.the-decreases-loop-at invariant-loop decreases-loop
+  abbrev start : lts.Start tie.the-claims reads.Pre reads.Post goal.the-invariant-loop-at goal.the-decreases-loop-at invariant-loop decreases-loop
   start = start-of-in-loop c.before
 
   abbrev loop : tie.At_loop invariant-loop decreases-loop

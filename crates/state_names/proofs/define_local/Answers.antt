@@ -8,9 +8,8 @@ use Rattle.state.specs.Layout.{level_words, local_count_place}
 use Rattle.state_names.proofs.define_local.Goals as goal
 use Rattle.state_names.proofs.define_local.Lts as lts
 use Rattle.state_names.proofs.define_local.Reads as reads
-use Rattle.state_names.proofs.define_local.Tie as tie
 
-few : (s : lts.Start tie.the-claims reads.Pre reads.Post) → get_or s.args.t.now (s.args.level * level_words + local_count_place) 0 ≤ 256
+few : (s : lts.Start reads.Pre reads.Post) → get_or s.args.t.now (s.args.level * level_words + local_count_place) 0 ≤ 256
 few s = s.requires.1.few_locals s.args.level s.requires.0
 
 pub returns-then-n-eq0 : goal.returns-then-n-eq0
@@ -19,13 +18,13 @@ returns-then-n-eq0 c =
     ways.define_none a.t.now a.level c.requires.0 c.requires.1 c.if-n-eq0.true
 
 pub overflow_add-at : goal.overflow_add-at
-overflow_add-at c = omega (arith, few c.before.before)
+overflow_add-at c = omega (arith, few c.before.before.before)
 
 pub offset_bounds-t-at : goal.offset_bounds-t-at
-offset_bounds-t-at c = omega (arith, few c.before.before)
+offset_bounds-t-at c = omega (arith, few c.before.before.before)
 
 pub bounds-t-at : goal.bounds-t-at
-bounds-t-at c = omega (arith, few c.before.before.before)
+bounds-t-at c = omega (arith, few c.before.before.before.before)
 
 pub overflow_add-t : goal.overflow_add-t
 overflow_add-t c =

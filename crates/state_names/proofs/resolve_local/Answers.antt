@@ -39,15 +39,15 @@ pub offset_bounds-t-at : goal.offset_bounds-t-at
 offset_bounds-t-at c = omega (arith, few c.before.before.before.before)
 
 pub bounds-t-at : goal.bounds-t-at
-bounds-t-at c = omega (arith, few c.before.before.before.before.before)
+bounds-t-at c = omega (arith, few c.before.before.before.before.before.before)
 
 pub returns-then-w-eq0 : goal.returns-then-w-eq0
 returns-then-w-eq0 c =
     let a = c.args in
-    ways.unready a.t.now a.level a.name c.requires.0 c.requires.1 _ (top c.before.before) a.mark c.if-w-eq0.true
+    ways.unready a.t.now a.level a.name c.requires.0 c.requires.1 _ (top c.before.before.before) a.mark c.if-w-eq0.true
 
 pub overflow_cast-slot : goal.overflow_cast-slot
-overflow_cast-slot c = omega (arith, few c.before.before.before.before.before.before)
+overflow_cast-slot c = omega (arith, few c.before.before.before.before.before.before.before)
 
 pub overflow_add-t : goal.overflow_add-t
 overflow_add-t c =
@@ -68,9 +68,9 @@ returns-then-w-eq0-2 c =
 pub returns-else-w-eq0-2 : goal.returns-else-w-eq0-2
 returns-else-w-eq0-2 c =
     let a = c.args in
-    rw c.if-mark.true (ways.again a.t.now a.level a.name c.requires.0 c.requires.1 _ (top c.before.before.before.before) c.if-w-eq0.false c.if-w-eq0-2.false)
+    rw c.if-mark.true (ways.again a.t.now a.level a.name c.requires.0 c.requires.1 _ (top c.before.before.before.before.before) c.if-w-eq0.false c.if-w-eq0-2.false)
 
 pub returns-else-mark : goal.returns-else-mark
 returns-else-mark c =
     let a = c.args in
-    rw c.if-mark.false (ways.plain a.t.now a.level a.name c.requires.0 c.requires.1 _ (top c.before.before.before) c.if-w-eq0.false)
+    rw c.if-mark.false (ways.plain a.t.now a.level a.name c.requires.0 c.requires.1 _ (top c.before.before.before.before) c.if-w-eq0.false)
