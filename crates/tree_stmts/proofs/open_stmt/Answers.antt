@@ -39,7 +39,8 @@ returns-then-not-has c =
     c.args.method c.args.start
     (stmt_known c.args.tree.now c.args.start c.args.method
     c.stmt_mark-mark.ensures c.if-mark-eq0.false) c.if-depth-eq0.false
-    (λ e. elim c.if-mark-eq-FUN.branch [ then-mark-eq-FUN+else-funs-eq0 w ↦ some_left w.if-funs-eq0.false | else-mark-eq-FUN w ↦ absurd (w.if-mark-eq-FUN.false e) ]) (cut c.has.ensures (ap not c.if-not-has.true)))
+    (λ e. elim c.if-mark-eq-FUN.branch [ then-mark-eq-FUN+else-funs-eq0 w ↦ some_left w.if-funs-eq0.false | else-mark-eq-FUN w ↦ absurd (w.if-mark-eq-FUN.false e) ])
+    (cut c.has.ensures (ap not c.if-not-has.true)))
 
 pub stmt_kids-requires : goal.stmt_kids-requires
 stmt_kids-requires c = (
