@@ -1,6 +1,7 @@
 // The tree file is read once, from the first byte to the last, and what comes back is where its statements stand or the first refusal.
 // No tree is made: what a file means is its value under the rules' reader, and each function here says where that reader gets to.
 #![tactic(auto)]
+
 ghost use Rattle.std.specs.Prelude.{◌≡◌};
 ghost use Rattle.rules.specs.TreeFile.{read_tree};
 ghost use Rattle.tree.specs.Checked.{ends, checked, checked_file};

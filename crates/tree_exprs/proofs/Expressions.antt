@@ -19,7 +19,8 @@ use Rattle.rules.specs.declared.Refusal.{Refusal}
 use Rattle.rules.specs.declared.Refusal.TheVariants.{TreeForm, TreeTooDeep}
 use Rattle.rules.specs.Tree.{Expr, Exprs}
 use Rattle.rules.specs.Reader.{Read, got, bad, Reader, go_on, ◌>>=◌, ◌>>◌, return, refuse, here, need, one_of, u8, u16, u64}
-use Rattle.rules.specs.TreeFile.{ExprMark, EA, EC, EG, EI, EL, EP, ES, EU, EV, expr_marks, infix_ops, prefix_ops, literal_kinds, name, read_exprs, assign_fields, call_fields, get_fields, infix_fields, literal_of, literal_fields, prefix_fields, set_fields, super_fields, var_fields, expr_fields, expr_mark, expr_record, read_expr, a_number, a_string}
+use Rattle.rules.specs.TreeFile.{ExprMark, EA, EC, EG, EI, EL, EP, ES, EU, EV, expr_marks, infix_ops, prefix_ops, literal_kinds, name, read_exprs, assign_fields, call_fields, get_fields}
+use Rattle.rules.specs.TreeFile.{infix_fields, literal_of, literal_fields, prefix_fields, set_fields, super_fields, var_fields, expr_fields, expr_mark, expr_record, read_expr, a_number, a_string}
 use Rattle.fields.specs.Words.{word64, span_of}
 use Rattle.fields.proofs.Reading.{a_u64, a_span, then_on, then_bad}
 use Rattle.tree_small.specs.Places.{place, and_then, row, below, known_mark}

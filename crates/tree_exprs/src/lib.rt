@@ -1,5 +1,6 @@
 // Expressions. A record's own fields are read first, and then the expressions that they announce, one after the other.
 #![tactic(auto)]
+
 ghost use Rattle.std.specs.Prelude.{◌≡◌, ◌+◌, ◌≤◌, length};
 ghost use Rattle.rules.specs.declared.Refusal.TheVariants.{TreeForm};
 ghost use Rattle.rules.specs.declared.Span.{Span};

@@ -1,5 +1,6 @@
 // The names: in strictly rising byte order, and none of the four fixed ones.
 #![tactic(auto)]
+
 ghost use Rattle.std.specs.Prelude.{◌≡◌, ◌+◌, ◌≤◌, ◌<◌, length};
 ghost use Rattle.std.proofs.Math.Option.{none};
 ghost use Rattle.rules.specs.Base.{before, all};

@@ -17,12 +17,15 @@ use Rattle.rules.specs.declared.Span.{Span}
 use Rattle.rules.specs.declared.Refusal.{Refusal}
 use Rattle.rules.specs.declared.Refusal.TheVariants.{TreeForm, TreeTooDeep, TooManyOpen}
 use Rattle.rules.specs.Tree.{Expr, Stmt, Stmts, StmtFor, Fun, []ˢ, ◌∷ˢ◌}
-use Rattle.rules.specs.Reader.{Read, got, bad, Reader, go_on, ◌>>=◌, ◌>>◌, return, refuse, here, need, u8, u16, mark_is, span, many}
-use Rattle.rules.specs.TreeFile.{StmtMark, SB, SC, SE, SF, SI, SO, SP, SR, SV, SW, stmt_marks, flags, flag, name, maybe, maybe_stmt, may_open, read_stmts, read_methods, block_fields, class_fields, expression_fields, fun_fields, if_fields, for_fields, print_fields, return_fields, var_stmt_fields, while_fields, stmt_fields, stmt_mark, stmt_record, method_record, read_expr, read_superclass, read_stmt, read_method}
+use Rattle.rules.specs.Reader.{Read, got, bad, Reader, go_on, ◌>>=◌, ◌>>◌, return, refuse, here, need, u8, u16, mark_is, many}
+use Rattle.rules.specs.TreeFile.{StmtMark, SB, SC, SE, SF, SI, SO, SP, SR, SV, SW, stmt_marks, flags, flag, name, maybe, maybe_stmt, may_open, read_stmts, read_methods, block_fields}
+use Rattle.rules.specs.TreeFile.{class_fields, expression_fields, fun_fields, if_fields, for_fields, print_fields, return_fields, var_stmt_fields, while_fields, stmt_fields, stmt_mark}
+use Rattle.rules.specs.TreeFile.{stmt_record, method_record, read_expr, read_superclass, read_stmt, read_method}
 use Rattle.fields.specs.Words.{word8, letters, span_of}
 use Rattle.fields.proofs.Reading.{a_u8, a_span, then_on, then_bad, bad_got, mark_is_it, mark_is_not, mark_is_cut}
 use Rattle.tree_small.specs.Places.{place, and_then, row, below, known_mark}
-use Rattle.tree_stmts.specs.Stmts.{method_marks, known_stmt, plain, body_from, stmt_place, kids_place, follow_head, announces, children, BlockKids, ClassKids, FunKids, IfKids, ForKids, ReturnKids, VarKids, StmtKids, StmtOpens}
+use Rattle.tree_stmts.specs.Stmts.{method_marks, known_stmt, plain, body_from, stmt_place, kids_place, follow_head, announces, children, BlockKids, ClassKids, FunKids, IfKids, ForKids}
+use Rattle.tree_stmts.specs.Stmts.{ReturnKids, VarKids, StmtKids, StmtOpens}
 use Rattle.tree_small.specs.declared.Step.{Step}
 use Rattle.tree_stmts.specs.declared.Head.{Head}
 use Rattle.tree_small.proofs.Places.{chain, made, goes, stops, and_then_end, and_then_same, row_one, row_some, stmts_row, methods_row, many_row}

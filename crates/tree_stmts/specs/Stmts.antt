@@ -5,7 +5,8 @@ use Rattle.rules.specs.Base.{if◌then◌else◌, lookup}
 use Rattle.rules.specs.declared.Span.{Span}
 use Rattle.rules.specs.declared.Refusal.TheVariants.{TreeForm}
 use Rattle.rules.specs.Reader.{Read, got, bad}
-use Rattle.rules.specs.TreeFile.{StmtMark, SF, stmt_marks, Children, read_expr, read_superclass, read_stmt, read_method, stmt_fields, block_fields, class_fields, fun_fields, if_fields, for_fields, return_fields, var_stmt_fields}
+use Rattle.rules.specs.TreeFile.{StmtMark, SF, stmt_marks, Children, read_expr, read_superclass, read_stmt, read_method, stmt_fields}
+use Rattle.rules.specs.TreeFile.{block_fields, class_fields, fun_fields, if_fields, for_fields, return_fields, var_stmt_fields}
 use Rattle.tree_small.specs.Places.{place, and_then, row, known_mark}
 use Rattle.tree_small.specs.declared.Step.{Step}
 use Rattle.tree_stmts.specs.declared.Plan.{Plan}

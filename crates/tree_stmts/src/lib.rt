@@ -1,5 +1,6 @@
 // Statements and methods. A record's own fields are read first, and a class's superclass with them, and then the records that they announce.
 #![tactic(auto)]
+
 ghost use Rattle.std.specs.Prelude.{◌≡◌, ◌+◌, ◌≤◌, ◌<◌, length};
 ghost use Rattle.rules.specs.declared.Refusal.TheVariants.{TreeForm};
 ghost use Rattle.rules.specs.Reader.{u16};

@@ -16,7 +16,6 @@ use Rattle.rules.specs.TreeFile.{read_tree}
 use Rattle.tree.specs.Checked.{checked, checked_file}
 use Rattle.tree.specs.declared.Checked.{Checked}
 use Rattle.tree.specs.Read.{told, read_answer}
-use borrow.Author.Rules.{rules}
 use Rattle.tree.proofs.answer.Goals as goal
 
 -- what the reader found, as an answer

@@ -3,7 +3,6 @@ use lib.ListN.{length}
 use borrow.Author.Tests.{lt-leb, le-leb}
 use Rattle.rules.specs.Limits.{max_tree}
 use Rattle.tree.specs.Checked.{checked_file}
-use borrow.Author.Rules.{rules}
 use Rattle.tree.proofs.read.Goals as goal
 
 pub returns-then-tree-gt-TREE_BYTES : goal.returns-then-tree-gt-TREE_BYTES

@@ -10,7 +10,6 @@ use Rattle.tree_small.specs.Places.{place}
 use Rattle.tree.specs.Checked.{ends}
 use Rattle.tree_small.proofs.Places.{cut, there}
 use Rattle.tree.proofs.Whole.{file_cut, mark_not, too_many, names_bad, to_the_end, checked_bad}
-use borrow.Author.Rules.{rules}
 use Rattle.tree.proofs.read_within.Goals as goal
 
 pub returns-then-not-has : goal.returns-then-not-has

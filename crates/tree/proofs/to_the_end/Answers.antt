@@ -2,7 +2,6 @@
 use lib.ListN.{length}
 use borrow.Author.Tests.{eq-eqb, ne_eqb}
 use Rattle.tree.specs.Checked.{ends}
-use borrow.Author.Rules.{rules}
 use Rattle.tree.proofs.to_the_end.Goals as goal
 
 pub returns-then-end-tree : goal.returns-then-end-tree

@@ -1,6 +1,6 @@
 -- `expr_kids` meets its contract: one law for each arm.
+use Rattle.std.proofs.Common.{rules}
 use Rattle.tree_exprs.proofs.Expressions.{named_one, named_two, named_super, named_var, operated_one, operated_two, calls, literal_left}
-use borrow.Author.Rules.{rules}
 use Rattle.tree_exprs.proofs.expr_kids.Goals as goal
 
 pub returns-in-17729 : goal.returns-in-17729
@@ -28,6 +28,5 @@ returns-in-17750 c = named_var c.args.tree.now c.args.names c.args.start c.named
 
 pub returns-in_default : goal.returns-in_default
 returns-in_default c =
-    literal_left c.args.tree.now c.args.names c.args.start
-    c.literal.ensures c.in_default.rest.0.0.0.0.0.0.1 c.in_default.rest.0.0.0.0.0.1 c.in_default.rest.0.0.0.0.1
-    c.in_default.rest.0.0.0.1 c.in_default.rest.0.0.1 c.in_default.rest.0.1 c.in_default.rest.1
+    literal_left c.args.tree.now c.args.names c.args.start c.literal.ensures
+    (search rules) (search rules) (search rules) (search rules) (search rules) (search rules) (search rules)

@@ -1,14 +1,13 @@
 -- `expr_mark` meets its contract: what its `match` names is what the rules' table has.
+use Rattle.std.proofs.Common.{rules}
 use mathlib.Core.Path.{ap}
 use mathlib.Core.Bool.{not}
 use mathlib.Core.Path.{refl, sym}
 use mathlib.Core.List.{[], ◌∷◌}
-use mathlib.Core.Logic.{⊎_elim}
 use Rattle.rules.specs.Base.{lookup, all}
 use Rattle.rules.specs.TreeFile.{expr_marks}
 use Rattle.tree_small.proofs.Places.{cut, there}
 use Rattle.tree_small.proofs.Tables.{is_some, inside, outside, known_cut, known_is, known_not}
-use borrow.Author.Rules.{rules}
 use Rattle.fields.specs.Marks as marks
 use Rattle.tree_exprs.proofs.expr_mark.Goals as goal
 
@@ -38,4 +37,4 @@ returns-in_default c =
     sym (known_not expr_marks c.args.tree.now c.args.at
     (there c.has.ensures (ap not c.if-not-has.false)) c.mark_at-mark.ensures
     (outside (marks.EV ∷ marks.EA ∷ marks.EC ∷ marks.EG ∷ marks.EI ∷ marks.EL ∷ marks.EP ∷ marks.ES ∷ marks.EU ∷ []) expr_marks c.mark_at-mark.result
-    refl (⊎_elim c.in_default.rest.1 c.in_default.rest.0.1)))
+    refl (search rules)))

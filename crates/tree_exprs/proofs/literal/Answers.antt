@@ -1,6 +1,5 @@
 -- `literal` meets its contract.
 use Rattle.tree_exprs.proofs.Expressions.{step_bad, step_at}
-use borrow.Author.Rules.{rules}
 use Rattle.tree_exprs.proofs.literal.Goals as goal
 
 pub returns-in-Bad : goal.returns-in-Bad

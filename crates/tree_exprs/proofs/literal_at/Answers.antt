@@ -5,7 +5,6 @@ use native.Mathlib.Omega.{arith}
 use Rattle.rules.specs.declared.Refusal.TheVariants.{TreeForm}
 use Rattle.tree_small.specs.Places.{place}
 use Rattle.tree_exprs.proofs.Expressions.{literal_no, literal_plain, literal_number, literal_string, step_moved}
-use borrow.Author.Rules.{rules}
 use Rattle.tree_exprs.proofs.literal_at.Goals as goal
 
 pub returns-in_default : goal.returns-in_default

@@ -8,7 +8,6 @@ use Rattle.rules.specs.declared.Refusal.TheVariants.{TreeForm}
 use Rattle.tree_small.specs.Places.{place}
 use Rattle.tree_small.proofs.Places.{cut, there}
 use Rattle.tree_exprs.proofs.Expressions.{number_cut, number_big, number_is}
-use borrow.Author.Rules.{rules}
 use Rattle.tree_exprs.proofs.number_at.Goals as goal
 
 pub returns-then-not-has : goal.returns-then-not-has

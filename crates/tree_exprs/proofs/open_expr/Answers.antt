@@ -5,7 +5,6 @@ use Rattle.rules.specs.TreeFile.{expr_marks}
 use Rattle.tree_small.proofs.Places.{cut, there}
 use Rattle.tree_small.proofs.Tables.{known_some}
 use Rattle.tree_exprs.proofs.Expressions.{no_expr, deep_expr, cut_expr, opens_bad, opens_kids}
-use borrow.Author.Rules.{rules}
 use Rattle.tree_exprs.proofs.open_expr.Goals as goal
 
 pub returns-then-mark-eq0 : goal.returns-then-mark-eq0

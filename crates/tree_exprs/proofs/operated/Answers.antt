@@ -2,7 +2,6 @@
 use native.Mathlib.Omega.{arith}
 use Rattle.rules.specs.declared.Refusal.TheVariants.{TreeForm}
 use Rattle.tree_exprs.proofs.Expressions.{announced_bad, announced_at}
-use borrow.Author.Rules.{rules}
 use Rattle.tree_exprs.proofs.operated.Goals as goal
 
 pub returns-in_default : goal.returns-in_default

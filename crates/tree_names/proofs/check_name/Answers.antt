@@ -9,7 +9,6 @@ use borrow.Author.Tests.{not-true, not-false}
 use Rattle.tree_names.specs.Names.{text, last_name}
 use Rattle.tree_small.proofs.Places.{cut, there}
 use Rattle.tree_names.proofs.Texts.{name_cut, name_not, text_cut, not_above, not_written, name_is, fixed_in, read_bad, read_good}
-use borrow.Author.Rules.{rules}
 use Rattle.tree_names.proofs.check_name.Goals as goal
 
 pub returns-then-not-has : goal.returns-then-not-has

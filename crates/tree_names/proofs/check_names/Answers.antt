@@ -1,13 +1,12 @@
 -- `check_names` meets its contract. The loop: what is left comes to what there was, and the last name is where the code has it.
-use borrow.Author.Rules.{rules}
-use mathlib.Core.Path.{◌≡◌, refl, sym, ap, ◌∙◌}
+use mathlib.Core.Path.{refl, sym, ap, ◌∙◌}
 use mathlib.Core.List.{List}
-use mathlib.Core.Option.{Option, none}
-use Prim.Native.Nat.{ℕ, ◌-◌, ◌<◌}
+use mathlib.Core.Option.{Option}
+use Prim.Native.Nat.{ℕ, ◌-◌}
 use native.Mathlib.Omega.{arith}
 use Rattle.rules.specs.TreeFile.{read_names}
 use Rattle.tree_small.specs.Places.{place}
-use Rattle.tree_names.specs.Names.{last_name, LastFits}
+use Rattle.tree_names.specs.Names.{last_name}
 use Rattle.tree_names.proofs.Texts.{last_some, names_none, names_stop, names_go, was_bad}
 use Rattle.tree_names.proofs.check_names.Goals as goal
 

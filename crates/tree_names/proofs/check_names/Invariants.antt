@@ -1,14 +1,10 @@
 -- `check_names` meets its contract. The loop: what is left comes to what there was, and the last name is where the code has it.
-use borrow.Author.Rules.{rules}
-use mathlib.Core.Path.{◌≡◌, refl, sym, ap, ◌∙◌}
-use mathlib.Core.List.{List}
-use mathlib.Core.Option.{Option, none}
-use Prim.Native.Nat.{ℕ, ◌-◌, ◌<◌}
-use native.Mathlib.Omega.{arith}
+use mathlib.Core.Path.{◌≡◌}
+use mathlib.Core.Option.{none}
+use Prim.Native.Nat.{◌<◌}
 use Rattle.rules.specs.TreeFile.{read_names}
 use Rattle.tree_small.specs.Places.{place}
 use Rattle.tree_names.specs.Names.{last_name, LastFits}
-use Rattle.tree_names.proofs.Texts.{last_some, names_none, names_stop, names_go, was_bad}
 use Rattle.tree_names.proofs.check_names.Given as goal
 
 abbrev pub invariant-loop-left : goal.invariant-loop-left

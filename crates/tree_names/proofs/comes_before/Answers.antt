@@ -1,10 +1,6 @@
 -- `comes_before` meets its contract. The loop: what is left of the two texts is ordered as they are.
-use borrow.Author.Rules.{rules}
-use mathlib.Core.Path.{◌≡◌, refl, sym, ◌∙◌}
-use Prim.Native.Nat.{◌-◌, ◌≤◌}
+use mathlib.Core.Path.{refl, sym, ◌∙◌}
 use native.Mathlib.Omega.{arith}
-use lib.ListN.{length, drop}
-use Rattle.rules.specs.Base.{before}
 use Rattle.tree_names.proofs.Texts.{before_end, before_out, before_less, before_more, before_same}
 use Rattle.tree_names.proofs.comes_before.Goals as goal
 

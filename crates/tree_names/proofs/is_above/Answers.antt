@@ -2,7 +2,6 @@
 use mathlib.Core.Path.{sym, ◌∙◌}
 use native.Mathlib.Omega.{arith}
 use Rattle.tree_names.proofs.Texts.{above_none, above_some}
-use borrow.Author.Rules.{rules}
 use Rattle.tree_names.proofs.is_above.Goals as goal
 
 pub returns-then-last-eq0 : goal.returns-then-last-eq0

@@ -1,7 +1,6 @@
 -- `is_other` meets its contract.
 use mathlib.Core.Path.{sym, ◌∙◌}
 use Rattle.rules.specs.TreeFile.{differs}
-use borrow.Author.Rules.{rules}
 use Rattle.tree_names.proofs.is_other.Goals as goal
 
 pub returns-then-comes_before : goal.returns-then-comes_before

@@ -2,7 +2,6 @@
 use native.Mathlib.Omega.{arith}
 use Rattle.rules.specs.declared.Refusal.TheVariants.{TreeForm}
 use Rattle.tree_stmts.proofs.Statements.{moved, block_no, block_is}
-use borrow.Author.Rules.{rules}
 use Rattle.tree_stmts.proofs.block_kids.Goals as goal
 
 pub returns-in_default : goal.returns-in_default

@@ -2,7 +2,6 @@
 use native.Mathlib.Omega.{arith}
 use Rattle.rules.specs.declared.Refusal.TheVariants.{TreeForm}
 use Rattle.tree_stmts.proofs.Statements.{moved, class_unnamed, class_no, class_cut, class_plain, class_super_bad, class_super}
-use borrow.Author.Rules.{rules}
 use Rattle.tree_stmts.proofs.class_kids.Goals as goal
 
 pub returns-in_default : goal.returns-in_default

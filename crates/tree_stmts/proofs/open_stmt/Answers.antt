@@ -1,11 +1,10 @@
 -- `open_stmt` meets its contract: one law for each way out.
 use mathlib.Core.Path.{ap}
 use mathlib.Core.Bool.{not}
-use mathlib.Core.Logic.{⊎_elim}
 use Rattle.tree_small.proofs.Places.{cut, there}
 use Rattle.tree_stmts.proofs.Statements.{stmt_known, no_stmt, deep_stmt, full_stmt, cut_stmt, opens_bad, opens_kids, some_left}
-use borrow.Author.Rules.{rules}
 use Rattle.tree_stmts.proofs.open_stmt.Goals as goal
+use Rattle.tree_stmts.proofs.open_stmt.Goals.{then-mark-eq-FUN+else-funs-eq0, else-mark-eq-FUN}
 
 pub returns-then-mark-eq0 : goal.returns-then-mark-eq0
 returns-then-mark-eq0 c =
@@ -40,10 +39,14 @@ returns-then-not-has c =
     c.args.method c.args.start
     (stmt_known c.args.tree.now c.args.start c.args.method
     c.stmt_mark-mark.ensures c.if-mark-eq0.false) c.if-depth-eq0.false
-    (⊎_elim (λ w e. some_left w.1.left) (λ w e. absurd (w.left e)) c.if-mark-eq-FUN.branch) (cut c.has.ensures (ap not c.if-not-has.true)))
+    (λ e. elim c.if-mark-eq-FUN.branch [ then-mark-eq-FUN+else-funs-eq0 w ↦ some_left w.if-funs-eq0.false | else-mark-eq-FUN w ↦ absurd (w.if-mark-eq-FUN.false e) ])
+    (cut c.has.ensures (ap not c.if-not-has.true)))
 
 pub stmt_kids-requires : goal.stmt_kids-requires
-stmt_kids-requires c = (there c.has.ensures (ap not c.if-not-has.false), ⊎_elim (λ w e. some_left w.1.left) (λ w e. absurd (w.left e)) c.if-mark-eq-FUN.branch)
+stmt_kids-requires c = (
+  there c.has.ensures (ap not c.if-not-has.false),
+  λ e. elim c.if-mark-eq-FUN.branch [ then-mark-eq-FUN+else-funs-eq0 w ↦ some_left w.if-funs-eq0.false | else-mark-eq-FUN w ↦ absurd (w.if-mark-eq-FUN.false e) ],
+)
 
 pub returns : goal.returns
 returns c =
@@ -51,5 +54,5 @@ returns c =
     c.args.funs c.args.method c.args.start
     (stmt_known c.args.tree.now c.args.start c.args.method
     c.stmt_mark-mark.ensures c.if-mark-eq0.false) c.if-depth-eq0.false
-    (⊎_elim (λ w e. some_left w.1.left) (λ w e. absurd (w.left e)) c.if-mark-eq-FUN.branch)
+    (λ e. elim c.if-mark-eq-FUN.branch [ then-mark-eq-FUN+else-funs-eq0 w ↦ some_left w.if-funs-eq0.false | else-mark-eq-FUN w ↦ absurd (w.if-mark-eq-FUN.false e) ])
     (there c.has.ensures (ap not c.if-not-has.false)) c.stmt_kids.ensures

@@ -50,7 +50,5 @@ returns-in-21334 c =
 
 pub returns-in_default : goal.returns-in_default
 returns-in_default c =
-    while_left c.args.tree.now c.args.names c.args.depth
-    c.args.funs c.args.start c.planned.ensures c.in_default.rest.0.0.0.0.0.0.0.1
-    c.in_default.rest.0.0.0.0.0.0.1 c.in_default.rest.0.0.0.0.0.1 c.in_default.rest.0.0.0.0.1
-    c.in_default.rest.0.0.0.1 c.in_default.rest.0.0.1 c.in_default.rest.0.1 c.in_default.rest.1
+    while_left c.args.tree.now c.args.names c.args.depth c.args.funs c.args.start c.planned.ensures
+    (search rules) (search rules) (search rules) (search rules) (search rules) (search rules) (search rules) (search rules)

@@ -3,7 +3,7 @@ use mathlib.Core.Path.{ap}
 use mathlib.Core.Bool.{not}
 use mathlib.Core.Path.{refl, sym, ◌∙◌}
 use mathlib.Core.List.{[], ◌∷◌}
-use mathlib.Core.Logic.{⊎_elim, inl, inr}
+use mathlib.Core.Logic.{⊎_elim}
 use Rattle.rules.specs.Base.{if◌then◌else◌, lookup, all}
 use Rattle.rules.specs.TreeFile.{stmt_marks}
 use Rattle.tree_stmts.specs.Stmts.{known_stmt, method_marks}
@@ -56,5 +56,4 @@ returns-in_default c =
     c.args.tree.now c.args.at
     (there c.has.ensures (ap not c.if-not-has.false)) c.mark_at-mark.ensures
     (outside (marks.SF ∷ marks.SC ∷ marks.SP ∷ marks.SW ∷ marks.SB ∷ marks.SE ∷ marks.SI ∷ marks.SO ∷ marks.SR ∷ marks.SV ∷ []) stmt_marks c.mark_at-mark.result refl
-    (⊎_elim c.if-mark-eq-FUN.false (⊎_elim (λ e. c.in_default.rest.1 (inl e))
-    (⊎_elim (λ e. c.in_default.rest.1 (inr (inl e))) (⊎_elim (λ e. c.in_default.rest.1 (inr (inr e))) c.in_default.rest.0.1))))))
+    (⊎_elim c.if-mark-eq-FUN.false (search rules))))

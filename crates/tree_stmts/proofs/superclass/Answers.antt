@@ -8,7 +8,6 @@ use Rattle.rules.specs.declared.Refusal.TheVariants.{TreeForm}
 use Rattle.tree_small.specs.Places.{place}
 use Rattle.tree_small.proofs.Places.{cut, there}
 use Rattle.tree_stmts.proofs.Statements.{moved, super_cut, super_not, super_deep, super_span, super_unnamed, super_is}
-use borrow.Author.Rules.{rules}
 use Rattle.tree_stmts.proofs.superclass.Goals as goal
 
 pub returns-then-not-has : goal.returns-then-not-has
