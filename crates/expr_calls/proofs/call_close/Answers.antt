@@ -28,23 +28,15 @@ returns-in_default c =
 
 pub overflow_add-at-then-mark-eq-SUPER : goal.overflow_add-at-then-mark-eq-SUPER
 overflow_add-at-then-mark-eq-SUPER c =
-    let if1 = get-variable-asked in
-    let mark-at = if1.before in
-    let s = start mark-at.before.before in
-    let b = (super_at _ _ _ _ (sym mark-at.mark_at.ensures ∙ if1.if1.taken) s.pre.1.there.is).bound in omega (arith, b)
+    let b = (super_at _ _ _ _ (sym c.mark_at-mark.ensures ∙ c.if-mark-eq-SUPER.true) c.requires.1.there.is).bound in omega (arith, b)
 
 pub u16_at-name-requires : goal.u16_at-name-requires
 u16_at-name-requires c =
-    let if1 = get-variable-asked in
-    let mark-at = if1.before in
-    let s = start mark-at.before.before in
-    let b = (super_at _ _ _ _ (sym mark-at.mark_at.ensures ∙ if1.if1.taken) s.pre.1.there.is).bound in omega (arith, b)
+    let b = (super_at _ _ _ _ (sym c.mark_at-mark.ensures ∙ c.if-mark-eq-SUPER.true) c.requires.1.there.is).bound in omega (arith, b)
 
 pub emit_invoke-requires : goal.emit_invoke-requires
 emit_invoke-requires c =
-    let enum_told-1 = ( in
-    let get_variable = get-variable-went enum_told-1 in
-    (went get_variable.get_variable.ensures enum_told.enum_told.given.1).ahead.fit
+    (went c.get_variable-a.ensures c.in-Next.is).ahead.fit
 
 pub returns-then-mark-eq-SUPER : goal.returns-then-mark-eq-SUPER
 returns-then-mark-eq-SUPER c =

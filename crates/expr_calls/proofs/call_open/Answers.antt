@@ -31,10 +31,7 @@ returns-in_default c =
 
 pub overflow_add-at-then-mark-eq-SUPER : goal.overflow_add-at-then-mark-eq-SUPER
 overflow_add-at-then-mark-eq-SUPER c =
-    let if2 = ( in
-    let mark-at = if2.before in
-    let s = start mark-at.before.before.before in
-    let b = (super_at _ _ _ _ (sym mark-at.mark_at.ensures ∙ if2.if2.taken) s.pre.1.there.is).bound in omega (arith, b)
+    let b = (super_at _ _ _ _ (sym c.mark_at-mark.ensures ∙ c.if-mark-eq-SUPER.true) c.requires.1.there.is).bound in omega (arith, b)
 
 pub returns-then-mark-eq-SUPER : goal.returns-then-mark-eq-SUPER
 returns-then-mark-eq-SUPER c =
@@ -50,7 +47,7 @@ returns-then-mark-eq-GET c =
     object_open _ _ _ c.requires.0 (omega (arith, c.u16_at.ensures, c.if-u16_at-gt-ARGS.false)) (sym c.mark_at-mark.ensures ∙ c.if-mark-eq-GET.true)
 
 pub overflow_add-result-2 : goal.overflow_add-result-2
-overflow_add-result-2 c = let b = (any_at _ _ _ _ (start).requires.1.there.is).bound in omega (arith, b)
+overflow_add-result-2 c = let b = (any_at _ _ _ _ c.requires.1.there.is).bound in omega (arith, b)
 
 pub returns : goal.returns
 returns c =

@@ -19,8 +19,7 @@ u8_at-kind-requires c =
 
 pub overflow_add-at-then-kind-eq0 : goal.overflow_add-at-then-kind-eq0
 overflow_add-at-then-kind-eq0 c =
-    let s = start in
-    let b = (literal_at _ _ _ _ s.pre.2 s.pre.1.there.is).bound in omega (arith, b)
+    let b = (literal_at _ _ _ _ c.requires.2 c.requires.1.there.is).bound in omega (arith, b)
 
 pub returns-then-kind-eq0 : goal.returns-then-kind-eq0
 returns-then-kind-eq0 c =
@@ -28,8 +27,7 @@ returns-then-kind-eq0 c =
 
 pub overflow_add-at-then-kind-eq1 : goal.overflow_add-at-then-kind-eq1
 overflow_add-at-then-kind-eq1 c =
-    let s = start in
-    let b = (literal_at _ _ _ _ s.pre.2 s.pre.1.there.is).bound in omega (arith, b)
+    let b = (literal_at _ _ _ _ c.requires.2 c.requires.1.there.is).bound in omega (arith, b)
 
 pub returns-then-kind-eq1 : goal.returns-then-kind-eq1
 returns-then-kind-eq1 c =
@@ -37,8 +35,7 @@ returns-then-kind-eq1 c =
 
 pub overflow_add-at-then-kind-eq2 : goal.overflow_add-at-then-kind-eq2
 overflow_add-at-then-kind-eq2 c =
-    let s = start in
-    let b = (literal_at _ _ _ _ s.pre.2 s.pre.1.there.is).bound in omega (arith, b)
+    let b = (literal_at _ _ _ _ c.requires.2 c.requires.1.there.is).bound in omega (arith, b)
 
 pub returns-then-kind-eq2 : goal.returns-then-kind-eq2
 returns-then-kind-eq2 c =
@@ -46,8 +43,7 @@ returns-then-kind-eq2 c =
 
 pub overflow_add-at-then-kind-eq3 : goal.overflow_add-at-then-kind-eq3
 overflow_add-at-then-kind-eq3 c =
-    let s = start in
-    let b = (literal_at _ _ _ _ s.pre.2 s.pre.1.there.is).bound in omega (arith, b)
+    let b = (literal_at _ _ _ _ c.requires.2 c.requires.1.there.is).bound in omega (arith, b)
 
 pub u64_at-bits-requires : goal.u64_at-bits-requires
 u64_at-bits-requires c =
@@ -55,10 +51,7 @@ u64_at-bits-requires c =
 
 pub overflow_add-at-then-kind-eq3-2 : goal.overflow_add-at-then-kind-eq3-2
 overflow_add-at-then-kind-eq3-2 c =
-    let if4 = ( in
-    let u8-at = in-4 if4 in
-    let s = start u8-at.before in
-    let b = (number_at _ _ _ (literal_at _ _ _ _ s.pre.2 s.pre.1.there.is) (sym u8-at.u8_at.ensures ∙ if4.if4.taken)).bound in omega (arith, b)
+    let b = (number_at _ _ _ (literal_at _ _ _ _ c.requires.2 c.requires.1.there.is) (sym c.u8_at-kind.ensures ∙ c.if-kind-eq3.true)).bound in omega (arith, b)
 
 pub returns-then-kind-eq3 : goal.returns-then-kind-eq3
 returns-then-kind-eq3 c =
@@ -68,8 +61,7 @@ returns-then-kind-eq3 c =
 
 pub overflow_add-at-2 : goal.overflow_add-at-2
 overflow_add-at-2 c =
-    let s = start in
-    let b = (literal_at _ _ _ _ s.pre.2 s.pre.1.there.is).bound in omega (arith, b)
+    let b = (literal_at _ _ _ _ c.requires.2 c.requires.1.there.is).bound in omega (arith, b)
 
 pub u16_at-name-requires : goal.u16_at-name-requires
 u16_at-name-requires c =
@@ -78,14 +70,8 @@ u16_at-name-requires c =
 
 pub overflow_add-at-3 : goal.overflow_add-at-3
 overflow_add-at-3 c =
-    let if4 = ( in
-    let if3 = if4.before in
-    let if2 = if3.before in
-    let if1 = if2.before in
-    let u8-at = if1.before in
-    let s = start u8-at.before in
-    let i = literal_at _ _ _ _ s.pre.2 s.pre.1.there.is in let k = last_kind _ _ _ i (λ e. if1.if1.left (u8-at.u8_at.ensures ∙ e)) (λ e. if2.if2.left (u8-at.u8_at.ensures ∙ e))
-    (λ e. if3.if3.left (u8-at.u8_at.ensures ∙ e)) (λ e. if4.if4.left (u8-at.u8_at.ensures ∙ e)) in let b = (string_at _ _ _ i k).bound in omega (arith, b)
+    let i = literal_at _ _ _ _ c.requires.2 c.requires.1.there.is in let k = last_kind _ _ _ i (λ e. c.if-kind-eq0.false (c.u8_at-kind.ensures ∙ e)) (λ e. c.if-kind-eq1.false (c.u8_at-kind.ensures ∙ e))
+    (λ e. c.if-kind-eq2.false (c.u8_at-kind.ensures ∙ e)) (λ e. c.if-kind-eq3.false (c.u8_at-kind.ensures ∙ e)) in let b = (string_at _ _ _ i k).bound in omega (arith, b)
 
 pub returns : goal.returns
 returns c =

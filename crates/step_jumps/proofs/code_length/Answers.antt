@@ -5,4 +5,4 @@ use Rattle.steps.proofs.Jumps as ways
 use Rattle.step_jumps.proofs.code_length.Goals as goal
 
 pub returns : goal.returns
-returns c = ways.decreases c.args.t.now c.args.level _ refl
+returns c = ways.measured c.args.t.now c.args.level _ refl

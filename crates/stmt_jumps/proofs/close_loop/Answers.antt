@@ -12,8 +12,8 @@ use Rattle.stmt_jumps.proofs.close_loop.Lts as lts
 use Rattle.stmt_jumps.proofs.close_loop.Reads as reads
 use Rattle.stmt_jumps.proofs.close_loop.Tie as tie
 
-has : (c : lts.Else1 tie.the-claims reads.Pre reads.Post) → (start (back-asked)).args.has_cond ≡ true
-has c = ways.there_is (start (back-asked)).args.has_cond (ap not c.if-not-has_cond.false)
+has : (c : lts.Else1 tie.the-claims reads.Pre reads.Post) → c.args.has_cond ≡ true
+has c = ways.there_is c.args.has_cond (ap not c.if-not-has_cond.false)
 
 pub returns-in_default : goal.returns-in_default
 returns-in_default c =

@@ -11,12 +11,8 @@ returns-in_default c = λ class. open_stop _ (c.emit_jump-a.ensures class) c.in_
 
 pub emit_op-requires : goal.emit_op-requires
 emit_op-requires c =
-    let a' = ( in
-    let emit_jump = emit-jump-left a'.before.before in
-    (went_to (emit_jump.emit_jump.ensures 0) a'.a.given.1).ahead.fit
+    (went_to (c.emit_jump-a.ensures 0) c.in-Next.is).ahead.fit
 
 pub returns : goal.returns
 returns c =
-    let a' = ( in
-    let emit_jump = emit-jump-left a'.before.before in
-    λ class. open_done _ (emit_jump.emit_jump.ensures class) a'.a.given.1 (c.emit_op.ensures class)
+    λ class. open_done _ (c.emit_jump-a.ensures class) c.in-Next.is (c.emit_op.ensures class)

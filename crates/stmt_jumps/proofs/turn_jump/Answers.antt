@@ -11,16 +11,11 @@ returns-in_default c = λ class. turn_stop _ _ (c.emit_jump-a.ensures class) c.i
 
 pub patch_jump-b-requires : goal.patch_jump-b-requires
 patch_jump-b-requires c =
-    let a' = ( in
-    let emit_jump = emit-jump-left a'.before.before in
-    let s = start (emit-jump-asked emit_jump.before) in
-    let g = went_to (emit_jump.emit_jump.ensures 0) a'.a.given.1 in (g.ahead.fit, still _ s.pre.1 g)
+    let g = went_to (c.emit_jump-a.ensures 0) c.in-Next.is in (g.ahead.fit, still _ c.requires.1 g)
 
 pub returns-in_default-b : goal.returns-in_default-b
 returns-in_default-b c =
-    let a' = ( in
-    let emit_jump = emit-jump-left a'.before.before in
-    λ class. turn_stop_2 _ _ (emit_jump.emit_jump.ensures class) a'.a.given.1 (c.patch_jump-b.ensures class) c.in_default-b.is
+    λ class. turn_stop_2 _ _ (c.emit_jump-a.ensures class) c.in-Next.is (c.patch_jump-b.ensures class) c.in_default-b.is
 
 pub emit_op-requires : goal.emit_op-requires
 emit_op-requires c =
@@ -28,6 +23,4 @@ emit_op-requires c =
 
 pub returns : goal.returns
 returns c =
-    let a' = ( in
-    let emit_jump = emit-jump-left a'.before.before in
-    λ class. turn_done _ _ (emit_jump.emit_jump.ensures class) a'.a.given.1 (c.patch_jump-b.ensures class) c.in-Next-b.is (c.emit_op.ensures class)
+    λ class. turn_done _ _ (c.emit_jump-a.ensures class) c.in-Next.is (c.patch_jump-b.ensures class) c.in-Next-b.is (c.emit_op.ensures class)

@@ -32,7 +32,7 @@ pub u8_at-requires : goal.u8_at-requires
 u8_at-requires c = let b = bound c.before.before.before.before.before in omega (arith, b)
 
 pub overflow_add-at-then-u8_at-eq0 : goal.overflow_add-at-then-u8_at-eq0
-overflow_add-at-then-u8_at-eq0 c = let b = bound (start (flagged)) in omega (arith, b)
+overflow_add-at-then-u8_at-eq0 c = let b = bound c.before.before.before.before.before.before.before.before.before.before in omega (arith, b)
 
 pub returns-then-u8_at-eq0 : goal.returns-then-u8_at-eq0
 returns-then-u8_at-eq0 c =
@@ -47,7 +47,7 @@ returns-in_default c =
     (c.return_kind-a.ensures.gives c.args.code.now c.args.spans.now c.requires.2) c.in_default.is
 
 pub overflow_add-at-4 : goal.overflow_add-at-4
-overflow_add-at-4 c = let b = bound (start (flagged)) in omega (arith, b)
+overflow_add-at-4 c = let b = bound c.before.before.before.before.before.before.before.before.before.before in omega (arith, b)
 
 pub compile_expr-b-requires : goal.compile_expr-b-requires
 compile_expr-b-requires c =
