@@ -3,12 +3,10 @@ use Prim.Native.Nat.{ℕ, suc, ◌+◌, ◌*◌, ◌-◌, ◌≤◌, ◌<◌}
 use native.Mathlib.Omega.{arith}
 use native.Mathlib.Nat.{eq-or-lt_of_le}
 use mathlib.Core.Path.{◌≡◌, refl, sym, ap, ap₂, ◌∙◌, subst}
-use mathlib.Core.List.{List, [], ◌∷◌}
+use mathlib.Core.List.{List, ◌∷◌}
 use mathlib.Core.Bool.{true, false}
 use mathlib.Core.Logic.{⊎_elim}
 use lib.ListN.{get_or}
-use types.Run.{OneOf}
-use denote.Enum.Declared.{tag_of}
 use Rattle.rules.specs.declared.Span.{Span}
 use Rattle.rules.specs.Compiler.{Local, Upvalue, CompilerCtx, with_locals, Found, no_local, find_local, capture, Resolved, add_upvalue, through, further_out, resolve_upvalue}
 use Rattle.state.specs.Layout.{levels, locals_of, start_of_code, start_of_runs, ctx_at, parents_of, Wf, upvalues_place, constants_place, depth_place, code_from_place, runs_from_place, level_words, local_count_place, level_used}
@@ -17,7 +15,6 @@ use Rattle.state.specs.declared.Slot.{Slot}
 use Rattle.state.specs.declared.Slot.TheVariants as slot
 use Rattle.state.specs.declared.Up.{Up}
 use Rattle.state.specs.declared.Up.TheVariants as up
-use Rattle.state.specs.contracts.Up.{the_type}
 use Rattle.state.proofs.Laws.{kept_off, ctx_same, ctx_paths, chunk_same, upvalues_same, parents_named}
 
 -- a context that a change keeps off, and those around it
@@ -195,10 +192,3 @@ module _ (t t₁ : List ℕ) (l nm : ℕ) (nz : l ≡ 0 → ⊥) (low : l < leve
         subst (λ (m : ℕ). Captured t t₃ m nm r') (sym up_one)
         (further t t₁ (l - 1) nm (omega arith) wf (told slot.Nothing e) t₂ r cap t₃ i r' q
         (subst (λ (m : ℕ). Added t₂ t₃ m (record { idx = i; is_local = false }) r') up_one add))
-
--- an answer that is none of the last three variants is the first
-pub not_at : (r : Up) → OneOf (1 ∷ (2 ∷ (3 ∷ []))) (tag_of the_type r) → (i : ℕ) → r ≡ up.At i → ⊥
-not_at (up.At j) z i e = ⊎_elim (λ (a : 0 ≡ 1). omega arith) (λ w. ⊎_elim (λ (a : 0 ≡ 2). omega arith) (λ (a : 0 ≡ 3). omega arith) w) z
-not_at up.Nothing z i e = let q : ◌≡◌ {A = ℕ} 0 1 = cc in omega arith
-not_at up.Unready z i e = let q : ◌≡◌ {A = ℕ} 0 1 = cc in omega arith
-not_at up.Full z i e = let q : ◌≡◌ {A = ℕ} 0 1 = cc in omega arith

@@ -1,5 +1,6 @@
 // Locals and upvalues of a level: found, captured, declared, defined, dropped.
 #![tactic(auto)]
+
 ghost use Rattle.std.specs.Prelude.{◌≡◌, ◌+◌, ◌*◌, ◌-◌, ◌≤◌, ◌<◌, ltb, eqb, length, get_or};
 ghost use Rattle.rules.specs.Compiler.{declared_here};
 ghost use Rattle.state.specs.Layout.{levels, local_of, stack, Wf, level_words, local_count_place};
