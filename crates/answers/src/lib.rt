@@ -1,5 +1,6 @@
 // An answer's numbers from what was found: a length where all is well, or a refusal by its name and the function it is in.
 #![tactic(auto)]
+
 ghost use Rattle.std.specs.Prelude.{◌≡◌};
 ghost use Rattle.rules.specs.Answer.{at_offset, at_span, with_length, refusal, outside, refusal_in};
 

@@ -1,5 +1,6 @@
 // A lent area ends all zero, whatever its words are.
 #![tactic(auto)]
+
 ghost use Rattle.std.specs.Prelude.{◌≡◌, length, replicate};
 
 pub fn clear8(area: &mut [u8])

@@ -2,6 +2,7 @@
 // the answer's seven numbers and every byte of the output are compared with the vector's. Written is how many agree; tests/rust has made what is
 // expected.
 #![tactic(auto)]
+
 ghost use Rattle.io.specs.Counts.{IsPrefixLen};
 
 use rules::Answer;

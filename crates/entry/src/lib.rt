@@ -1,6 +1,7 @@
 // The whole: from a tree file to its image or a refusal, over areas that the caller lends. What the output holds in the end is the image and then
 // zeros, or after a refusal only zeros; the work areas end all zero.
 #![tactic(auto)]
+
 ghost use Rattle.std.specs.Prelude.{◌≡◌, length};
 ghost use Rattle.rules.specs.Limits.{first_limits};
 ghost use Rattle.rules.specs.Entry as rules;

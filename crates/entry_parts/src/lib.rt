@@ -1,6 +1,7 @@
 // Parts of the entry that need no compiler: the code limit, what is asked for, which refusal the compiler's numbers are, and how a call
 // ends.
 #![tactic(auto)]
+
 ghost use Rattle.std.specs.Prelude.{◌≡◌, ◌+◌, ◌*◌, ◌/◌, ◌≤◌, min, length};
 ghost use Rattle.rules.specs.Base.{if◌then◌else◌};
 ghost use Rattle.rules.specs.Limits.{max_code};

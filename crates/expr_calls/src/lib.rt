@@ -1,6 +1,7 @@
 // Calls: the code before and behind the expressions inside. That the bytes are a tree is known: each function says what it does where the rules' reader
 // reads something.
 #![tactic(auto)]
+
 ghost use Rattle.std.specs.Prelude.{◌+◌, ◌≤◌};
 ghost use Rattle.fields.specs.Words.{word16};
 ghost use Rattle.steps.specs.View.{mem, Fit};

@@ -1,5 +1,6 @@
 // Operators: their opcodes, and the code before and behind the right side of an infix operator.
 #![tactic(auto)]
+
 ghost use Rattle.std.specs.Prelude.{ℕ, ◌+◌, ◌≤◌, ◌<◌};
 ghost use Rattle.steps.specs.View.{mem, Fit, code_len};
 ghost use Rattle.expr_laws.specs.Exprs.{PrefixOp, InfixOp, Begun, Closed};

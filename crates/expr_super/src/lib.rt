@@ -1,5 +1,6 @@
 // A method of the superclass.
 #![tactic(auto)]
+
 ghost use Rattle.rules.specs.Compiler.{compile_super};
 ghost use Rattle.steps.specs.View.{mem, Fit, steady, Did};
 

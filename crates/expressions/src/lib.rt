@@ -1,6 +1,7 @@
 // The compiler's walk over the expressions of a tree file: one function, which calls itself while the bytes that are left fall. That the bytes are a tree is
 // known: it says what it does where the rules' reader reads something.
 #![tactic(auto)]
+
 ghost use Rattle.std.specs.Prelude.{◌≡◌, ℕ, ◌+◌};
 ghost use Rattle.fields.specs.Words.{letters, span_of};
 ghost use Rattle.steps.specs.View.{mem, Fit};

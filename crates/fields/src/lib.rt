@@ -1,6 +1,7 @@
 // The fields of the files: what stands at a place, the marks of their records, and numbers in wider types. The tree reader, the compiler
 // and the image checker read by these.
 #![tactic(auto)]
+
 ghost use Rattle.std.specs.Prelude.{◌≡◌, ℕ, ◌+◌, ◌<◌, ◌≤◌, length, leb};
 ghost use Rattle.fields.specs.Words.{word8, word16, word32, word64, letters, span_of};
 

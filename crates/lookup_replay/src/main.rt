@@ -1,6 +1,7 @@
 // Replays the lookup of a function's code. Standard input has images: how many lookups, how many bytes, and the bytes. Written is for each image a
 // digest of the answers to that many function numbers from 0 on, through its directory where it has one; tests/rust has made what is expected.
 #![tactic(auto)]
+
 use rules::Answer;
 use vectors::Found;
 

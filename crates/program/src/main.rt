@@ -2,6 +2,7 @@
 // bytes is answered 2. The areas are room enough for every tree that is not longer (crates/rules, Bounds `room_that_suffices`): 1, 30 and 31 never
 // come. No contract can say what is read or written; `answer` says the rest.
 #![tactic(auto)]
+
 ghost use Rattle.std.specs.Prelude.{length};
 ghost use Rattle.io.specs.Counts.{IsPrefixLen};
 ghost use Rattle.program.specs.Program.{Answered};

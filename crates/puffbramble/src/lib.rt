@@ -1,6 +1,7 @@
 // What C and Rust programs call: include/puffbramble.h says the same for them. A slice comes as a pointer and a number of elements, and an
 // answer goes back as a struct of seven numbers. Nothing is decided here: each function hands on to the one that is proved against the rules.
 #![tactic(auto)]
+
 ghost use Rattle.std.specs.Prelude.{◌≡◌, length};
 ghost use Rattle.rules.specs.Entry as rules;
 ghost use Rattle.rules.specs.Checker.{check, code_answer, code_part, directory_of, code_through, span_of};

@@ -1,6 +1,7 @@
 // Replays the lookup of a span. Standard input has lists of runs: how many words, how many offsets, and the words (start, end and count of each run
 // in turn). Written is for each list a digest of the answers to that many offsets from 0 on; tests/rust has made what is expected.
 #![tactic(auto)]
+
 ghost use Rattle.io.specs.Counts.{IsPrefixLen};
 
 fn wide(n: u32) -> usize {

@@ -1,6 +1,7 @@
 // Where the compiler's state lies in the table that the caller lends, and what its functions answer: they are in state_scan, state_names, state_code and
 // state_levels. specs/Layout.antt says how the state lies there, specs/Contracts.antt what each function does in the rules' terms.
 #![tactic(auto)]
+
 use rules::Limit;
 
 // Where things lie in the table: the one place that has these numbers for the code. specs/Layout.antt has them for the contracts.

@@ -1,5 +1,6 @@
 // A byte behind the code with its run, and a constant behind a level's constants.
 #![tactic(auto)]
+
 ghost use Rattle.std.specs.Prelude.{◌≡◌, ◌*◌, ◌≤◌, ◌<◌, length};
 ghost use Rattle.state.specs.Layout.{levels, Wf, Coded};
 ghost use Rattle.state.specs.Meaning.{last_grows, Wrote, Constants};

@@ -1,5 +1,6 @@
 // Levels: the scope's depth, a level opened and left, all of them cleared before the script.
 #![tactic(auto)]
+
 ghost use Rattle.std.specs.Prelude.{◌≡◌, ◌+◌, ◌*◌, ◌≤◌, ◌<◌, length, get_or};
 ghost use Rattle.state.specs.Layout.{levels, deepest, table_words, Wf, depth_place, level_words};
 ghost use Rattle.state.specs.Meaning.{Moved, Closed, Began, Emptied, Blank};

@@ -1,5 +1,6 @@
 // Scans of a level's words, which leave by break with the place found.
 #![tactic(auto)]
+
 ghost use Rattle.std.specs.Prelude.{◌≡◌, ◌+◌, ◌≤◌, false, length};
 ghost use Rattle.state.specs.Meaning.{Topmost, Without, First};
 

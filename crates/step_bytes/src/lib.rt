@@ -1,5 +1,6 @@
 // Instructions put behind the code, but for jumps: each against the rules' step of its name.
 #![tactic(auto)]
+
 ghost use Rattle.std.specs.Prelude.{◌≡◌, ℕ};
 ghost use Rattle.rules.specs.Chunk.{CS, CF};
 ghost use Rattle.rules.specs.Compiler.{emit_op, emit_op_u8, emit_constant, emit_op_constant, emit_invoke};

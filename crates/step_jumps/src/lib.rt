@@ -1,5 +1,6 @@
 // Jumps ahead, whose operand is put in later, and loops: each against the rules' step of its name.
 #![tactic(auto)]
+
 ghost use Rattle.std.specs.Prelude.{◌≡◌, ℕ, ◌+◌, ◌≤◌, ◌<◌, length};
 ghost use Rattle.rules.specs.Compiler.{emit_jump, patch_jump, emit_loop};
 ghost use Rattle.state.specs.Layout.{levels, table_words, start_of_code, end_of_code};

@@ -1,5 +1,6 @@
 // Names: where one is found, read, set and defined; each against the rules' step of its name.
 #![tactic(auto)]
+
 ghost use Rattle.std.specs.Prelude.{◌≡◌, ℕ, ◌<◌, ◌&&◌, eqb};
 ghost use Rattle.rules.specs.Compiler.{get_variable, set_variable, define_name};
 ghost use Rattle.rules.specs.Tree.{this_name};

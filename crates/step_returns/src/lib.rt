@@ -1,5 +1,6 @@
 // How a function ends, the pairs of its closure, and how the script starts: each against the rules' step of its name.
 #![tactic(auto)]
+
 ghost use Rattle.std.specs.Prelude.{◌≡◌, ℕ, ◌+◌, ◌≤◌, ◌<◌, length};
 ghost use Rattle.std.proofs.Math.Option.{none};
 ghost use Rattle.rules.specs.Compiler.{need_super, return_value, compile_return, implicit_return, emit_upvalues};

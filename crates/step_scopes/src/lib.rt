@@ -1,5 +1,6 @@
 // Scopes and the locals in them, contexts begun and ended: each against the rules' step of its name.
 #![tactic(auto)]
+
 ghost use Rattle.std.specs.Prelude.{◌≡◌, ℕ, ◌+◌, ◌*◌, ◌<◌, get_or};
 ghost use Rattle.rules.specs.Compiler.{declare_local, define_local, is_global, begin_scope, end_scope};
 ghost use Rattle.rules.specs.Op as ops;

@@ -3,6 +3,7 @@
 // the code limit; a step's answer is where to read on, which is what its last parameter says, or the rules' refusal. Where time counts an answer is taken
 // apart and made anew: one that is only handed on is copied through memory, and the copy waits for the stores.
 #![tactic(auto)]
+
 use rules::Span;
 
 // The innermost class around a function, as the code has it.

@@ -1,5 +1,6 @@
 // A class after its methods: it goes from the stack where it had some, and the scope of `super` is ended where one was begun.
 #![tactic(auto)]
+
 ghost use Rattle.std.specs.Prelude.{◌≡◌, ℕ, ◌+◌, ◌*◌, ◌≤◌, ◌<◌, length, get_or, ltb};
 ghost use Rattle.rules.specs.Base.{if◌then◌else◌};
 ghost use Rattle.rules.specs.Op as ops;

@@ -1,5 +1,6 @@
 // A class up to its methods: its name, its superclass, and the class itself on the stack where there are methods.
 #![tactic(auto)]
+
 ghost use Rattle.std.specs.Prelude.{ℕ, ◌+◌, ◌*◌, ◌<◌, get_or};
 ghost use Rattle.state.specs.Layout.{deepest, depth_place, level_words};
 ghost use Rattle.steps.specs.View.{mem, Fit};

@@ -1,5 +1,6 @@
 // The function around makes a closure of a function that was finished.
 #![tactic(auto)]
+
 ghost use Rattle.std.specs.Prelude.{ℕ, ◌+◌, ◌<◌};
 ghost use Rattle.rules.specs.Compiler.{emit_closure};
 ghost use Rattle.state.specs.Layout.{levels, upvalues_of};

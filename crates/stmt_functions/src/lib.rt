@@ -1,6 +1,7 @@
 // A function is begun, and it is finished: put into the output, and a closure made of it. `level` is the function around; the one that is begun or
 // finished is at the level above.
 #![tactic(auto)]
+
 ghost use Rattle.std.specs.Prelude.{ℕ, ◌+◌, ◌*◌, ◌≤◌, ◌<◌, get_or};
 ghost use Rattle.rules.specs.Limits.{max_code, max_tree};
 ghost use Rattle.state.specs.Layout.{levels, image_at};

@@ -1,5 +1,6 @@
 // The head of a class: what a method is by its name, and the class that the methods are in.
 #![tactic(auto)]
+
 ghost use Rattle.std.specs.Prelude.{◌≡◌, ◌<◌};
 ghost use Rattle.rules.specs.Compiler.{method_type};
 ghost use Rattle.state.specs.Layout.{type_of};

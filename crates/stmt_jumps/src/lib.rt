@@ -1,5 +1,6 @@
 // The jumps around the parts of an `if`, a `while` and a `for`.
 #![tactic(auto)]
+
 ghost use Rattle.std.specs.Prelude.{◌≡◌, true, ℕ, ◌+◌, ◌≤◌};
 ghost use Rattle.std.proofs.Math.Option.{some, none};
 ghost use Rattle.rules.specs.Base.{if◌then◌else◌};

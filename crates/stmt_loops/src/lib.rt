@@ -1,5 +1,6 @@
 // The condition and the increment of a `for`. Either may be missing; the record's byte `parts` says which of them are there.
 #![tactic(auto)]
+
 ghost use Rattle.std.specs.Prelude.{ℕ};
 ghost use Rattle.steps.specs.View.{mem, Fit};
 ghost use Rattle.stmt_loops.specs.Loops.{cond_at, incr_at, CondThere, IncrThere, Conditioned, Incremented};

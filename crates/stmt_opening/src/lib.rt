@@ -1,6 +1,7 @@
 // A function is begun: its context, the local of its slot zero and its parameters. `level` is the function around; the one that is begun is at the
 // level above.
 #![tactic(auto)]
+
 ghost use Rattle.std.specs.Prelude.{◌≡◌, ◌+◌, ◌*◌, ◌<◌, get_or};
 ghost use Rattle.rules.specs.Compiler.{slot_zero};
 ghost use Rattle.state.specs.Layout.{levels, deepest, type_of, Wf, depth_place, level_words};

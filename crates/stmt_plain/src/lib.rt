@@ -1,5 +1,6 @@
 // The statements that hold no statement: of the four kinds, the one whose mark stands there.
 #![tactic(auto)]
+
 ghost use Rattle.std.specs.Prelude.{ℕ};
 ghost use Rattle.steps.specs.View.{mem, Fit};
 ghost use Rattle.stmt_output_laws.specs.Output.{stmt_at};

@@ -1,5 +1,6 @@
 // A function's record is put into the output.
 #![tactic(auto)]
+
 ghost use Rattle.std.specs.Prelude.{◌+◌, ◌*◌, ◌≤◌, get_or};
 ghost use Rattle.rules.specs.Limits.{max_tree};
 ghost use Rattle.state.specs.Layout.{image_at};

@@ -1,6 +1,7 @@
 // A `return`. That the bytes are a tree is known: each function says what it does where the rules' reader reads something, and the function of the kind asks
 // for its mark.
 #![tactic(auto)]
+
 ghost use Rattle.std.specs.Prelude.{◌≡◌, ℕ, ◌<◌};
 ghost use Rattle.fields.specs.Words.{letters};
 ghost use Rattle.state.specs.Layout.{levels, Wf};

@@ -1,5 +1,6 @@
 // The superclass of a class: the scope of `super` is begun, and the class inherits.
 #![tactic(auto)]
+
 ghost use Rattle.std.proofs.Math.Option.{some};
 ghost use Rattle.std.specs.Prelude.{◌+◌, ◌*◌, ◌≤◌, ◌<◌, length, get_or};
 ghost use Rattle.rules.specs.Compiler.{compile_superclass};

@@ -1,6 +1,7 @@
 // The statements that are an expression and what is done with its value. That the bytes are a tree is known: each function says what it does where the
 // rules' reader reads something, and asks for the mark of its kind.
 #![tactic(auto)]
+
 ghost use Rattle.std.specs.Prelude.{◌≡◌, ℕ};
 ghost use Rattle.fields.specs.Words.{letters};
 ghost use Rattle.steps.specs.View.{mem, Fit};

@@ -1,6 +1,7 @@
 // Replays the search for a global. Standard input has images: how many names, how many bytes, and the bytes. Written is for each image a digest of the
 // answers to that many name numbers from 0 on; tests/rust has made what is expected.
 #![tactic(auto)]
+
 use vectors::Found;
 
 // No image is asked for more names.

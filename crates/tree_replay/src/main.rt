@@ -1,5 +1,6 @@
 // Replays the vectors for the tree reader, and every truncation and every change of one byte of two trees.
 #![tactic(auto)]
+
 use vectors::Kind;
 
 fn main() {

@@ -1,5 +1,6 @@
 // The fields that records are made of.
 #![tactic(auto)]
+
 ghost use Rattle.std.specs.Prelude.{◌≡◌, ◌+◌};
 ghost use Rattle.rules.specs.declared.Refusal.TheVariants.{TreeForm};
 ghost use Rattle.rules.specs.Reader.{u16};

@@ -1,6 +1,7 @@
 // The image writer: a function's record put behind what the output holds so far. The header, and a number alone, are put by the crates beneath and
 // passed on.
 #![tactic(auto)]
+
 ghost use Rattle.std.specs.Prelude.{◌+◌, ◌≤◌};
 ghost use Rattle.rules.specs.Image.{function_bytes};
 ghost use Rattle.rules.specs.Compiler as rules;

@@ -2,6 +2,7 @@
 // the end. Where room was tested once, for a record or a stretch of code, `set_*` set its bytes with no test more; `put_*` test at each byte, for
 // what a function or an image has once, and for the record that does not fit and those behind it.
 #![tactic(auto)]
+
 ghost use Rattle.std.specs.Prelude.{[], ◌∷◌, ◌+◌, ◌/◌, ◌%◌, ◌≤◌, length};
 ghost use Rattle.rules.specs.Base.{le};
 ghost use Rattle.writer_bytes.specs.Put.{Put, stretch, byte_at};

@@ -1,5 +1,6 @@
 // Constants put into the output: room for a constant is tested once.
 #![tactic(auto)]
+
 ghost use Rattle.std.specs.Prelude.{◌+◌, ◌*◌, ◌≤◌, length};
 ghost use Rattle.rules.specs.Chunk.{CN, CS, CF};
 ghost use Rattle.rules.specs.Image.{join, constant_bytes};

@@ -1,5 +1,6 @@
 // The header, before all records.
 #![tactic(auto)]
+
 ghost use Rattle.std.specs.Prelude.{◌≤◌, length};
 ghost use Rattle.writer_header.specs.Header.{Headed};
 

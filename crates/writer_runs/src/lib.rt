@@ -1,5 +1,6 @@
 // Runs put into the output: room for a run is tested once.
 #![tactic(auto)]
+
 ghost use Rattle.std.specs.Prelude.{◌+◌, ◌*◌, ◌≤◌, length};
 ghost use Rattle.rules.specs.Image.{join, run_bytes};
 ghost use Rattle.state.specs.Layout.{run_at};

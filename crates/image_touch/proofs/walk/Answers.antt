@@ -47,13 +47,12 @@ touches-requires c = (
 )
 
 pub returns-then-touches : goal.returns-then-touches
-returns-then-touches c =
-    (
-      walk_hit (start c).args.name (start c).args.before (constants_of (start c).args.n (start c).args.words.now) (kinds_in (start c).args.kinds.now)
-          (start c).args.code.now (loop c).loop.at (loop c).loop.read (loop c).loop.invariant c.width_at-w.result c.loop-at-test.true
-          c.width_at-w.ensures (sym c.if-touches.true ∙ c.touches.ensures),
-      (omega (arith, (loop c).loop.invariant.few, c.loop-at-test.true), omega (arith, c.loop-at-test.true)),
-    )
+returns-then-touches c = (
+  walk_hit (start c).args.name (start c).args.before (constants_of (start c).args.n (start c).args.words.now) (kinds_in (start c).args.kinds.now)
+      (start c).args.code.now (loop c).loop.at (loop c).loop.read (loop c).loop.invariant c.width_at-w.result c.loop-at-test.true
+      c.width_at-w.ensures (sym c.if-touches.true ∙ c.touches.ensures),
+  (omega (arith, (loop c).loop.invariant.few, c.loop-at-test.true), omega (arith, c.loop-at-test.true)),
+)
 
 pub overflow_add-at : goal.overflow_add-at
 overflow_add-at c = omega (arith, fits c, (start c).well_formed)
@@ -68,9 +67,8 @@ loop-at-preserved c =
     c.width_at-w.ensures (sym c.if-touches.false ∙ c.touches.ensures)
 
 pub returns : goal.returns
-returns c =
-    (
-      walk_done c.args.name c.args.before (constants_of c.args.n c.args.words.now) (kinds_in c.args.kinds.now)
-          c.args.code.now c.loop-at.at c.loop-at.read c.loop-at.invariant c.loop-at-test.false,
-      (omega (arith, c.loop-at.invariant.few, c.loop-at.invariant.within), omega arith),
-    )
+returns c = (
+  walk_done c.args.name c.args.before (constants_of c.args.n c.args.words.now) (kinds_in c.args.kinds.now)
+      c.args.code.now c.loop-at.at c.loop-at.read c.loop-at.invariant c.loop-at-test.false,
+  (omega (arith, c.loop-at.invariant.few, c.loop-at.invariant.within), omega arith),
+)

@@ -21,8 +21,8 @@ pub loop-place-preserved : goal.loop-place-preserved
 loop-place-preserved c =
     let held = c.loop-place.invariant in
     elim c.if-row-op.branch [
-      then-row-op w ↦ taken held _ (omega arith) w.if-row-op.true w.bytes-is |
-      else-row-op w ↦ passed held _ (omega arith) w.if-row-op.false w.bytes-is
+      | then-row-op w ↦ taken held _ (omega arith) w.if-row-op.true w.bytes-is
+      | else-row-op w ↦ passed held _ (omega arith) w.if-row-op.false w.bytes-is
     ]
 
 pub returns : goal.returns
