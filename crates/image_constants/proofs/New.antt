@@ -13,7 +13,7 @@ use borrow.Author.Tests.{eq-eqb, ne_eqb, eqb-true, eqb-false, lt-ltb, le-ltb}
 use Rattle.rules.specs.Base.{if◌then◌else◌, all}
 use Rattle.rules.specs.Chunk.{Constant, same_constant}
 use Rattle.rules.specs.Checker.{distinct}
-use Rattle.image_constants.specs.Words.{constant_of, constants_of, slot_in, PlaceOf}
+use Rattle.image_constants.specs.Words.{constant_of, constants_of, slot_in}
 use Rattle.image_constants.proofs.Words.{same_words}
 
 module _ (v : ℕ) where
