@@ -99,7 +99,8 @@ module _ (words : List ℕ) (mark : ℕ) where
   more_new i new fresh a b p q e =
       ⊎_elim (λ (x : b ≡ i). fresh a (omega arith) (e ∙ ap (λ (n : ℕ). get_or words n 0) x)) (λ (x : b < i). new a b p x e) (eq-or-lt_of_le (omega arith))
 
-  module _ (place : ℕ → ℕ) (room : ℕ) (stamps : List ℕ) (i word slot : ℕ) (n : News place room words stamps mark i) (is_IsWord : word ≡ get_or words i 0) (is-slot : slot ≡ place word) where
+  module _ (place : ℕ → ℕ) (room : ℕ) (stamps : List ℕ) (i word slot : ℕ) (n : News place room words stamps mark i)
+      (is_IsWord : word ≡ get_or words i 0) (is-slot : slot ≡ place word) where
     -- the slot had the mark already, and no word before is this one
     pub news_looked : get_or stamps slot 0 ≡ mark → ((j : ℕ) → j < i → get_or words j 0 ≡ word → ⊥) → News place room words stamps mark (i + 1)
     news_looked stamped fresh =
