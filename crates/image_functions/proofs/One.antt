@@ -202,7 +202,8 @@ module _ (s : List ℕ) (k at : ℕ) where
     body : (f : ObjectFunction) (next : ℕ) → read_function s at ≡ got f next → Body s b.name b.arity h.upvalues h.constants h.runs h.code (at + 17) f next
     body f next e = body_of s b.name b.arity h.upvalues h.constants h.runs h.code (at + 17) f next (sym b.is ∙ e)
 
-    wrong_done : (r : Read ObjectFunction) → read_function s at ≡ r → ((f : ObjectFunction) (next : ℕ) → r ≡ got f next → right before f ≡ false) → done.Bad ≡ function_done before r
+    wrong_done : (r : Read ObjectFunction) → read_function s at ≡ r → ((f : ObjectFunction) (next : ℕ) → r ≡ got f next → right before f ≡ false)
+        → done.Bad ≡ function_done before r
     unfolding function_done
     wrong_done (bad fault) e w = refl
     wrong_done (got f next) e w = rw (w f next refl) refl
