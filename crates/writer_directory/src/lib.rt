@@ -2,6 +2,7 @@
 // The walk goes by marks and counts alone: crate image_records refuses the bits of numbers that no tree has, and of the output it is not known here
 // that it holds none.
 #![tactic(auto)]
+
 ghost use Rattle.std.specs.Prelude.{◌≡◌, ◌+◌, ◌*◌, ◌≤◌, length};
 ghost use Rattle.writer_directory.specs.Walk.{constant_end, constants_end, record_end, Directed};
 
