@@ -4,13 +4,13 @@ use mathlib.Core.Bool.{Bool, true, false, ◌&&◌}
 use mathlib.Core.Option.{Option, none, some}
 use mathlib.Core.List.{List, [], ◌∷◌, map}
 use mathlib.Core.Logic.{⊎_elim}
-use Prim.Native.Nat.{ℕ, zero, suc, ◌+◌, ◌*◌, ◌/◌, ◌%◌, ◌<◌, ◌≤◌}
+use Prim.Native.Nat.{ℕ, zero, suc, ◌+◌, ◌/◌, ◌%◌, ◌<◌, ◌≤◌}
 use native.Mathlib.Omega.{arith}
 use native.Mathlib.Nat.{eq-or-lt_of_le}
 use lib.ListN.{length, get_or, take, drop, set, length-set, length-take, get_elem?}
 use lib.Seq.{get_or-take, get_or-set_same, get_or-set_other}
-use lib.Dec.{ltb, leb, eqb}
-use borrow.Author.Tests.{eq-eqb, ne_eqb, lt-ltb, le-ltb, eqb-true, eqb-false, ltb-true, ltb-false}
+use lib.Dec.{ltb}
+use borrow.Author.Tests.{lt-ltb, le-ltb, ltb-true, ltb-false}
 use Rattle.rules.specs.Base.{if◌then◌else◌, all}
 use Rattle.rules.specs.Reader.{Read, got, bad, many}
 use Rattle.rules.specs.Chunk.{Constant, CN, CS, CF, ObjectFunction}
@@ -24,10 +24,10 @@ use Rattle.image_records.specs.declared.Head.TheVariants as head
 use Rattle.image_records.specs.declared.Place.TheVariants as place
 use Rattle.image_records.specs.Told.{place_told, head_at}
 use Rattle.image_code.proofs.Once.{either_false}
-use Rattle.image_records.proofs.Many.{Fails, Gives, Nth, nth_of, many_length, place_bad, place_at}
-use Rattle.image_records.proofs.Records.{Headed, headed, head_fails, upvalues_headed}
+use Rattle.image_records.proofs.Many.{Nth, nth_of, many_length, place_bad, place_at}
+use Rattle.image_records.proofs.Records.{headed, head_fails, upvalues_headed}
 use Rattle.image_constants.specs.Words.{constant_of, constants_of}
-use Rattle.image_constants.specs.Earlier.{functions_in, is_got, earlier, upvalues_in, upvalues_at, Counts, kind_word, no_function, kinds_right, Kinds}
+use Rattle.image_constants.specs.Earlier.{functions_in, is_got, earlier, upvalues_in, upvalues_at, kind_word, no_function, kinds_right, Kinds}
 use Rattle.image_constants.proofs.Words.{is_number, is_string, is_function}
 
 no_true : false ≡ true → ⊥

@@ -13,7 +13,7 @@ use borrow.Author.Tests.{eq-eqb, ne_eqb, eqb-true, eqb-false, lt-ltb, le-ltb}
 use Rattle.rules.specs.Base.{if◌then◌else◌, all}
 use Rattle.rules.specs.Chunk.{Constant, same_constant}
 use Rattle.rules.specs.Checker.{distinct}
-use Rattle.image_constants.specs.Words.{constant_of, constants_of, slot_in, PlaceOf}
+use Rattle.image_constants.specs.Words.{constant_of, constants_of, slot_in}
 use Rattle.image_constants.proofs.Words.{same_words}
 
 module _ (v : ℕ) where
@@ -99,7 +99,8 @@ module _ (words : List ℕ) (mark : ℕ) where
   more_new i new fresh a b p q e =
       ⊎_elim (λ (x : b ≡ i). fresh a (omega arith) (e ∙ ap (λ (n : ℕ). get_or words n 0) x)) (λ (x : b < i). new a b p x e) (eq-or-lt_of_le (omega arith))
 
-  module _ (place : ℕ → ℕ) (room : ℕ) (stamps : List ℕ) (i word slot : ℕ) (n : News place room words stamps mark i) (is_IsWord : word ≡ get_or words i 0) (is-slot : slot ≡ place word) where
+  module _ (place : ℕ → ℕ) (room : ℕ) (stamps : List ℕ) (i word slot : ℕ) (n : News place room words stamps mark i)
+      (is_IsWord : word ≡ get_or words i 0) (is-slot : slot ≡ place word) where
     -- the slot had the mark already, and no word before is this one
     pub news_looked : get_or stamps slot 0 ≡ mark → ((j : ℕ) → j < i → get_or words j 0 ≡ word → ⊥) → News place room words stamps mark (i + 1)
     news_looked stamped fresh =

@@ -1,20 +1,17 @@
 -- Laws of words and the constants that they stand for.
 use mathlib.Core.Path.{◌≡◌, refl, sym, ap, ◌∙◌}
 use mathlib.Core.Bool.{Bool, true, false}
-use mathlib.Core.Option.{Option, none, some}
 use mathlib.Core.List.{List, [], ◌∷◌, ◌++◌, map}
-use Prim.Native.Nat.{ℕ, zero, suc, ◌+◌, ◌-◌, ◌*◌, ◌/◌, ◌%◌, ◌<◌, ◌≤◌}
+use Prim.Native.Nat.{ℕ, suc, ◌+◌, ◌-◌, ◌*◌, ◌/◌, ◌%◌, ◌<◌, ◌≤◌}
 use native.Mathlib.Omega.{arith}
 use native.Mathlib.Numerals.{add-one}
-use lib.ListN.{length, get_or, take, drop, set, length-set, get_elem?}
+use lib.ListN.{length, take, set, length-set}
 use lib.Seq.{take-suc-set}
 use lib.Dec.{eqb}
 use borrow.Author.Tests.{eq-eqb, ne_eqb, eqb-true, eqb-false}
-use Rattle.rules.specs.Base.{if◌then◌else◌, all}
-use Rattle.rules.specs.Reader.{Read, got, bad, many}
+use Rattle.rules.specs.Reader.{got, many}
 use Rattle.rules.specs.Chunk.{Constant, CN, CS, CF, same_constant}
 use Rattle.rules.specs.ImageFile.{read_constant}
-use Rattle.image_records.specs.declared.Place.{Place}
 use Rattle.image_records.specs.declared.Place.TheVariants.{At, Bad}
 use Rattle.image_records.specs.Told.{word_of, place_told}
 use Rattle.image_records.proofs.Many.{Fails, many_none, many_more, passed_none, skip_stops, skip_goes, skip_none}

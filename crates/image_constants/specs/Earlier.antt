@@ -1,11 +1,11 @@
 -- The functions before function `k`, and what they say of the constants of function `k`.
-use Rattle.std.specs.Prelude.{◌≡◌, Bool, true, false, ◌&&◌, List, [], ◌∷◌, ℕ, ◌+◌, ◌<◌, length, get_or, drop, ltb}
+use Rattle.std.specs.Prelude.{◌≡◌, Bool, true, false, ◌&&◌, List, [], ℕ, ◌+◌, ◌<◌, length, get_or, drop, ltb}
 use Rattle.std.proofs.Math.Option.{Option, none, some}
 use Rattle.std.proofs.Math.ListN.{get_elem?}
 use Rattle.rules.specs.Base.{if◌then◌else◌, all}
 use Rattle.rules.specs.Reader.{Read, got, bad, many}
 use Rattle.rules.specs.Chunk.{Constant, CN, CS, CF, ObjectFunction}
-use Rattle.rules.specs.Division.{Kind, kind_at}
+use Rattle.rules.specs.Division.{kind_at}
 use Rattle.rules.specs.ImageFile.{read_function}
 use Rattle.rules.specs.Checker.{names_earlier}
 use Rattle.image_code.specs.Table.{kinds_in}

@@ -1,7 +1,7 @@
 -- Laws of all functions, one after the other.
 use mathlib.Core.Path.{◌≡◌, refl, sym, ap, ◌∙◌}
 use mathlib.Core.Bool.{Bool, true, false}
-use mathlib.Core.Option.{Option, none, some}
+use mathlib.Core.Option.{some}
 use mathlib.Core.List.{List, [], ◌∷◌, ◌++◌}
 use mathlib.Core.Logic.{⊎_elim}
 use Prim.Native.Nat.{ℕ, zero, suc, ◌+◌, ◌-◌, ◌<◌, ◌≤◌}
@@ -19,13 +19,12 @@ use Rattle.rules.specs.Checker.{instructions}
 use Rattle.image_records.specs.declared.Head.TheVariants as head
 use Rattle.image_records.specs.declared.Header.{Header}
 use Rattle.image_records.specs.Told.{head_at}
-use Rattle.image_records.proofs.Many.{Fails, onto, many_none, many_more, left_goes, left_stops, left_none, passed_none}
+use Rattle.image_records.proofs.Many.{onto, many_none, many_more, left_goes, left_stops, left_none, passed_none}
 use Rattle.image_records.proofs.Records.{headed, head_fails, upvalues_headed}
 use Rattle.image_constants.specs.Earlier.{functions_in, is_got, earlier, upvalues_in, upvalues_at, Counts}
 use Rattle.image_constants.proofs.Kinding.{earlier_number}
-use Rattle.image_functions.specs.declared.Done.{Done}
 use Rattle.image_functions.specs.declared.Done.TheVariants as done
-use Rattle.image_functions.specs.Judged.{right, function_done, Judged, NextIs, right_all, count_all, functions_done}
+use Rattle.image_functions.specs.Judged.{right, function_done, NextIs, right_all, count_all, functions_done}
 
 no_true : false ≡ true → ⊥
 no_true e = let z : ◌≡◌ {A = ℕ} 0 1 = cc in omega arith

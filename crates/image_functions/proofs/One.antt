@@ -2,7 +2,7 @@
 use mathlib.Core.Path.{◌≡◌, refl, sym, ap, ◌∙◌}
 use mathlib.Core.Bool.{Bool, true, false, ◌&&◌}
 use mathlib.Core.Option.{Option, none, some}
-use mathlib.Core.List.{List, [], ◌∷◌, ◌++◌}
+use mathlib.Core.List.{List}
 use Prim.Native.Nat.{ℕ, zero, suc, ◌+◌, ◌-◌, ◌<◌, ◌≤◌}
 use native.Mathlib.Omega.{arith}
 use lib.ListN.{length, get_or, take, drop, replicate, length-take, length-drop, get_or-eq_default}
@@ -10,7 +10,6 @@ use lib.Seq.{get_or-drop, get_or-take}
 use lib.Dec.{eqb, ltb}
 use borrow.Author.Tests.{eq-eqb, ne_eqb, ltb-true, ltb-false}
 use Rattle.rules.specs.Base.{if◌then◌else◌, all}
-use Rattle.rules.specs.declared.Refusal.{Refusal}
 use Rattle.rules.specs.Reader.{Read, got, bad, many}
 use Rattle.rules.specs.Chunk.{Constant, Run, total, ObjectFunction}
 use Rattle.rules.specs.Division.{Kind, Instruction, divide, division, kind_at, run_fits}
@@ -21,21 +20,18 @@ use Rattle.image_code.specs.Table.{code_right, judged_code, kinds_in, Wide}
 use Rattle.image_code.specs.Table as Table
 use Rattle.image_code.specs.declared.Verdict.{Verdict}
 use Rattle.image_code.specs.declared.Verdict.TheVariants as verdict
-use Rattle.image_code.proofs.Closing.{zeros}
 use Rattle.image_code.proofs.Below.{same_judged, few}
 use Rattle.image_records.specs.declared.Place.{Place}
 use Rattle.image_records.specs.declared.Place.TheVariants as place
 use Rattle.image_records.specs.declared.Head.TheVariants as head
 use Rattle.image_records.specs.declared.Header.{Header}
-use Rattle.image_records.specs.declared.Summed.{Summed}
 use Rattle.image_records.specs.declared.Summed.TheVariants as summed
-use Rattle.image_records.specs.Told.{place_told, head_at, runs_told, code_told}
-use Rattle.image_records.proofs.Many.{Fails, same_got, fails_as, place_bad}
-use Rattle.image_records.proofs.Records.{Headed, headed, head_fails, Body, body_of, at_constants, at_runs, at_code, Coded, coded, whole_function, made}
+use Rattle.image_records.specs.Told.{head_at, runs_told, code_told}
+use Rattle.image_records.proofs.Many.{Fails, same_got, place_bad}
+use Rattle.image_records.proofs.Records.{Headed, headed, head_fails, Body, body_of, at_constants, at_runs, at_code, coded, whole_function, made}
 use Rattle.image_records.proofs.Forward.{forward_many, forward_constant, forward_run}
 use Rattle.image_constants.specs.Words.{constants_of, Gathered}
-use Rattle.image_constants.specs.Earlier.{earlier, is_got, kinds_right, Kinds}
-use Rattle.image_constants.proofs.Kinding.{earlier_number}
+use Rattle.image_constants.specs.Earlier.{earlier, Kinds}
 use Rattle.image_functions.specs.declared.Done.{Done}
 use Rattle.image_functions.specs.declared.Done.TheVariants as done
 use Rattle.image_functions.specs.Judged.{constants_fine, constants_told, ConstantsRight, counted, code_done, code_fine, right, function_done, Judged}
@@ -206,7 +202,8 @@ module _ (s : List ℕ) (k at : ℕ) where
     body : (f : ObjectFunction) (next : ℕ) → read_function s at ≡ got f next → Body s b.name b.arity h.upvalues h.constants h.runs h.code (at + 17) f next
     body f next e = body_of s b.name b.arity h.upvalues h.constants h.runs h.code (at + 17) f next (sym b.is ∙ e)
 
-    wrong_done : (r : Read ObjectFunction) → read_function s at ≡ r → ((f : ObjectFunction) (next : ℕ) → r ≡ got f next → right before f ≡ false) → done.Bad ≡ function_done before r
+    wrong_done : (r : Read ObjectFunction) → read_function s at ≡ r → ((f : ObjectFunction) (next : ℕ) → r ≡ got f next → right before f ≡ false)
+        → done.Bad ≡ function_done before r
     unfolding function_done
     wrong_done (bad fault) e w = refl
     wrong_done (got f next) e w = rw (w f next refl) refl

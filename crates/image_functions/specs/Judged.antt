@@ -1,11 +1,11 @@
 -- What is asked of one function of an image, given the functions before it, and of all of them one after the other.
-use Rattle.std.specs.Prelude.{◌≡◌, Bool, true, false, ◌&&◌, List, [], ◌∷◌, ◌++◌, ℕ, ◌+◌, ◌<◌, ◌≤◌, length, get_or, take, drop, eqb}
+use Rattle.std.specs.Prelude.{◌≡◌, Bool, true, false, ◌&&◌, List, [], ◌∷◌, ◌++◌, ℕ, ◌+◌, ◌<◌, ◌≤◌, length, take, drop, eqb}
 use Rattle.std.proofs.Math.Option.{Option, none, some}
 use Rattle.rules.specs.Base.{if◌then◌else◌, all}
 use Rattle.rules.specs.Reader.{Read, got, bad, many}
-use Rattle.rules.specs.Chunk.{Constant, Run, total, ObjectFunction}
+use Rattle.rules.specs.Chunk.{Constant, total, ObjectFunction}
 use Rattle.rules.specs.Division.{Kind, Instruction, divide, division, kind_at, run_fits}
-use Rattle.rules.specs.ImageFile.{read_constant, read_run, read_function}
+use Rattle.rules.specs.ImageFile.{read_constant, read_function}
 use Rattle.rules.specs.Checker.{runs_apart, distinct, instructions}
 use Rattle.image_code.specs.Table.{code_right, judged_code, kinds_in}
 use Rattle.image_code.specs.declared.Verdict.{Verdict}

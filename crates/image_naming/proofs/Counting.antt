@@ -2,33 +2,17 @@
 use mathlib.Core.Path.{◌≡◌, refl, sym, ap, ◌∙◌}
 use mathlib.Core.Bool.{Bool, true, false}
 use mathlib.Core.List.{List, [], ◌∷◌, ◌++◌}
-use mathlib.Core.Logic.{⊎_elim}
-use Prim.Native.Nat.{ℕ, zero, suc, ◌+◌, ◌-◌, ◌*◌, ◌/◌, ◌%◌, ◌<◌, ◌≤◌}
+use Prim.Native.Nat.{ℕ, zero, suc, ◌+◌, ◌/◌, ◌%◌, ◌<◌, ◌≤◌}
 use native.Mathlib.Omega.{arith}
-use native.Mathlib.Nat.{eq-or-lt_of_le}
-use native.Mathlib.Numerals.{add-one}
-use lib.ListN.{length, get_or, take, set, length-set, replicate}
+use lib.ListN.{length, get_or, set, length-set}
 use lib.Seq.{get_or-set_same, get_or-set_other}
 use lib.Dec.{eqb}
 use borrow.Author.Tests.{eq-eqb, ne_eqb, eqb-true, eqb-false}
-use Rattle.rules.specs.Base.{if◌then◌else◌, all_below}
-use Rattle.rules.specs.Reader.{Read, got, bad, many}
-use Rattle.rules.specs.Chunk.{Constant, CN, CS, CF, same_constant, ObjectFunction}
-use Rattle.rules.specs.ImageFile.{read_constant, read_function}
-use Rattle.rules.specs.Checker.{names, names_in_all, named_once}
-use Rattle.image_code.proofs.Once.{below_false, below_same}
-use Rattle.image_records.specs.declared.Place.{Place}
-use Rattle.image_records.specs.declared.Place.TheVariants.{At, Bad}
-use Rattle.image_records.specs.declared.Head.TheVariants as head
-use Rattle.image_records.specs.declared.Header.{Header}
-use Rattle.image_records.specs.Told.{place_told, head_at}
-use Rattle.image_records.proofs.Many.{Fails, fails_bad, place_bad, place_at, many_none, many_more, passed_none, skip_stops, skip_goes, skip_none, Nth, nth_of}
-use Rattle.image_records.proofs.Records.{ConstantIs, Headed, headed, head_fails, Body, body_of, at_constants}
+use Rattle.rules.specs.Chunk.{Constant, same_constant, ObjectFunction}
+use Rattle.rules.specs.Checker.{names, names_in_all}
 use Rattle.image_constants.specs.Words.{constant_of}
-use Rattle.image_constants.specs.Earlier.{functions_in, is_got, earlier}
-use Rattle.image_constants.proofs.Words.{is_number, is_string, is_function, constant_back}
-use Rattle.image_constants.proofs.Kinding.{EarlierAre, earlier_are, earlier_number}
-use Rattle.image_naming.specs.Noted.{cap, Capped, Noted, names_one, ConstantsNoted, FunctionNoted}
+use Rattle.image_constants.proofs.Words.{is_number, is_string, is_function}
+use Rattle.image_naming.specs.Noted.{cap, Capped, Noted, names_one}
 
 cap_low : (n : ℕ) → n ≤ 2 → cap n ≡ n
 unfolding cap

@@ -8,22 +8,22 @@ use native.Mathlib.Numerals.{add-one}
 use lib.ListN.{length, get_or}
 use lib.Dec.{eqb}
 use Rattle.rules.specs.Base.{if◌then◌else◌, all_below}
-use Rattle.rules.specs.Reader.{Read, got, bad, many}
+use Rattle.rules.specs.Reader.{got, many}
 use Rattle.rules.specs.Chunk.{Constant, ObjectFunction}
 use Rattle.rules.specs.ImageFile.{read_constant, read_function}
 use Rattle.rules.specs.Checker.{names, names_in_all, named_once}
-use Rattle.image_code.proofs.Once.{either_false, below_false, below_same, below_more_true, all_begin}
+use Rattle.image_code.proofs.Once.{below_false, below_same}
 use Rattle.image_records.specs.declared.Place.{Place}
 use Rattle.image_records.specs.declared.Place.TheVariants.{At, Bad}
 use Rattle.image_records.specs.declared.Head.TheVariants as head
 use Rattle.image_records.specs.declared.Header.{Header}
 use Rattle.image_records.specs.Told.{place_told, head_at}
 use Rattle.image_records.proofs.Many.{Fails, got_bad, same_got, fails_bad, place_bad, place_at, many_none, many_more, passed_none, skip_stops, skip_goes, skip_none, Nth, nth_of}
-use Rattle.image_records.proofs.Records.{ConstantIs, Headed, headed, head_fails, Body, body_of, at_constants}
+use Rattle.image_records.proofs.Records.{ConstantIs, Headed, headed, head_fails, body_of, at_constants}
 use Rattle.image_constants.specs.Words.{constant_of}
 use Rattle.image_constants.specs.Earlier.{functions_in, is_got, earlier}
 use Rattle.image_constants.proofs.Words.{constant_back}
-use Rattle.image_constants.proofs.Kinding.{EarlierAre, earlier_are, earlier_number}
+use Rattle.image_constants.proofs.Kinding.{earlier_are, earlier_number}
 use Rattle.image_functions.proofs.All.{one_more, earlier_more}
 use Rattle.image_naming.specs.Noted.{cap, Capped, Noted, names_one, ConstantsNoted, FunctionNoted}
 use Rattle.image_naming.proofs.Counting.{noted_capped, noted_then, noted_none, names_more, all_more, cap_one}

@@ -1,14 +1,14 @@
 -- Readers go forward: what was read ends no earlier than it began.
-use mathlib.Core.Path.{◌≡◌, refl, sym, ap, ◌∙◌}
+use mathlib.Core.Path.{◌≡◌, refl, sym, ◌∙◌}
 use mathlib.Core.Bool.{Bool, true, false}
 use mathlib.Core.Option.{Option, none, some}
-use mathlib.Core.List.{List, [], ◌∷◌}
-use Prim.Native.Nat.{ℕ, zero, suc, ◌+◌, ◌≤◌}
+use mathlib.Core.List.{List, []}
+use Prim.Native.Nat.{ℕ, zero, suc, ◌≤◌}
 use native.Mathlib.Omega.{arith}
 use Rattle.rules.specs.Base.{lookup}
 use Rattle.rules.specs.declared.Refusal.{Refusal}
 use Rattle.rules.specs.declared.Refusal.TheVariants.{ImageRefused}
-use Rattle.rules.specs.Reader.{Read, got, bad, Reader, go_on, ◌>>=◌, ◌>>◌, return, refuse, need, known, one_of, u8, u16, u32, u64, mark, mark_is, span, many}
+use Rattle.rules.specs.Reader.{Read, got, Reader, ◌>>=◌, ◌>>◌, return, refuse, need, known, one_of, u8, u16, u32, u64, mark, mark_is, span, many}
 use Rattle.rules.specs.ImageFile.{ConstantMark, number_mark, string_mark, function_mark, constant_marks, constant_fields, read_constant, read_run}
 use Rattle.fields.proofs.Reading.{Field, found, a_u8, a_u16, a_u32, a_u64, a_mark, a_span, bad_got}
 use Rattle.image_records.proofs.Many.{many_first, many_none}

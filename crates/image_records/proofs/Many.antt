@@ -4,13 +4,12 @@ use mathlib.Core.List.{List, [], ◌∷◌, ◌++◌}
 use Prim.Native.Nat.{ℕ, zero, suc, ◌+◌, ◌-◌, ◌≤◌, ◌<◌}
 use native.Mathlib.Numerals.{add-one}
 use native.Mathlib.Omega.{arith}
-use mathlib.Core.Option.{Option, none, some}
+use mathlib.Core.Option.{some}
 use lib.ListN.{length, get_or, take, drop, get_elem?}
 use lib.Seq.{drop-cons}
 use Rattle.rules.specs.declared.Refusal.{Refusal}
 use Rattle.rules.specs.Reader.{Read, got, bad, Reader, go_on, ◌>>=◌, return, many, u8}
 use Rattle.fields.proofs.Reading.{a_u8}
-use Rattle.image_records.specs.declared.Place.{Place}
 use Rattle.image_records.specs.declared.Place.TheVariants.{At, Bad}
 use Rattle.image_records.specs.Told.{place_told}
 

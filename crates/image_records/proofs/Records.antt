@@ -1,31 +1,28 @@
 -- Laws of a constant and of a function's record: what the rules' readers give, by the fields that are there.
 use mathlib.Core.Path.{◌≡◌, refl, sym, ap, ◌∙◌}
-use mathlib.Core.Bool.{Bool, true, false, ◌&&◌}
-use mathlib.Core.Option.{Option, none, some}
-use mathlib.Core.List.{List, [], ◌∷◌}
-use Prim.Native.Nat.{ℕ, zero, suc, ◌+◌, ◌*◌, ◌≤◌, ◌<◌}
+use mathlib.Core.Bool.{Bool, true, false}
+use mathlib.Core.List.{List}
+use Prim.Native.Nat.{ℕ, ◌+◌, ◌*◌, ◌≤◌, ◌<◌}
 use native.Mathlib.Omega.{arith}
-use lib.ListN.{length, get_or, take, drop}
+use lib.ListN.{length, take, drop}
 use lib.Dec.{leb, eqb}
 use borrow.Author.Tests.{le-leb, lt-leb, eq-eqb, ne_eqb, leb-true, leb-false, eqb-true, eqb-false}
-use Rattle.rules.specs.Base.{if◌then◌else◌, lookup}
+use Rattle.rules.specs.Base.{lookup}
 use Rattle.rules.specs.Limits.{max_bits}
 use Rattle.rules.specs.declared.Refusal.{Refusal}
 use Rattle.rules.specs.declared.Refusal.TheVariants.{ImageRefused}
-use Rattle.rules.specs.Reader.{Read, got, bad, Reader, go_on, ◌>>=◌, ◌>>◌, return, refuse, need, known, one_of, u8, u16, u32, u64, mark, mark_is, many}
+use Rattle.rules.specs.Reader.{Read, got, bad, Reader, go_on, ◌>>=◌, ◌>>◌, return, refuse, need, known, one_of, u8, mark_is, many}
 use Rattle.rules.specs.Chunk.{Constant, CN, CS, CF, same_constant, Run, ObjectFunction}
 use Rattle.rules.specs.ImageFile.{ConstantMark, number_mark, string_mark, function_mark, constant_marks, constant_fields, read_constant, read_run, read_function}
 use Rattle.fields.specs.Words.{word8, word16, word32, word64, letters}
 use Rattle.fields.proofs.Reading.{Field, then_on, then_bad, a_u8, a_u16, a_u32, a_u64, a_mark, mark_is_it, mark_is_not, mark_is_cut, marked}
 use Rattle.image_records.specs.declared.Word.{Word}
 use Rattle.image_records.specs.declared.Word.TheVariants as word
-use Rattle.image_records.specs.declared.Place.{Place}
 use Rattle.image_records.specs.declared.Place.TheVariants as place
-use Rattle.image_records.specs.declared.Head.{Head}
 use Rattle.image_records.specs.declared.Head.TheVariants as head
 use Rattle.image_records.specs.declared.Header.{Header}
-use Rattle.image_records.specs.Told.{word_of, constant_told, place_told, head_at, code_told}
-use Rattle.image_records.proofs.Many.{Fails, Gives, fails_as, bytes_whole, bytes_short}
+use Rattle.image_records.specs.Told.{word_of, constant_told, head_at, code_told}
+use Rattle.image_records.proofs.Many.{Fails, fails_as, bytes_whole, bytes_short}
 
 -- ## Words of constants
 

@@ -2,21 +2,20 @@
 use mathlib.Core.Path.{◌≡◌, refl, sym, ap, ◌∙◌}
 use mathlib.Core.Bool.{Bool, true, false, not, ◌&&◌}
 use mathlib.Core.List.{List, [], ◌∷◌}
-use Prim.Native.Nat.{ℕ, zero, suc, ◌+◌, ◌-◌, ◌*◌, ◌≤◌, ◌<◌}
+use Prim.Native.Nat.{ℕ, ◌+◌, ◌-◌, ◌≤◌, ◌<◌}
 use native.Mathlib.Omega.{arith}
-use lib.ListN.{length, get_or}
+use lib.ListN.{length}
 use lib.Dec.{leb, eqb}
 use borrow.Author.Tests.{le-leb, lt-leb, eq-eqb, ne_eqb, leb-true, leb-false, eqb-true, eqb-false}
 use Rattle.rules.specs.Base.{if◌then◌else◌, all}
-use Rattle.rules.specs.declared.Span.{Span}
 use Rattle.rules.specs.declared.Refusal.TheVariants.{ImageRefused}
-use Rattle.rules.specs.Reader.{Read, got, bad, Reader, go_on, ◌>>=◌, ◌>>◌, return, u8, span, mark_is, many}
+use Rattle.rules.specs.Reader.{Read, got, bad, go_on, ◌>>=◌, ◌>>◌, return, many}
 use Rattle.rules.specs.Chunk.{Run, same_span, total}
 use Rattle.rules.specs.Division.{run_fits}
 use Rattle.rules.specs.Checker.{runs_apart}
 use Rattle.rules.specs.ImageFile.{read_run}
 use Rattle.fields.specs.Words.{word8, word32, letters, span_of}
-use Rattle.fields.proofs.Reading.{then_bad, a_u8, a_span, mark_is_it, mark_is_not, mark_is_cut}
+use Rattle.fields.proofs.Reading.{a_u8, a_span, mark_is_it, mark_is_not, mark_is_cut}
 use Rattle.image_records.specs.declared.Summed.{Summed}
 use Rattle.image_records.specs.declared.Summed.TheVariants.{Are, Bad}
 use Rattle.image_records.specs.Told.{runs_after, runs_told}

@@ -1,5 +1,5 @@
 -- What the readers of records tell, by what the rules read: a constant as one word, a function's header, where a record ends.
-use Rattle.std.specs.Prelude.{Bool, true, false, ◌&&◌, List, [], ◌∷◌, ℕ, ◌+◌, ◌*◌, length, leb, eqb}
+use Rattle.std.specs.Prelude.{◌&&◌, List, ◌∷◌, ℕ, ◌+◌, ◌*◌, length, leb, eqb}
 use Rattle.rules.specs.Base.{if◌then◌else◌, all}
 use Rattle.rules.specs.Reader.{Read, got, bad}
 use Rattle.rules.specs.Chunk.{Constant, CN, CS, CF, Run, total}

@@ -1,16 +1,15 @@
 -- The rules' lookup of a span, from the lent runs that are left: at their end, at a run that holds the byte, and past a run that does not.
-use mathlib.Core.Path.{◌≡◌, refl, ap, ◌∙◌}
+use mathlib.Core.Path.{◌≡◌, refl}
 use Prim.Native.Nat.{ℕ, ◌-◌, ◌+◌, ◌<◌, ◌≤◌}
 use native.Mathlib.Numerals.{add-one}
-use mathlib.Core.Bool.{Bool, true, false, not}
 use mathlib.Core.List.{List, [], ◌∷◌}
 use lib.ListN.{length, get_or, drop, length-drop}
 use lib.Seq.{drop-cons}
-use lib.Dec.{T, ltb}
+use lib.Dec.{ltb}
+use borrow.Author.Tests.{lt-ltb, le-ltb}
 use native.Mathlib.Omega.{arith}
 use Rattle.rules.specs.Base.{if◌then◌else◌}
 use Rattle.rules.specs.declared.Answer.{Answer}
-use Rattle.rules.specs.declared.Refusal.TheVariants.{NoSuchByte}
 use Rattle.rules.specs.Answer.{refusal}
 use Rattle.rules.specs.Checker.{span_of}
 use Rattle.spans.specs.declared.Run.{Run}
@@ -28,14 +27,6 @@ no_such_byte = record { number = 42; at = 0; end = 0; name = 0; length = 0; func
 abbrev pub none : Run
 none = record { start = 0; end = 0; count = 0 }
 
-yes : (t : Bool) → T t → t ≡ true
-yes true _ = refl
-yes false a = absurd a
-
-no : (t : Bool) → T (not t) → t ≡ false
-no true a = absurd a
-no false _ = refl
-
 empty : (rs : List Run) (k : ℕ) → length rs ≡ 0 → span_at rs k ≡ no_such_byte
 unfolding span_of runs_in refusal
 empty [] k e = refl
@@ -50,8 +41,8 @@ module _ (ys : List Run) (i k : ℕ) (inside : i < length ys) where
   unfolding span_of runs_in
   opened = rw (add-one, drop-cons ys i none)
 
-  pub holds : T (ltb k (get_or ys i none).count) → span_at (drop i ys) k ≡ found (get_or ys i none)
-  holds here = opened ∙ ap (λ (t : Bool). if t then found (get_or ys i none) else span_at (drop (i + 1) ys) (k - (get_or ys i none).count)) (yes (ltb k (get_or ys i none).count) here)
+  pub holds : k < (get_or ys i none).count → span_at (drop i ys) k ≡ found (get_or ys i none)
+  holds here = rw (lt-ltb _ _ here) at opened
 
-  pub passes : T (not (ltb k (get_or ys i none).count)) → span_at (drop i ys) k ≡ span_at (drop (i + 1) ys) (k - (get_or ys i none).count)
-  passes past = opened ∙ ap (λ (t : Bool). if t then found (get_or ys i none) else span_at (drop (i + 1) ys) (k - (get_or ys i none).count)) (no (ltb k (get_or ys i none).count) past)
+  pub passes : (get_or ys i none).count ≤ k → span_at (drop i ys) k ≡ span_at (drop (i + 1) ys) (k - (get_or ys i none).count)
+  passes past = rw (le-ltb _ _ past) at opened

@@ -44,7 +44,7 @@ pub struct Run {
     pub count: u8,
 }
 
-// The number of `refusal NoSuchByte`, where a call of `answers::refused` would be one more step of a proof that walks the code by hand.
+// The number of `refusal NoSuchByte`.
 const NO_SUCH_BYTE: u64 = 42;
 
 // The same over a lent slice of runs.

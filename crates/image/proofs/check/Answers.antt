@@ -1,7 +1,6 @@
 -- `check` meets its contract.
 use mathlib.Core.Path.{sym, ◌∙◌}
 use Rattle.image.proofs.Whole.{check_no, check_yes}
-use borrow.Author.Rules.{rules}
 use Rattle.image.proofs.check.Goals as goal
 
 pub returns-in_default : goal.returns-in_default

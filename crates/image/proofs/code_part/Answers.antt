@@ -4,14 +4,13 @@ use native.Mathlib.Omega.{arith}
 use mathlib.Core.Path.{sym, ◌∙◌}
 use Rattle.image.proofs.Lookup.{accepted_is, no_image, no_function, answer_none, answer_past, lost, told_refused, told_record}
 use Rattle.fields.specs.Words.{word32}
-use borrow.Author.Rules.{rules}
 use Rattle.image.proofs.code_part.Goals as goal
 
 pub returns-in_default : goal.returns-in_default
 returns-in_default c =
     let e = sym c.in_default.is ∙ c.count_of.ensures in
     let t = told_refused c.args.image.now c.args.k _ (c.refused.ensures ∙ answer_none _ _ e) (no_image _ _ e) in
-    (t.is, t.lies)
+    record { value = t.is; lies = t.lies }
 
 pub u32_at-requires : goal.u32_at-requires
 u32_at-requires c =
@@ -22,7 +21,7 @@ returns-then-k-wide32 c =
     let a = accepted_is c.args.image.now c.in-Is.n c.in-Is.end (sym c.in-Is.is ∙ c.count_of.ensures) in
     let h : word32 c.args.image.now 2 ≤ c.args.k = omega (arith, c.if-k-wide32.true, c.wide32.ensures.0, c.u32_at.ensures) in
     let t = told_refused _ _ _ (c.refused-then-k-wide32.ensures ∙ answer_past _ c.args.k a h) (no_function _ c.args.k a h) in
-    (t.is, t.lies)
+    record { value = t.is; lies = t.lies }
 
 pub returns-in_default-function_place : goal.returns-in_default-function_place
 returns-in_default-function_place c =
@@ -39,4 +38,4 @@ returns c =
     let is = accepted_is image c.in-Is.n c.in-Is.end (sym c.in-Is.is ∙ c.count_of.ensures) in
     let there : k < word32 image 2 = omega (arith, c.if-k-wide32.false, c.wide32.ensures.0, c.u32_at.ensures) in
     let t = told_record image k is there _ (sym c.in-At.is ∙ c.function_place.ensures) _ c.record_part.ensures in
-    (t.is, t.lies)
+    record { value = t.is; lies = t.lies }

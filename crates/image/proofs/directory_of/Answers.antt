@@ -1,7 +1,6 @@
 -- `directory_of` meets its contract: the functions of an image end where their bytes do.
 use native.Mathlib.Omega.{arith}
 use mathlib.Core.Path.{sym, ◌∙◌}
-use borrow.Author.Rules.{rules}
 use Rattle.image.proofs.Lookup.{accepted_is, no_directory, nothing_behind, directory_told}
 use Rattle.image.proofs.directory_of.Goals as goal
 

@@ -1,12 +1,8 @@
 -- `all_new` meets its contract: the words that are passed are different, and their slots have the mark.
-use Prim.Native.Nat.{ℕ, ◌+◌, ◌-◌, ◌*◌, ◌/◌, ◌%◌, ◌<◌, ◌≤◌}
-use native.Mathlib.Omega.{arith}
-use mathlib.Core.Path.{◌≡◌, refl, sym, ◌∙◌, ap}
-use lib.ListN.{length, get_or}
-use borrow.Author.Rules.{rules}
-use borrow.Author.Count.{below_more}
+use Prim.Native.Nat.{◌-◌, ◌≤◌}
+use lib.ListN.{length}
 use Rattle.image_constants.specs.Words.{slot_in}
-use Rattle.image_constants.proofs.New.{News, same_slot, news_begin, news_looked, news_stamped, news_done, news_broken}
+use Rattle.image_constants.proofs.New.{News}
 use Rattle.image_constants.proofs.all_new.Given as goal
 
 abbrev pub invariant-loop-i : goal.invariant-loop-i

@@ -1,10 +1,7 @@
 -- `find` meets its contract: no word that is passed is the one that is looked for.
-use Prim.Native.Nat.{ℕ, ◌+◌, ◌-◌, ◌*◌, ◌/◌, ◌%◌, ◌<◌, ◌≤◌}
-use native.Mathlib.Omega.{arith}
-use mathlib.Core.Path.{◌≡◌, refl, sym, ◌∙◌, ap}
-use lib.ListN.{length, get_or}
-use borrow.Author.Rules.{rules}
-use borrow.Author.Count.{below_more}
+use Prim.Native.Nat.{ℕ, ◌-◌, ◌<◌, ◌≤◌}
+use mathlib.Core.Path.{◌≡◌}
+use lib.ListN.{get_or}
 use Rattle.image_constants.proofs.find.Given as goal
 
 abbrev pub invariant-loop-i : goal.invariant-loop-i

@@ -1,13 +1,10 @@
 -- `gather` meets its contract: the words so far are the constants read so far, and where the ones that are left end is where all end.
-use Prim.Native.Nat.{ℕ, ◌+◌, ◌-◌, ◌*◌, ◌/◌, ◌%◌, ◌<◌, ◌≤◌}
 use native.Mathlib.Omega.{arith}
-use mathlib.Core.Path.{◌≡◌, refl, sym, ◌∙◌, ap}
-use lib.ListN.{length, get_or}
-use borrow.Author.Rules.{rules}
-use borrow.Author.Count.{below_more}
+use mathlib.Core.Path.{sym, ◌∙◌}
+use lib.ListN.{length}
 use Rattle.rules.specs.ImageFile.{read_constant}
 use Rattle.image_records.proofs.Records.{constant_is, constant_fails}
-use Rattle.image_constants.proofs.Words.{Gathering, gather_begin, gather_stop, gather_on, gather_done}
+use Rattle.image_constants.proofs.Words.{gather_begin, gather_stop, gather_on, gather_done}
 use Rattle.image_constants.proofs.gather.Goals as goal
 
 pub loop-i-init : goal.loop-i-init

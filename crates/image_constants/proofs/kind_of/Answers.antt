@@ -1,12 +1,7 @@
 -- `kind_of` meets its contract.
-use Prim.Native.Nat.{ℕ, ◌+◌, ◌-◌, ◌*◌, ◌/◌, ◌%◌, ◌<◌, ◌≤◌}
 use native.Mathlib.Omega.{arith}
-use mathlib.Core.Path.{◌≡◌, refl, sym, ◌∙◌, ap}
-use lib.ListN.{length, get_or}
-use borrow.Author.Count.{below_more}
 use Rattle.image_constants.specs.Earlier.{earlier}
 use Rattle.image_constants.proofs.Kinding.{word_number, word_string, word_function, word_late}
-use borrow.Author.Rules.{rules}
 use Rattle.image_constants.proofs.kind_of.Goals as goal
 
 pub returns-then-word-eq0 : goal.returns-then-word-eq0

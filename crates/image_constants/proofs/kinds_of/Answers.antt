@@ -1,29 +1,25 @@
 -- `kinds_of` meets its contract: the words that are passed are right, and so is the table up to there.
-use Prim.Native.Nat.{ℕ, ◌+◌, ◌-◌, ◌*◌, ◌/◌, ◌%◌, ◌<◌, ◌≤◌}
 use native.Mathlib.Omega.{arith}
-use mathlib.Core.Path.{◌≡◌, refl, sym, ◌∙◌, ap}
-use lib.ListN.{length, get_or}
-use borrow.Author.Rules.{rules}
-use borrow.Author.Count.{below_more}
+use mathlib.Core.Path.{sym, ◌∙◌}
 use Rattle.image_constants.specs.Earlier.{earlier}
-use Rattle.image_constants.proofs.Kinding.{earlier_number, Passing, passing_begin, passing_set, passing_on, passing_bad, passing_late, passing_done}
+use Rattle.image_constants.proofs.Kinding.{earlier_number, passing_begin, passing_set, passing_on, passing_bad, passing_late, passing_done}
 use Rattle.image_constants.proofs.kinds_of.Goals as goal
 
 pub loop-i-init : goal.loop-i-init
 loop-i-init c = (
   omega arith,
   passing_begin (earlier c.args.s.now c.args.k) c.args.k
-      c.args.words.now c.args.kinds.now c.requires.1.0 c.requires.1.1,
+      c.args.words.now c.args.kinds.now c.requires.kinds_len.0 c.requires.kinds_len.1,
 )
 
 pub offset_bounds-words-i : goal.offset_bounds-words-i
-offset_bounds-words-i c = omega (arith, c.requires.0.0, c.loop-i-test.true, c.well_formed)
+offset_bounds-words-i c = omega (arith, c.requires.n_in_bounds.0, c.loop-i-test.true, c.well_formed)
 
 pub bounds-words-i : goal.bounds-words-i
-bounds-words-i c = omega (arith, c.requires.0.0, c.loop-i-test.true)
+bounds-words-i c = omega (arith, c.requires.n_in_bounds.0, c.loop-i-test.true)
 
 pub kind_of-kind-requires : goal.kind_of-kind-requires
-kind_of-kind-requires c = c.requires.0.1
+kind_of-kind-requires c = c.requires.n_in_bounds.1
 
 pub returns-then-kind-eq-MISSING : goal.returns-then-kind-eq-MISSING
 returns-then-kind-eq-MISSING c =
@@ -32,10 +28,10 @@ returns-then-kind-eq-MISSING c =
     c.args.k
     c.args.words.now
     c.args.n
-    c.requires.0.0
+    c.requires.n_in_bounds.0
     (earlier_number c.args.s.now
     c.args.k
-    c.requires.0.1.there) c.loop-i.kinds
+    c.requires.n_in_bounds.1.there) c.loop-i.kinds
     c.loop-i.i c.loop-i-test.true (sym c.if-kind-eq-MISSING.true ∙ c.kind_of-kind.ensures)
 
 pub offset_bounds-kinds-i : goal.offset_bounds-kinds-i
@@ -48,7 +44,7 @@ pub overflow_add-i : goal.overflow_add-i
 overflow_add-i c =
     omega (
       arith,
-      c.requires.0.0,
+      c.requires.n_in_bounds.0,
       c.loop-i-test.true,
       c.well_formed,
     )
@@ -75,10 +71,10 @@ returns-then-kind-gt-STRING c =
     c.args.k
     c.args.words.now
     c.args.n
-    c.requires.0.0
+    c.requires.n_in_bounds.0
     (earlier_number c.args.s.now
     c.args.k
-    c.requires.0.1.there)
+    c.requires.n_in_bounds.1.there)
     c.loop-i.kinds c.loop-i.i
     c.loop-i-test.true c.if-i-lt256.false (rw c.kind_of-kind.ensures at c.if-kind-gt-STRING.true)
 
@@ -86,7 +82,7 @@ pub overflow_add-i-else-i-lt256 : goal.overflow_add-i-else-i-lt256
 overflow_add-i-else-i-lt256 c =
     omega (
       arith,
-      c.requires.0.0,
+      c.requires.n_in_bounds.0,
       c.loop-i-test.true,
       c.well_formed,
     )
@@ -111,7 +107,7 @@ pub returns : goal.returns
 returns c =
     passing_done (earlier c.args.s.now c.args.k)
     c.args.k c.args.words.now
-    c.args.n c.requires.0.0
+    c.args.n c.requires.n_in_bounds.0
     (earlier_number c.args.s.now c.args.k
-    c.requires.0.1.there) c.loop-i.kinds c.loop-i.i c.loop-i.invariant.1
+    c.requires.n_in_bounds.1.there) c.loop-i.kinds c.loop-i.i c.loop-i.invariant.1
     (omega (arith, c.loop-i.invariant.0, c.loop-i-test.false))

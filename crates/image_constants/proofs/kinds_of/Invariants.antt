@@ -1,12 +1,7 @@
 -- `kinds_of` meets its contract: the words that are passed are right, and so is the table up to there.
-use Prim.Native.Nat.{ℕ, ◌+◌, ◌-◌, ◌*◌, ◌/◌, ◌%◌, ◌<◌, ◌≤◌}
-use native.Mathlib.Omega.{arith}
-use mathlib.Core.Path.{◌≡◌, refl, sym, ◌∙◌, ap}
-use lib.ListN.{length, get_or}
-use borrow.Author.Rules.{rules}
-use borrow.Author.Count.{below_more}
+use Prim.Native.Nat.{◌-◌, ◌≤◌}
 use Rattle.image_constants.specs.Earlier.{earlier}
-use Rattle.image_constants.proofs.Kinding.{earlier_number, Passing, passing_begin, passing_set, passing_on, passing_bad, passing_late, passing_done}
+use Rattle.image_constants.proofs.Kinding.{Passing}
 use Rattle.image_constants.proofs.kinds_of.Given as goal
 
 abbrev pub invariant-loop-i : goal.invariant-loop-i

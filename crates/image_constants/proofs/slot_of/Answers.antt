@@ -1,5 +1,4 @@
 -- `slot_of` meets its contract.
-use native.Mathlib.Omega.{arith}
 use Rattle.image_constants.proofs.New.{slot_least, slot_low, slot_high, below_least, below_low, below_high}
 use Rattle.image_constants.proofs.slot_of.Goals as goal
 

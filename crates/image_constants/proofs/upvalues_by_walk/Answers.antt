@@ -1,11 +1,6 @@
 -- `upvalues_by_walk` meets its contract.
-use Prim.Native.Nat.{ℕ, ◌+◌, ◌-◌, ◌*◌, ◌/◌, ◌%◌, ◌<◌, ◌≤◌}
-use native.Mathlib.Omega.{arith}
-use mathlib.Core.Path.{◌≡◌, refl, sym, ◌∙◌, ap}
-use lib.ListN.{length, get_or}
-use borrow.Author.Count.{below_more}
+use mathlib.Core.Path.{sym, ◌∙◌}
 use Rattle.image_constants.proofs.Kinding.{walk_lost, walk_headless, walk_there}
-use borrow.Author.Rules.{rules}
 use Rattle.image_constants.proofs.upvalues_by_walk.Goals as goal
 
 pub returns-in_default : goal.returns-in_default

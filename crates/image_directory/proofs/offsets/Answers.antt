@@ -1,12 +1,6 @@
 -- `offsets` meets its contract: whether the entries that are left are right is whether all of them are.
-use Prim.Native.Nat.{◌+◌, ◌*◌}
 use native.Mathlib.Omega.{arith}
-use mathlib.Core.Path.{◌≡◌, refl, sym, ◌∙◌}
-use lib.ListN.{length}
-use borrow.Author.Rules.{rules}
-use Rattle.rules.specs.Reader.{many}
-use Rattle.rules.specs.ImageFile.{read_function}
-use Rattle.image_directory.specs.Behind.{offsets_right}
+use mathlib.Core.Path.{refl, sym, ◌∙◌}
 use Rattle.image_directory.proofs.Entries.{none_left, lost, other, passed}
 use Rattle.image_directory.proofs.offsets.Goals as goal
 
@@ -31,7 +25,7 @@ returns-in_default c =
 
 pub overflow_add-entry : goal.overflow_add-entry
 overflow_add-entry c =
-    omega (arith, c.loop-left-test.true, c.loop-left.invariant.0, c.good)
+    omega (arith, c.loop-left-test.true, c.loop-left.invariant.0, c.well_formed)
 
 pub overflow_sub-left : goal.overflow_sub-left
 overflow_sub-left c = omega (arith, c.loop-left-test.true)

@@ -1,13 +1,10 @@
 -- `offsets` meets its contract: whether the entries that are left are right is whether all of them are.
 use Prim.Native.Nat.{◌+◌, ◌*◌}
-use native.Mathlib.Omega.{arith}
-use mathlib.Core.Path.{◌≡◌, refl, sym, ◌∙◌}
+use mathlib.Core.Path.{◌≡◌}
 use lib.ListN.{length}
-use borrow.Author.Rules.{rules}
 use Rattle.rules.specs.Reader.{many}
 use Rattle.rules.specs.ImageFile.{read_function}
 use Rattle.image_directory.specs.Behind.{offsets_right}
-use Rattle.image_directory.proofs.Entries.{none_left, lost, other, passed}
 use Rattle.image_directory.proofs.offsets.Given as goal
 
 abbrev pub invariant-loop-left : goal.invariant-loop-left

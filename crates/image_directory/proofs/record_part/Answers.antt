@@ -1,7 +1,6 @@
 -- `record_part` meets its contract.
 use native.Mathlib.Omega.{arith}
 use mathlib.Core.Path.{sym, ◌∙◌}
-use borrow.Author.Rules.{rules}
 use Rattle.image_directory.proofs.Parts.{headless, endless, code_before_end, part_told}
 use Rattle.image_directory.proofs.record_part.Goals as goal
 

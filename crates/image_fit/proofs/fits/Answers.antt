@@ -4,7 +4,6 @@ use native.Mathlib.Omega.{arith}
 use mathlib.Core.Path.{refl, ◌∙◌}
 use lib.ListN.{get_or}
 use Rattle.image_code.proofs.Fitting.{fits_plain, fits_jump, two_wide, known_form, fits_captured, fits_missing, fits_value, fits_text, fits_none, pairs_room, fits_pairs}
-use borrow.Author.Rules.{rules}
 use Rattle.image_fit.proofs.fits.Goals as goal
 
 pub returns-then-form-lt-CAPTURED : goal.returns-then-form-lt-CAPTURED
@@ -15,13 +14,13 @@ returns-then-form-lt-CAPTURED c =
 pub overflow_add-at : goal.overflow_add-at
 overflow_add-at c =
     let t = (two_wide c.args.kinds.now c.args.code.now c.args.at c.args.upvalues
-    c.form_of-form.result c.form_of-form.ensures (omega (arith, c.if-form-lt-CAPTURED.false)) c.requires.0.1) in omega arith
+    c.form_of-form.result c.form_of-form.ensures (omega (arith, c.if-form-lt-CAPTURED.false)) c.requires.at_in_bounds.1) in omega arith
 
 pub bounds-code-at-2 : goal.bounds-code-at-2
 bounds-code-at-2 c =
     let t = (two_wide c.args.kinds.now c.args.code.now
     c.args.at c.args.upvalues c.form_of-form.result
-    c.form_of-form.ensures (omega (arith, c.if-form-lt-CAPTURED.false)) c.requires.0.1) in omega (arith, t, c.requires.1)
+    c.form_of-form.ensures (omega (arith, c.if-form-lt-CAPTURED.false)) c.requires.at_in_bounds.1) in omega (arith, t, c.requires.code_in_bounds)
 
 pub returns-then-form-eq-CAPTURED : goal.returns-then-form-eq-CAPTURED
 returns-then-form-eq-CAPTURED c =
@@ -30,7 +29,7 @@ returns-then-form-eq-CAPTURED c =
     (get_or c.args.kinds.now c.wide-place.result 0)
     (two_wide c.args.kinds.now c.args.code.now c.args.at c.args.upvalues
     c.form_of-form.result c.form_of-form.ensures (omega (arith, c.if-form-lt-CAPTURED.false))
-    c.requires.0.1) c.wide-place.ensures.0 refl c.if-form-eq-CAPTURED.true
+    c.requires.at_in_bounds.1) c.wide-place.ensures.0 refl c.if-form-eq-CAPTURED.true
 
 pub offset_bounds-kinds-place : goal.offset_bounds-kinds-place
 offset_bounds-kinds-place c = omega (arith, c.wide-place.ensures.0, c.type_inv.code (c.args.at + 1))
@@ -45,7 +44,7 @@ returns-then-kind-eq-MISSING c =
     (get_or c.args.kinds.now c.wide-place.result 0)
     (two_wide c.args.kinds.now c.args.code.now c.args.at c.args.upvalues
     c.form_of-form.result c.form_of-form.ensures (omega (arith, c.if-form-lt-CAPTURED.false))
-    c.requires.0.1) c.wide-place.ensures.0 refl c.if-form-eq-VALUE.true c.if-kind-eq-MISSING.true
+    c.requires.at_in_bounds.1) c.wide-place.ensures.0 refl c.if-form-eq-VALUE.true c.if-kind-eq-MISSING.true
 
 pub returns-then-form-eq-VALUE : goal.returns-then-form-eq-VALUE
 returns-then-form-eq-VALUE c =
@@ -54,7 +53,7 @@ returns-then-form-eq-VALUE c =
     (get_or c.args.kinds.now c.wide-place.result 0)
     (two_wide c.args.kinds.now c.args.code.now c.args.at c.args.upvalues
     c.form_of-form.result c.form_of-form.ensures (omega (arith, c.if-form-lt-CAPTURED.false))
-    c.requires.0.1) c.wide-place.ensures.0 refl c.if-form-eq-VALUE.true c.if-kind-eq-MISSING.false
+    c.requires.at_in_bounds.1) c.wide-place.ensures.0 refl c.if-form-eq-VALUE.true c.if-kind-eq-MISSING.false
 
 pub returns-then-form-lt-AHEAD : goal.returns-then-form-lt-AHEAD
 returns-then-form-lt-AHEAD c =
@@ -63,7 +62,7 @@ returns-then-form-lt-AHEAD c =
     (get_or c.args.kinds.now c.wide-place.result 0)
     (two_wide c.args.kinds.now c.args.code.now c.args.at c.args.upvalues
     c.form_of-form.result c.form_of-form.ensures (omega (arith, c.if-form-lt-CAPTURED.false))
-    c.requires.0.1) c.wide-place.ensures.0 refl
+    c.requires.at_in_bounds.1) c.wide-place.ensures.0 refl
     (omega (arith, c.if-form-lt-CAPTURED.false, c.if-form-eq-CAPTURED.false, c.if-form-eq-VALUE.false)) c.if-form-lt-AHEAD.true
 
 pub returns-then-form-lt-CLOSURE : goal.returns-then-form-lt-CLOSURE
@@ -78,16 +77,16 @@ returns-then-kind-lt-FUNCTION c =
     (get_or c.args.kinds.now c.wide-place.result 0)
     (two_wide c.args.kinds.now c.args.code.now c.args.at c.args.upvalues
     c.form_of-form.result c.form_of-form.ensures (omega (arith, c.if-form-lt-CAPTURED.false))
-    c.requires.0.1) c.wide-place.ensures.0 refl
+    c.requires.at_in_bounds.1) c.wide-place.ensures.0 refl
     (let n = known_form c.args.kinds.now c.args.code.now c.args.at
-    c.args.upvalues c.form_of-form.result c.form_of-form.ensures c.requires.0.1 in
+    c.args.upvalues c.form_of-form.result c.form_of-form.ensures c.requires.at_in_bounds.1 in
     omega (arith, n, c.if-form-lt-CLOSURE.false)) c.if-kind-lt-FUNCTION.true
 
 pub overflow_add-at-2 : goal.overflow_add-at-2
 overflow_add-at-2 c =
     let t = (two_wide c.args.kinds.now c.args.code.now c.args.at c.args.upvalues
-    c.form_of-form.result c.form_of-form.ensures (omega (arith, c.if-form-lt-CAPTURED.false)) c.requires.0.1)
-    in omega (arith, t, c.requires.1)
+    c.form_of-form.result c.form_of-form.ensures (omega (arith, c.if-form-lt-CAPTURED.false)) c.requires.at_in_bounds.1)
+    in omega (arith, t, c.requires.code_in_bounds)
 
 pub pairs-requires : goal.pairs-requires
 pairs-requires c =
@@ -96,10 +95,10 @@ pairs-requires c =
     (get_or c.args.kinds.now c.wide-place.result 0)
     (two_wide c.args.kinds.now c.args.code.now c.args.at
     c.args.upvalues c.form_of-form.result c.form_of-form.ensures
-    (omega (arith, c.if-form-lt-CAPTURED.false)) c.requires.0.1) c.wide-place.ensures.0 refl c.wide32.result
+    (omega (arith, c.if-form-lt-CAPTURED.false)) c.requires.at_in_bounds.1) c.wide-place.ensures.0 refl c.wide32.result
     (let n = known_form c.args.kinds.now c.args.code.now c.args.at
-    c.args.upvalues c.form_of-form.result c.form_of-form.ensures c.requires.0.1 in
-    omega (arith, n, c.if-form-lt-CLOSURE.false)) (omega (arith, c.wide32.ensures.0, c.if-kind-lt-FUNCTION.false)) c.requires.1
+    c.args.upvalues c.form_of-form.result c.form_of-form.ensures c.requires.at_in_bounds.1 in
+    omega (arith, n, c.if-form-lt-CLOSURE.false)) (omega (arith, c.wide32.ensures.0, c.if-kind-lt-FUNCTION.false)) c.requires.code_in_bounds
 
 pub returns : goal.returns
 returns c =
@@ -108,7 +107,7 @@ returns c =
     (get_or c.args.kinds.now c.wide-place.result 0)
     (two_wide c.args.kinds.now c.args.code.now c.args.at c.args.upvalues
     c.form_of-form.result c.form_of-form.ensures (omega (arith, c.if-form-lt-CAPTURED.false))
-    c.requires.0.1) c.wide-place.ensures.0 refl c.wide32.result
+    c.requires.at_in_bounds.1) c.wide-place.ensures.0 refl c.wide32.result
     (let n = known_form c.args.kinds.now c.args.code.now c.args.at
-    c.args.upvalues c.form_of-form.result c.form_of-form.ensures c.requires.0.1 in
+    c.args.upvalues c.form_of-form.result c.form_of-form.ensures c.requires.at_in_bounds.1 in
     omega (arith, n, c.if-form-lt-CLOSURE.false)) (omega (arith, c.wide32.ensures.0, c.if-kind-lt-FUNCTION.false))

@@ -1,9 +1,6 @@
 -- `pairs` meets its contract.
-use Prim.Native.Nat.{◌+◌, ◌-◌, ◌*◌, ◌≤◌}
 use native.Mathlib.Omega.{arith}
-use mathlib.Core.Path.{◌≡◌, sym, ◌∙◌}
-use lib.ListN.{take, drop}
-use Rattle.rules.specs.Division.{pairs_fit}
+use mathlib.Core.Path.{sym, ◌∙◌}
 use Rattle.image_fit.proofs.Pairing.{pair_bad, pair_local, pair_past, pair_outer, pairs_done, pairs_begin}
 use Rattle.image_fit.proofs.pairs.Goals as goal
 

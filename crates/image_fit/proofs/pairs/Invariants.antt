@@ -1,10 +1,8 @@
 -- `pairs` meets its contract.
 use Prim.Native.Nat.{◌+◌, ◌-◌, ◌*◌, ◌≤◌}
-use native.Mathlib.Omega.{arith}
-use mathlib.Core.Path.{◌≡◌, sym, ◌∙◌}
+use mathlib.Core.Path.{◌≡◌}
 use lib.ListN.{take, drop}
 use Rattle.rules.specs.Division.{pairs_fit}
-use Rattle.image_fit.proofs.Pairing.{pair_bad, pair_local, pair_past, pair_outer, pairs_done, pairs_begin}
 use Rattle.image_fit.proofs.pairs.Given as goal
 
 abbrev pub invariant-loop-i : goal.invariant-loop-i

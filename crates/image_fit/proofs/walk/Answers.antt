@@ -1,14 +1,9 @@
 -- `walk` meets its contract.
-use mathlib.Core.Path.{ap}
-use mathlib.Core.Bool.{not}
-use Prim.Native.Nat.{◌+◌, ◌-◌, ◌≤◌}
+use Prim.Native.Nat.{◌-◌}
 use native.Mathlib.Omega.{arith}
-use mathlib.Core.Path.{◌≡◌, sym, ◌∙◌}
-use lib.ListN.{length}
-use borrow.Author.Tests.{not-true, not-false}
-use Rattle.image_code.specs.Table.{division}
+use mathlib.Core.Path.{sym, ◌∙◌}
 use Rattle.rules.specs.Division.{operands_fit}
-use Rattle.image_code.specs.Table.{kinds_in, judged, from}
+use Rattle.image_code.specs.Table.{kinds_in}
 use Rattle.image_fit.proofs.Judging.{judge_begin, judge_skip, judge_none, judge_cut, judge_refuse, judge_more, judge_done}
 use Rattle.image_fit.proofs.walk.Goals as goal
 
@@ -57,7 +52,10 @@ returns-then-code-at c =
 
 pub fits-requires : goal.fits-requires
 fits-requires c =
-    ((c.loop-at-test.true, omega (arith, c.width_at-w.ensures, c.if-w-eq0.false)), omega (arith, c.width_at-w.ensures, c.if-code-at.false))
+    record {
+      at_in_bounds = (c.loop-at-test.true, omega (arith, c.width_at-w.ensures, c.if-w-eq0.false));
+      code_in_bounds = omega (arith, c.width_at-w.ensures, c.if-code-at.false);
+    }
 
 pub returns-then-not-fits : goal.returns-then-not-fits
 returns-then-not-fits c =
@@ -65,7 +63,7 @@ returns-then-not-fits c =
     (operands_fit (kinds_in c.args.kinds.now) c.args.upvalues) c.loop-at.n
     c.loop-at.at c.loop-at.skip c.width_at-w.result (omega (arith, c.if-skip-gt0.false))
     c.loop-at-test.true c.width_at-w.ensures (omega (arith, c.if-w-eq0.false))
-    (sym c.fits2.ensures ∙ not-true c.fits2.result (ap not c.if-not-fits.true)))
+    (sym c.fits.ensures ∙ c.if-not-fits.true))
 
 pub overflow_sub-skip-else-skip-gt0 : goal.overflow_sub-skip-else-skip-gt0
 overflow_sub-skip-else-skip-gt0 c = omega (arith, c.if-w-eq0.false)
@@ -88,7 +86,7 @@ loop-at-preserved c = (
       c.args.code.now (operands_fit (kinds_in c.args.kinds.now) c.args.upvalues)
       c.loop-at.n c.loop-at.at c.loop-at.skip c.width_at-w.result
       (omega (arith, c.if-skip-gt0.false)) c.loop-at-test.true c.width_at-w.ensures
-      (omega (arith, c.if-w-eq0.false)) (sym c.fits2.ensures ∙ not-false c.fits2.result (ap not c.if-not-fits.false)),
+      (omega (arith, c.if-w-eq0.false)) (sym c.fits.ensures ∙ c.if-not-fits.false),
 )
 
 pub returns : goal.returns

@@ -1,13 +1,10 @@
 -- `walk` meets its contract.
 use Prim.Native.Nat.{◌+◌, ◌-◌, ◌≤◌}
-use native.Mathlib.Omega.{arith}
-use mathlib.Core.Path.{◌≡◌, sym, ◌∙◌}
+use mathlib.Core.Path.{◌≡◌}
 use lib.ListN.{length}
-use borrow.Author.Tests.{not-true, not-false}
 use Rattle.image_code.specs.Table.{division}
 use Rattle.rules.specs.Division.{operands_fit}
 use Rattle.image_code.specs.Table.{kinds_in, judged, from}
-use Rattle.image_fit.proofs.Judging.{judge_begin, judge_skip, judge_none, judge_cut, judge_refuse, judge_more, judge_done}
 use Rattle.image_fit.proofs.walk.Given as goal
 
 abbrev pub invariant-loop-at : goal.invariant-loop-at

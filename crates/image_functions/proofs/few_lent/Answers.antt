@@ -1,13 +1,12 @@
 -- `few_lent` meets its contract.
-use Prim.Native.Nat.{ℕ, ◌+◌, ◌<◌, ◌≤◌}
 use native.Mathlib.Omega.{arith}
-use mathlib.Core.Path.{◌≡◌, ◌∙◌}
-use lib.ListN.{length}
-use borrow.Author.Rules.{rules}
 use Rattle.image_functions.proofs.few_lent.Goals as goal
 
 pub judge_with-requires : goal.judge_with-requires
-judge_with-requires c = (c.requires.0, (omega (arith, c.requires.1.0), λ p h. omega (arith, c.requires.1.1)))
+judge_with-requires c = record {
+  count_bound = c.requires.count_bound;
+  stamps_least_in_bounds = (omega (arith, c.requires.stamps_len.0), λ p h. omega (arith, c.requires.stamps_len.1));
+}
 
 pub returns : goal.returns
 returns c = c.judge_with.ensures

@@ -1,9 +1,4 @@
 -- `judge` meets its contract.
-use Prim.Native.Nat.{ℕ, ◌+◌, ◌<◌, ◌≤◌}
-use native.Mathlib.Omega.{arith}
-use mathlib.Core.Path.{◌≡◌, ◌∙◌}
-use lib.ListN.{length}
-use borrow.Author.Rules.{rules}
 use Rattle.image_functions.proofs.judge.Goals as goal
 
 pub judge_small-requires : goal.judge_small-requires

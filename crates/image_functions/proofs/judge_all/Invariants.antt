@@ -1,12 +1,7 @@
 -- `judge_all` meets its contract: the functions that are passed were judged, and what is left comes to what there was.
-use Prim.Native.Nat.{ℕ, ◌+◌, ◌-◌, ◌*◌, ◌<◌, ◌≤◌}
-use native.Mathlib.Omega.{arith}
-use mathlib.Core.Path.{◌≡◌, refl, sym, ◌∙◌, ap}
-use mathlib.Core.Bool.{true, false}
-use lib.ListN.{length, get_or}
-use borrow.Author.Rules.{rules}
-use borrow.Author.Tests.{not-true, not-false}
-use Rattle.image_functions.proofs.All.{Going, going_begin, going_stop, next_is, going_on, going_done}
+use Prim.Native.Nat.{◌-◌}
+use lib.ListN.{length}
+use Rattle.image_functions.proofs.All.{Going}
 use Rattle.image_functions.proofs.judge_all.Given as goal
 
 abbrev pub invariant-loop-k : goal.invariant-loop-k

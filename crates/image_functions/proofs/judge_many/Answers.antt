@@ -1,15 +1,13 @@
 -- `judge_many` meets its contract.
-use Prim.Native.Nat.{ℕ, ◌+◌, ◌<◌, ◌≤◌}
-use native.Mathlib.Omega.{arith}
-use mathlib.Core.Path.{◌≡◌, ◌∙◌}
-use lib.ListN.{length}
 use Rattle.image_functions.proofs.One.{blank_size}
 use Rattle.image_code.specs.Table.{window_size}
-use borrow.Author.Rules.{rules}
 use Rattle.image_functions.proofs.judge_many.Goals as goal
 
 pub many_lent-requires : goal.many_lent-requires
-many_lent-requires c = (c.requires, (blank_size 4096, blank_size window_size))
+many_lent-requires c = record {
+  count_bound = c.requires;
+  stamps_len = (blank_size 4096, blank_size window_size);
+}
 
 pub returns : goal.returns
 returns c = c.many_lent.ensures

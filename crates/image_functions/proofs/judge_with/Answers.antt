@@ -1,14 +1,12 @@
 -- `judge_with` meets its contract.
-use Prim.Native.Nat.{ℕ, ◌+◌, ◌<◌, ◌≤◌}
-use native.Mathlib.Omega.{arith}
-use mathlib.Core.Path.{◌≡◌, ◌∙◌}
-use lib.ListN.{length}
 use Rattle.image_functions.proofs.One.{blank_size}
-use borrow.Author.Rules.{rules}
 use Rattle.image_functions.proofs.judge_with.Goals as goal
 
 pub judge_all-requires : goal.judge_all-requires
-judge_all-requires c = (c.requires.0, (blank_size 256, c.requires.1))
+judge_all-requires c = record {
+  count_bound = c.requires.count_bound;
+  words_len = (blank_size 256, c.requires.stamps_least_in_bounds);
+}
 
 pub shape_of-counts : goal.shape_of-counts
 shape_of-counts c = c.judge_all.auto.counts

@@ -1,10 +1,8 @@
 -- `code_fits` meets its contract.
-use mathlib.Core.Bool.{not}
 use mathlib.Core.Path.{refl, sym, ◌∙◌, ap}
 use mathlib.Core.Bool.{Bool}
 use Rattle.rules.specs.Base.{if◌then◌else◌}
 use lib.ListN.{length}
-use borrow.Author.Tests.{not-true, not-false}
 use Rattle.rules.specs.Division.{operands_fit}
 use Rattle.image_code.specs.Table.{kinds_in, division, from, judged, judged_code}
 use Rattle.image_closures.proofs.Counting.{closing_begin}
@@ -12,7 +10,6 @@ use Rattle.image_closures.proofs.Named.{counted_once}
 use Rattle.image_fit.proofs.Judging.{division_is}
 use Rattle.image_judge.proofs.Walked.{walked_no, walked_yes, lands_no, once_is}
 use Rattle.image_code.specs.declared.Verdict.TheVariants.{Yes, No}
-use borrow.Author.Rules.{rules}
 use Rattle.image_judge.proofs.code_fits.Goals as goal
 
 pub returns-in_default : goal.returns-in_default
@@ -43,7 +40,7 @@ returns-then-not-jumps c =
     (sym c.in-Yes.is ∙ c.walk.ensures ∙ ap
     (judged (operands_fit (kinds_in c.args.kinds.now) c.args.upvalues) 0)
     (division_is (kinds_in c.args.kinds.now) c.args.code.now)))
-    (sym (not-true c.jumps.result (ap not c.if-not-jumps.true)) ∙ c.jumps.ensures) ∙ ap
+    (sym c.if-not-jumps.true ∙ c.jumps.ensures) ∙ ap
     (judged_code (kinds_in c.args.kinds.now) c.args.upvalues (length c.args.code.now))
     (sym (division_is (kinds_in c.args.kinds.now) c.args.code.now))
 
@@ -61,7 +58,7 @@ shape_of-ring-then-not-all_once c = c.jumps.auto.ring
 
 pub returns-then-not-all_once : goal.returns-then-not-all_once
 returns-then-not-all_once c =
-    ap (λ (b : Bool). if b then Yes c.in-Yes.n else No) (sym (not-true c.all_once.result (ap not c.if-not-all_once.true))) ∙ once_is
+    ap (λ (b : Bool). if b then Yes c.in-Yes.n else No) (sym c.if-not-all_once.true) ∙ once_is
     (kinds_in c.args.kinds.now) c.args.upvalues (length c.args.code.now)
     c.in-Yes.n (from (kinds_in c.args.kinds.now) c.args.code.now 0 0)
     (walked_yes (operands_fit (kinds_in c.args.kinds.now) c.args.upvalues) c.in-Yes.n
@@ -69,8 +66,8 @@ returns-then-not-all_once c =
     (sym c.in-Yes.is ∙ c.walk.ensures ∙ ap
     (judged (operands_fit (kinds_in c.args.kinds.now) c.args.upvalues) 0)
     (division_is (kinds_in c.args.kinds.now) c.args.code.now))) c.all_once.result
-    (sym (not-false c.jumps.result (ap not c.if-not-jumps.false)) ∙ c.jumps.ensures)
-    (c.all_once.ensures ∙ counted_once c.args.kinds.now c.closures.new.1.1.0
+    (sym c.if-not-jumps.false ∙ c.jumps.ensures)
+    (c.all_once.ensures ∙ counted_once c.args.kinds.now c.closures.new.named
     c.args.code.now c.closures.ensures) ∙ ap
     (judged_code (kinds_in c.args.kinds.now) c.args.upvalues (length c.args.code.now))
     (sym (division_is (kinds_in c.args.kinds.now) c.args.code.now))
@@ -80,7 +77,7 @@ shape_of-ring c = c.jumps.auto.ring
 
 pub returns : goal.returns
 returns c =
-    ap (λ (b : Bool). if b then Yes c.in-Yes.n else No) (sym (not-false c.all_once.result (ap not c.if-not-all_once.false))) ∙ once_is
+    ap (λ (b : Bool). if b then Yes c.in-Yes.n else No) (sym c.if-not-all_once.false) ∙ once_is
     (kinds_in c.args.kinds.now) c.args.upvalues (length c.args.code.now)
     c.in-Yes.n (from (kinds_in c.args.kinds.now) c.args.code.now 0 0)
     (walked_yes (operands_fit (kinds_in c.args.kinds.now) c.args.upvalues) c.in-Yes.n
@@ -88,8 +85,8 @@ returns c =
     (sym c.in-Yes.is ∙ c.walk.ensures ∙ ap
     (judged (operands_fit (kinds_in c.args.kinds.now) c.args.upvalues) 0)
     (division_is (kinds_in c.args.kinds.now) c.args.code.now))) c.all_once.result
-    (sym (not-false c.jumps.result (ap not c.if-not-jumps.false)) ∙ c.jumps.ensures)
-    (c.all_once.ensures ∙ counted_once c.args.kinds.now c.closures.new.1.1.0
+    (sym c.if-not-jumps.false ∙ c.jumps.ensures)
+    (c.all_once.ensures ∙ counted_once c.args.kinds.now c.closures.new.named
     c.args.code.now c.closures.ensures) ∙ ap
     (judged_code (kinds_in c.args.kinds.now) c.args.upvalues (length c.args.code.now))
     (sym (division_is (kinds_in c.args.kinds.now) c.args.code.now))

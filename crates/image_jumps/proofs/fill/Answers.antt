@@ -1,15 +1,14 @@
 -- `fill` meets its contract.
-use Prim.Native.Nat.{◌-◌, ◌≤◌}
-use mathlib.Core.Path.{◌≡◌, refl, ◌∙◌}
+use Prim.Native.Nat.{◌-◌}
+use mathlib.Core.Path.{refl, ◌∙◌}
 use native.Mathlib.Omega.{arith}
-use lib.ListN.{length, length-set}
+use lib.ListN.{length-set}
 use Rattle.image_code.specs.Table.{kinds_in}
-use Rattle.image_jumps.specs.Ring.{Filled}
 use Rattle.image_jumps.proofs.Ring.{fill_skip, fill_start, fill_width, filled_to}
 use Rattle.image_jumps.proofs.fill.Goals as goal
 
 pub loop-at-init : goal.loop-at-init
-loop-at-init c = (c.requires.1.0, c.requires.1.1, c.requires.0, refl)
+loop-at-init c = (c.requires.at_le_want.0, c.requires.at_le_want.1, c.requires.filled, refl)
 
 pub bounds-ring-slot : goal.bounds-ring-slot
 bounds-ring-slot c = c.loop-at.invariant.2.room c.loop-at.at (omega arith)

@@ -1,11 +1,9 @@
 -- `fill` meets its contract.
 use Prim.Native.Nat.{◌-◌, ◌≤◌}
-use mathlib.Core.Path.{◌≡◌, refl, ◌∙◌}
-use native.Mathlib.Omega.{arith}
-use lib.ListN.{length, length-set}
+use mathlib.Core.Path.{◌≡◌}
+use lib.ListN.{length}
 use Rattle.image_code.specs.Table.{kinds_in}
 use Rattle.image_jumps.specs.Ring.{Filled}
-use Rattle.image_jumps.proofs.Ring.{fill_skip, fill_start, fill_width, filled_to}
 use Rattle.image_jumps.proofs.fill.Given as goal
 
 abbrev pub invariant-loop-at : goal.invariant-loop-at

@@ -1,14 +1,11 @@
 -- `jumps` meets its contract.
-use mathlib.Core.Path.{ap}
-use mathlib.Core.Bool.{not}
 use Prim.Native.Nat.{◌+◌, ◌-◌}
-use mathlib.Core.Path.{◌≡◌, refl, sym, ◌∙◌}
+use mathlib.Core.Path.{refl, sym, ◌∙◌}
 use native.Mathlib.Omega.{arith}
-use borrow.Author.Tests.{not-true, not-false}
-use lib.ListN.{length, get_or, drop}
+use lib.ListN.{get_or, drop}
 use Rattle.image_code.specs.Forms.{width}
 use Rattle.image_code.specs.Table.{kinds_in}
-use Rattle.image_jumps.proofs.Jumping.{Jumping, near_of, jump_begin, jump_skip, jump_width, jump_fits, jump_bad, jump_on, jump_done, filled_as, lead_least}
+use Rattle.image_jumps.proofs.Jumping.{near_of, jump_begin, jump_skip, jump_width, jump_fits, jump_bad, jump_on, jump_done, filled_as, lead_least}
 use Rattle.image_jumps.proofs.jumps.Goals as goal
 
 pub loop-at-init : goal.loop-at-init
@@ -42,34 +39,32 @@ pub least-requires : goal.least-requires
 least-requires c = omega arith
 
 pub fill-lead-requires : goal.fill-lead-requires
-fill-lead-requires c = (
-  c.loop-at.invariant.0.filled,
-  (
+fill-lead-requires c = record {
+  filled = c.loop-at.invariant.0.filled;
+  at_le_want = (
     lead_least (kinds_in c.args.kinds.now) c.args.code.now
         c.loop-at.ring c.loop-at.at c.loop-at.skip c.loop-at.lead.at
-        c.loop-at.lead.skip c.loop-at.invariant.0 c.loop-at-test.true c.least.result c.least.ensures.1,
-    c.least.ensures.0.0,
-  ),
-)
+        c.loop-at.lead.skip c.loop-at.invariant.0 c.loop-at-test.true c.least.result c.least.ensures.by_index,
+    c.least.ensures.upper_bound.0,
+  );
+}
 
 pub lands-requires : goal.lands-requires
-lands-requires c = (
-  c.loop-at-test.true,
-  (
-    jump_fits (kinds_in c.args.kinds.now) c.args.code.now
-        c.loop-at.ring c.loop-at.at c.loop-at.skip
-        (width (kinds_in c.args.kinds.now) (get_or c.args.code.now c.loop-at.at 0)
-        (drop (c.loop-at.at + 1) c.args.code.now)) c.loop-at.lead.at
-        c.loop-at.lead.skip c.loop-at.invariant.0 (omega (arith, c.if-skip-gt0.false))
-        c.loop-at-test.true refl,
-    (
-      near_of (kinds_in c.args.kinds.now) c.args.code.now
-          c.fill-lead.new.1.1.0 c.loop-at.at c.least.result c.fill-lead.result.skip
-          c.fill-lead.ensures.1 c.least.ensures.0.1 c.least.ensures.1,
-      c.fill-lead.ensures.1.room,
-    ),
-  ),
-)
+lands-requires c = record {
+  at_in_bounds = c.loop-at-test.true;
+  code_in_bounds = jump_fits (kinds_in c.args.kinds.now) c.args.code.now
+      c.loop-at.ring c.loop-at.at c.loop-at.skip
+      (width (kinds_in c.args.kinds.now) (get_or c.args.code.now c.loop-at.at 0)
+      (drop (c.loop-at.at + 1) c.args.code.now)) c.loop-at.lead.at
+      c.loop-at.lead.skip c.loop-at.invariant.0 (omega (arith, c.if-skip-gt0.false))
+      c.loop-at-test.true refl;
+  near = (
+    near_of (kinds_in c.args.kinds.now) c.args.code.now
+        c.fill-lead.new.ring c.loop-at.at c.least.result c.fill-lead.result.skip
+        c.fill-lead.ensures.1 c.least.ensures.upper_bound.1 c.least.ensures.by_index,
+    c.fill-lead.ensures.1.room,
+  );
+}
 
 pub shape_of-ring-then-not-lands : goal.shape_of-ring-then-not-lands
 shape_of-ring-then-not-lands c = c.fill-lead.auto.ring ∙ c.loop-at.invariant.1
@@ -81,7 +76,7 @@ returns-then-not-lands c =
     (width (kinds_in c.args.kinds.now) (get_or c.args.code.now c.loop-at.at 0)
     (drop (c.loop-at.at + 1) c.args.code.now)) c.loop-at.lead.at
     c.loop-at.lead.skip c.loop-at.invariant.0 (omega (arith, c.if-skip-gt0.false))
-    c.loop-at-test.true refl (sym (not-true c.lands.result (ap not c.if-not-lands.true)) ∙ c.lands.ensures)
+    c.loop-at-test.true refl (sym c.if-not-lands.true ∙ c.lands.ensures)
 
 pub width_at-skip-requires : goal.width_at-skip-requires
 width_at-skip-requires c = c.loop-at-test.true
@@ -104,13 +99,13 @@ loop-at-preserved c = (
   jump_on (kinds_in c.args.kinds.now) c.args.code.now c.loop-at.ring
       c.loop-at.at c.loop-at.skip c.width_at-skip.result c.loop-at.lead.at
       c.loop-at.lead.skip c.loop-at.invariant.0 (omega (arith, c.if-skip-gt0.false))
-      c.loop-at-test.true c.width_at-skip.ensures c.fill-lead.new.1.1.0 c.fill-lead.result.at
+      c.loop-at-test.true c.width_at-skip.ensures c.fill-lead.new.ring c.fill-lead.result.at
       c.fill-lead.result.skip (filled_as (kinds_in c.args.kinds.now) c.args.code.now
-      c.fill-lead.new.1.1.0 c.least.result c.fill-lead.result.at
+      c.fill-lead.new.ring c.least.result c.fill-lead.result.at
       c.fill-lead.result.skip c.fill-lead.ensures.0 c.fill-lead.ensures.1)
-      (omega (arith, c.fill-lead.ensures.0, c.least.ensures.0.0))
-      (omega (arith, c.fill-lead.ensures.0, c.least.ensures.0.1))
-      (sym (not-false c.lands.result (ap not c.if-not-lands.false)) ∙ c.lands.ensures),
+      (omega (arith, c.fill-lead.ensures.0, c.least.ensures.upper_bound.0))
+      (omega (arith, c.fill-lead.ensures.0, c.least.ensures.upper_bound.1))
+      (sym c.if-not-lands.false ∙ c.lands.ensures),
   c.fill-lead.auto.ring ∙ c.loop-at.invariant.1,
 )
 

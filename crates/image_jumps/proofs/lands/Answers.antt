@@ -5,7 +5,6 @@ use mathlib.Core.Path.{◌≡◌, refl}
 use lib.ListN.{get_or}
 use Rattle.image_code.specs.Table.{kinds_in}
 use Rattle.image_jumps.proofs.Landing.{no_jump, jump_room, ahead_end, ahead_past, ahead_near, back_far, back_past, back_near}
-use borrow.Author.Rules.{rules}
 use Rattle.image_jumps.proofs.lands.Goals as goal
 
 pub returns-then-op-lt-JUMP : goal.returns-then-op-lt-JUMP
@@ -18,22 +17,22 @@ returns-then-op-gt-LOOP c =
 
 pub overflow_add-at : goal.overflow_add-at
 overflow_add-at c =
-    let r = jump_room (kinds_in c.args.kinds.now) c.args.code.now c.args.at _ refl c.if-op-lt-JUMP.false c.if-op-gt-LOOP.false c.requires.1.0 in
+    let r = jump_room (kinds_in c.args.kinds.now) c.args.code.now c.args.at _ refl c.if-op-lt-JUMP.false c.if-op-gt-LOOP.false c.requires.code_in_bounds in
     omega (arith, r)
 
 pub bounds-code-at-2 : goal.bounds-code-at-2
 bounds-code-at-2 c =
-    let r = jump_room (kinds_in c.args.kinds.now) c.args.code.now c.args.at _ refl c.if-op-lt-JUMP.false c.if-op-gt-LOOP.false c.requires.1.0 in
+    let r = jump_room (kinds_in c.args.kinds.now) c.args.code.now c.args.at _ refl c.if-op-lt-JUMP.false c.if-op-gt-LOOP.false c.requires.code_in_bounds in
     omega (arith, r)
 
 pub overflow_add-at-2 : goal.overflow_add-at-2
 overflow_add-at-2 c =
-    let r = jump_room (kinds_in c.args.kinds.now) c.args.code.now c.args.at _ refl c.if-op-lt-JUMP.false c.if-op-gt-LOOP.false c.requires.1.0 in
+    let r = jump_room (kinds_in c.args.kinds.now) c.args.code.now c.args.at _ refl c.if-op-lt-JUMP.false c.if-op-gt-LOOP.false c.requires.code_in_bounds in
     omega (arith, r)
 
 pub bounds-code-at-3 : goal.bounds-code-at-3
 bounds-code-at-3 c =
-    let r = jump_room (kinds_in c.args.kinds.now) c.args.code.now c.args.at _ refl c.if-op-lt-JUMP.false c.if-op-gt-LOOP.false c.requires.1.0 in
+    let r = jump_room (kinds_in c.args.kinds.now) c.args.code.now c.args.at _ refl c.if-op-lt-JUMP.false c.if-op-gt-LOOP.false c.requires.code_in_bounds in
     omega (arith, r)
 
 pub overflow_mul-far : goal.overflow_mul-far
@@ -46,13 +45,13 @@ overflow_add-far c =
 
 pub overflow_add-next : goal.overflow_add-next
 overflow_add-next c =
-    let r = jump_room (kinds_in c.args.kinds.now) c.args.code.now c.args.at _ refl c.if-op-lt-JUMP.false c.if-op-gt-LOOP.false c.requires.1.0 in
+    let r = jump_room (kinds_in c.args.kinds.now) c.args.code.now c.args.at _ refl c.if-op-lt-JUMP.false c.if-op-gt-LOOP.false c.requires.code_in_bounds in
     omega (arith, r)
 
 pub overflow_add-to : goal.overflow_add-to
 overflow_add-to c =
     let far = c.wide.result + 256 * c.wide-2.result in
-    let r = jump_room (kinds_in c.args.kinds.now) c.args.code.now c.args.at _ refl c.if-op-lt-JUMP.false c.if-op-gt-LOOP.false c.requires.1.0 in
+    let r = jump_room (kinds_in c.args.kinds.now) c.args.code.now c.args.at _ refl c.if-op-lt-JUMP.false c.if-op-gt-LOOP.false c.requires.code_in_bounds in
     omega (arith, r, c.wide.ensures.1, c.wide-2.ensures.1)
 
 pub returns-then-to-code : goal.returns-then-to-code
@@ -71,7 +70,7 @@ returns-then-to-code-2 c =
 
 pub bounds-ring-to : goal.bounds-ring-to
 bounds-ring-to c =
-    c.requires.1.1.1 _ (omega arith)
+    c.requires.near.1 _ (omega arith)
 
 pub returns-then-op-lt-LOOP : goal.returns-then-op-lt-LOOP
 returns-then-op-lt-LOOP c =
@@ -79,7 +78,7 @@ returns-then-op-lt-LOOP c =
     let is-far : far ≡ get_or c.args.code.now (c.args.at + 1) 0 + 256 * get_or c.args.code.now (c.args.at + 2) 0 =
     omega (arith, c.wide.ensures.0, c.wide-2.ensures.0) in
     let small : far ≤ 65535 = omega (arith, c.wide.ensures.1, c.wide-2.ensures.1) in
-    ahead_near (kinds_in c.args.kinds.now) c.args.code.now c.args.at _ refl far is-far c.args.ring.now c.requires.1.1.0 small c.if-op-lt-JUMP.false
+    ahead_near (kinds_in c.args.kinds.now) c.args.code.now c.args.at _ refl far is-far c.args.ring.now c.requires.near.0 small c.if-op-lt-JUMP.false
     c.if-op-lt-LOOP.true (omega arith)
 
 pub returns-then-far-next : goal.returns-then-far-next
@@ -99,7 +98,7 @@ returns-then-to-code-3 c =
 
 pub bounds-ring-to-2 : goal.bounds-ring-to-2
 bounds-ring-to-2 c =
-    c.requires.1.1.1 _ (omega arith)
+    c.requires.near.1 _ (omega arith)
 
 pub returns : goal.returns
 returns c =
@@ -107,5 +106,5 @@ returns c =
     let is-far : far ≡ get_or c.args.code.now (c.args.at + 1) 0 + 256 * get_or c.args.code.now (c.args.at + 2) 0 =
     omega (arith, c.wide.ensures.0, c.wide-2.ensures.0) in
     let small : far ≤ 65535 = omega (arith, c.wide.ensures.1, c.wide-2.ensures.1) in
-    back_near (kinds_in c.args.kinds.now) c.args.code.now c.args.at _ refl far is-far c.args.ring.now c.requires.1.1.0 small
+    back_near (kinds_in c.args.kinds.now) c.args.code.now c.args.at _ refl far is-far c.args.ring.now c.requires.near.0 small
     (omega (arith, c.if-op-gt-LOOP.false, c.if-op-lt-LOOP.false)) c.if-far-next.false c.if-to-code-3.false

@@ -1,8 +1,4 @@
 -- `block_once` meets its contract.
-use Prim.Native.Nat.{ℕ, ◌+◌, ◌<◌, ◌≤◌}
-use native.Mathlib.Omega.{arith}
-use mathlib.Core.Path.{◌≡◌, sym, ◌∙◌}
-use lib.ListN.{length}
 use Rattle.image_naming.proofs.block_once.Goals as goal
 
 pub few_once-requires : goal.few_once-requires

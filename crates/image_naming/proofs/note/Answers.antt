@@ -1,13 +1,7 @@
 -- `note` meets its contract.
-use Prim.Native.Nat.{ℕ, ◌+◌, ◌-◌, ◌*◌, ◌/◌, ◌%◌, ◌<◌, ◌≤◌}
+use Prim.Native.Nat.{◌-◌}
 use native.Mathlib.Omega.{arith}
-use mathlib.Core.Path.{◌≡◌, refl, sym, ◌∙◌, ap}
-use mathlib.Core.Bool.{true, false}
-use lib.ListN.{length, get_or}
-use lib.Dec.{eqb}
-use borrow.Author.Tests.{not-true, not-false, eq-eqb, ne_eqb}
 use Rattle.image_naming.proofs.Counting.{note_none, note_below, note_above, note_full, note_more}
-use borrow.Author.Rules.{rules}
 use Rattle.image_naming.proofs.note.Goals as goal
 
 pub returns-then-word-ne3 : goal.returns-then-word-ne3

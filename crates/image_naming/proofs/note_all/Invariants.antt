@@ -1,13 +1,6 @@
 -- `note_all` meets its contract: what was noted is the functions that are passed.
-use Prim.Native.Nat.{ℕ, ◌+◌, ◌-◌, ◌*◌, ◌/◌, ◌%◌, ◌<◌, ◌≤◌}
-use native.Mathlib.Omega.{arith}
-use mathlib.Core.Path.{◌≡◌, refl, sym, ◌∙◌, ap}
-use mathlib.Core.Bool.{true, false}
-use lib.ListN.{length, get_or}
-use lib.Dec.{eqb}
-use borrow.Author.Rules.{rules}
-use borrow.Author.Tests.{not-true, not-false, eq-eqb, ne_eqb}
-use Rattle.image_naming.proofs.Walking.{NotingAll, all_begin_with, all_capped, all_lost, all_on, all_done}
+use Prim.Native.Nat.{◌-◌}
+use Rattle.image_naming.proofs.Walking.{NotingAll}
 use Rattle.image_naming.proofs.note_all.Given as goal
 
 abbrev pub invariant-loop-i : goal.invariant-loop-i

@@ -1,15 +1,9 @@
 -- `note_constants` meets its contract: what was noted is the constants that are passed.
-use Prim.Native.Nat.{ℕ, ◌+◌, ◌-◌, ◌*◌, ◌/◌, ◌%◌, ◌<◌, ◌≤◌}
 use native.Mathlib.Omega.{arith}
-use mathlib.Core.Path.{◌≡◌, refl, sym, ◌∙◌, ap}
-use mathlib.Core.Bool.{true, false}
-use lib.ListN.{length, get_or}
-use lib.Dec.{eqb}
-use borrow.Author.Rules.{rules}
-use borrow.Author.Tests.{not-true, not-false, eq-eqb, ne_eqb}
+use mathlib.Core.Path.{sym, ◌∙◌}
 use Rattle.rules.specs.ImageFile.{read_constant}
 use Rattle.image_records.proofs.Records.{constant_is, constant_fails}
-use Rattle.image_naming.proofs.Walking.{Noting, noting_begin, noting_stop, noting_on, noting_done, noting_capped}
+use Rattle.image_naming.proofs.Walking.{noting_begin, noting_stop, noting_on, noting_done, noting_capped}
 use Rattle.image_naming.proofs.note_constants.Goals as goal
 
 pub loop-i-init : goal.loop-i-init

@@ -1,14 +1,8 @@
 -- `note_function` meets its contract.
-use Prim.Native.Nat.{ℕ, ◌+◌, ◌-◌, ◌*◌, ◌/◌, ◌%◌, ◌<◌, ◌≤◌}
 use native.Mathlib.Omega.{arith}
-use mathlib.Core.Path.{◌≡◌, refl, sym, ◌∙◌, ap}
-use mathlib.Core.Bool.{true, false}
-use lib.ListN.{length, get_or}
-use lib.Dec.{eqb}
-use borrow.Author.Tests.{not-true, not-false, eq-eqb, ne_eqb}
+use mathlib.Core.Path.{sym, ◌∙◌}
 use Rattle.image_records.proofs.Records.{headed}
 use Rattle.image_naming.proofs.Walking.{function_headless, function_cut, function_done}
-use borrow.Author.Rules.{rules}
 use Rattle.image_naming.proofs.note_function.Goals as goal
 
 pub returns-in_default : goal.returns-in_default

@@ -1,13 +1,11 @@
 -- `code_at` meets its contract.
 use mathlib.Core.Bool.{not}
-use Prim.Native.Nat.{ℕ, ◌+◌, ◌-◌, ◌*◌, ◌<◌, ◌≤◌}
+use Prim.Native.Nat.{◌+◌}
 use native.Mathlib.Omega.{arith}
-use mathlib.Core.Path.{◌≡◌, refl, sym, ◌∙◌, ap}
-use lib.ListN.{length, get_or}
-use lib.Dec.{leb, eqb}
+use mathlib.Core.Path.{refl, sym, ◌∙◌, ap}
+use lib.ListN.{length}
 use borrow.Author.Tests.{not-true, not-false, leb-true, leb-false, le-leb, lt-leb, eq-eqb, ne_eqb}
 use Rattle.image_records.specs.Told.{code_told}
-use borrow.Author.Rules.{rules}
 use Rattle.image_records.proofs.code_at.Goals as goal
 
 pub returns-then-not-has : goal.returns-then-not-has

@@ -1,11 +1,6 @@
 -- `follows` meets its contract.
-use Prim.Native.Nat.{ℕ, ◌+◌, ◌-◌, ◌*◌, ◌<◌, ◌≤◌}
-use native.Mathlib.Omega.{arith}
-use mathlib.Core.Path.{◌≡◌, refl, sym, ◌∙◌, ap}
-use lib.ListN.{length, get_or}
-use lib.Dec.{leb, eqb}
-use borrow.Author.Rules.{rules}
-use borrow.Author.Tests.{not-true, not-false, leb-true, leb-false, le-leb, lt-leb, eq-eqb, ne_eqb}
+use mathlib.Core.Path.{refl}
+use lib.Dec.{eqb}
 use Rattle.image_records.proofs.Running.{follows_full, follows_start, follows_end}
 use Rattle.image_records.proofs.follows.Goals as goal
 

@@ -1,13 +1,11 @@
 -- `function_at` meets its contract.
 use mathlib.Core.Bool.{not}
-use Prim.Native.Nat.{ℕ, ◌+◌, ◌-◌, ◌*◌, ◌<◌, ◌≤◌}
+use Prim.Native.Nat.{◌+◌}
 use native.Mathlib.Omega.{arith}
-use mathlib.Core.Path.{◌≡◌, refl, sym, ◌∙◌, ap}
-use lib.ListN.{length, get_or}
-use lib.Dec.{leb, eqb}
-use borrow.Author.Tests.{not-true, not-false, leb-true, leb-false, le-leb, lt-leb, eq-eqb, ne_eqb}
+use mathlib.Core.Path.{sym, ◌∙◌, ap}
+use lib.ListN.{length}
+use borrow.Author.Tests.{not-true, not-false, leb-true, leb-false}
 use Rattle.image_records.proofs.Records.{function_short, function_whole}
-use borrow.Author.Rules.{rules}
 use Rattle.image_records.proofs.function_at.Goals as goal
 
 pub returns-then-not-has : goal.returns-then-not-has

@@ -1,15 +1,10 @@
 -- `runs` meets its contract: after the runs that are passed, what is left comes to what there was.
-use Prim.Native.Nat.{ℕ, ◌+◌, ◌-◌, ◌*◌, ◌<◌, ◌≤◌}
-use native.Mathlib.Omega.{arith}
-use mathlib.Core.Path.{◌≡◌, refl, sym, ◌∙◌, ap}
-use lib.ListN.{length, get_or}
-use lib.Dec.{leb, eqb}
-use borrow.Author.Rules.{rules}
-use borrow.Author.Tests.{not-true, not-false, leb-true, leb-false, le-leb, lt-leb, eq-eqb, ne_eqb}
+use Prim.Native.Nat.{◌-◌, ◌*◌, ◌≤◌}
+use mathlib.Core.Path.{◌≡◌}
 use Rattle.rules.specs.Reader.{many}
 use Rattle.rules.specs.ImageFile.{read_run}
 use Rattle.image_records.specs.Told.{runs_after, runs_told}
-use Rattle.image_records.proofs.Running.{run_of, run_short, run_unmarked, runs_begin, runs_stop, runs_done, run_zero, run_near, run_on}
+use Rattle.image_records.proofs.Running.{run_of}
 use Rattle.image_records.proofs.runs.Given as goal
 
 abbrev pub invariant-loop-i : goal.invariant-loop-i

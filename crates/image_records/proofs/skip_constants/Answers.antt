@@ -1,12 +1,6 @@
 -- `skip_constants` meets its contract: where the constants that are left end is where all of them end.
-use Prim.Native.Nat.{ℕ, ◌+◌, ◌-◌, ◌*◌, ◌<◌, ◌≤◌}
 use native.Mathlib.Omega.{arith}
-use mathlib.Core.Path.{◌≡◌, refl, sym, ◌∙◌, ap}
-use lib.ListN.{length, get_or}
-use lib.Dec.{leb, eqb}
-use borrow.Author.Rules.{rules}
-use borrow.Author.Tests.{not-true, not-false, leb-true, leb-false, le-leb, lt-leb, eq-eqb, ne_eqb}
-use Rattle.rules.specs.Reader.{many}
+use mathlib.Core.Path.{sym, ◌∙◌, ap}
 use Rattle.rules.specs.ImageFile.{read_constant}
 use Rattle.image_records.specs.Told.{place_told}
 use Rattle.image_records.proofs.Many.{passed_none, skip_stops, skip_goes, skip_none}

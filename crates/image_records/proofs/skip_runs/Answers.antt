@@ -1,13 +1,10 @@
 -- `skip_runs` meets its contract: where the runs that are left end is where all of them end.
 use mathlib.Core.Bool.{not}
-use Prim.Native.Nat.{ℕ, ◌+◌, ◌-◌, ◌*◌, ◌<◌, ◌≤◌}
+use Prim.Native.Nat.{◌+◌}
 use native.Mathlib.Omega.{arith}
-use mathlib.Core.Path.{◌≡◌, refl, sym, ◌∙◌, ap}
-use lib.ListN.{length, get_or}
-use lib.Dec.{leb, eqb}
-use borrow.Author.Rules.{rules}
-use borrow.Author.Tests.{not-true, not-false, leb-true, leb-false, le-leb, lt-leb, eq-eqb, ne_eqb}
-use Rattle.rules.specs.Reader.{many}
+use mathlib.Core.Path.{sym, ◌∙◌, ap}
+use lib.ListN.{length}
+use borrow.Author.Tests.{not-true, not-false, leb-true, leb-false}
 use Rattle.rules.specs.ImageFile.{read_run}
 use Rattle.image_records.specs.Told.{place_told}
 use Rattle.image_records.proofs.Many.{passed_none, skip_stops, skip_goes, skip_none}

@@ -1,11 +1,6 @@
 -- `span_of_words` meets its contract: what the words that are left give, at what is left of the offset, is what all of them give.
-use Prim.Native.Nat.{ℕ, ◌+◌, ◌-◌, ◌*◌, ◌<◌, ◌≤◌}
 use native.Mathlib.Omega.{arith}
-use mathlib.Core.Path.{◌≡◌, refl, sym, ◌∙◌}
-use lib.ListN.{length, drop, get_or}
-use borrow.Author.Rules.{rules}
-use Rattle.rules.specs.Checker.{span_of}
-use Rattle.spans.specs.Words.{runs_of}
+use mathlib.Core.Path.{refl, sym, ◌∙◌}
 use Rattle.spans.proofs.Steps.{over, holds, passes}
 use Rattle.spans.proofs.span_of_words.Goals as goal
 

@@ -1,8 +1,7 @@
 -- `constants_end`: where the constants that are left end is where all of them end.
-use mathlib.Core.Path.{◌≡◌, refl, sym, ap, ◌∙◌}
+use mathlib.Core.Path.{refl, sym, ap, ◌∙◌}
 use Prim.Native.Nat.{◌-◌}
 use native.Mathlib.Omega.{arith}
-use borrow.Author.Rules.{rules}
 use Rattle.writer_directory.specs.Walk.{constants_end}
 use Rattle.writer_directory.proofs.Ends.{constants_more, constants_none}
 use Rattle.writer_directory.proofs.constants_end.Goals as goal

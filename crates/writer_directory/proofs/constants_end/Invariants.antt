@@ -1,10 +1,6 @@
 -- `constants_end`: where the constants that are left end is where all of them end.
-use mathlib.Core.Path.{◌≡◌, refl, sym, ap, ◌∙◌}
-use Prim.Native.Nat.{◌-◌}
-use native.Mathlib.Omega.{arith}
-use borrow.Author.Rules.{rules}
+use mathlib.Core.Path.{◌≡◌}
 use Rattle.writer_directory.specs.Walk.{constants_end}
-use Rattle.writer_directory.proofs.Ends.{constants_more, constants_none}
 use Rattle.writer_directory.proofs.constants_end.Given as goal
 
 abbrev pub invariant-loop-left : goal.invariant-loop-left

@@ -1,14 +1,8 @@
 -- `put_directory`: the walk over any functions whose records stand there goes on, and there is room for the places that are left.
-use mathlib.Core.Path.{◌≡◌, refl, ◌∙◌}
-use mathlib.Core.List.{List}
-use Prim.Native.Nat.{◌+◌, ◌*◌, ◌≤◌}
+use mathlib.Core.Path.{refl, ◌∙◌}
 use native.Mathlib.Omega.{arith}
-use lib.ListN.{length}
-use borrow.Author.Rules.{rules}
-use Rattle.rules.specs.Chunk.{ObjectFunction}
-use Rattle.writer.specs.Put.{AllCounted}
 use Rattle.writer_bytes.proofs.Padding.{le_next}
-use Rattle.writer_directory.proofs.Walking.{Walking, walk_step, directed}
+use Rattle.writer_directory.proofs.Walking.{walk_step, directed}
 use Rattle.writer_directory.proofs.put_directory.Goals as goal
 
 pub set_le-next-requires : goal.set_le-next-requires

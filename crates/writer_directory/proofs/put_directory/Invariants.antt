@@ -1,14 +1,11 @@
 -- `put_directory`: the walk over any functions whose records stand there goes on, and there is room for the places that are left.
-use mathlib.Core.Path.{◌≡◌, refl, ◌∙◌}
+use mathlib.Core.Path.{◌≡◌}
 use mathlib.Core.List.{List}
 use Prim.Native.Nat.{◌+◌, ◌*◌, ◌≤◌}
-use native.Mathlib.Omega.{arith}
 use lib.ListN.{length}
-use borrow.Author.Rules.{rules}
 use Rattle.rules.specs.Chunk.{ObjectFunction}
 use Rattle.writer.specs.Put.{AllCounted}
-use Rattle.writer_bytes.proofs.Padding.{le_next}
-use Rattle.writer_directory.proofs.Walking.{Walking, walk_step, directed}
+use Rattle.writer_directory.proofs.Walking.{Walking}
 use Rattle.writer_directory.proofs.put_directory.Given as goal
 
 abbrev pub invariant-loop-entries : goal.invariant-loop-entries
