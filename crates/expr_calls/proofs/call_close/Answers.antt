@@ -1,15 +1,11 @@
 -- A call after its last part.
--- The places first, each over the one before: of a call `-asked` is the place where it is made, `-left` the call from where its areas have come back,
--- `-went` and `-halted` the call once its answer is known.
 use mathlib.Core.Path.{sym, ◌∙◌}
 use Rattle.tree_laws.proofs.Expressions.{any_at, get_at, super_at}
 use Rattle.steps.proofs.Steps.{went}
 use Rattle.expr_laws.proofs.Calls.{close_super_stop, close_super, close_object, close_value, low_byte}
 use native.Mathlib.Omega.{arith}
-use borrow.Author.Rules.{rules}
 use Rattle.expr_calls.proofs.call_close.Goals as goal
 
--- ## The needs
 pub overflow_add-at : goal.overflow_add-at
 overflow_add-at c = let b = (any_at _ _ _ _ c.requires.1.there.is).bound in omega (arith, b)
 
@@ -53,7 +49,8 @@ u16_at-name-requires-then-mark-eq-GET c =
 
 pub returns-then-mark-eq-GET : goal.returns-then-mark-eq-GET
 returns-then-mark-eq-GET c =
-    close_object _ _ _ _ _ _ (low_byte c.u16_at.ensures c.requires.2) (sym c.mark_at-mark.ensures ∙ c.if-mark-eq-GET.true) c.u16_at-name-then-mark-eq-GET.ensures (c.emit_invoke-then-mark-eq-GET.ensures _)
+    close_object _ _ _ _ _ _ (low_byte c.u16_at.ensures c.requires.2) (sym c.mark_at-mark.ensures ∙ c.if-mark-eq-GET.true) c.u16_at-name-then-mark-eq-GET.ensures
+    (c.emit_invoke-then-mark-eq-GET.ensures _)
 
 pub returns : goal.returns
 returns c =

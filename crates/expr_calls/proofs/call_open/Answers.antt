@@ -1,14 +1,10 @@
 -- A call up to its first part.
--- The places first, each over the one before: of a call `-asked` is the place where it is made, `-left` the call from where its areas have come back,
--- `-went` and `-halted` the call once its answer is known.
 use mathlib.Core.Path.{sym, ◌∙◌}
 use Rattle.tree_laws.proofs.Expressions.{any_at, get_at, super_at}
 use Rattle.expr_laws.proofs.Calls.{too_many, super_stop, super_open, object_open, value_open}
 use native.Mathlib.Omega.{arith}
-use borrow.Author.Rules.{rules}
 use Rattle.expr_calls.proofs.call_open.Goals as goal
 
--- ## The needs
 pub overflow_add-at : goal.overflow_add-at
 overflow_add-at c = let b = (any_at _ _ _ _ c.requires.1.there.is).bound in omega (arith, b)
 

@@ -3,7 +3,6 @@ use mathlib.Core.Path.{sym, ◌∙◌}
 use Rattle.tree_laws.proofs.Expressions.{any_at}
 use Rattle.expr_laws.proofs.Calls.{parts_super, parts_other}
 use native.Mathlib.Omega.{arith}
-use borrow.Author.Rules.{rules}
 use Rattle.expr_calls.proofs.call_parts.Goals as goal
 
 pub overflow_add-at : goal.overflow_add-at

@@ -1,8 +1,5 @@
 -- After the right side: an opcode, or the operand of a jump.
--- The places first, each over the one before: of a call `-asked` is the place where it is made, `-left` the call from where its areas have come back,
--- `-went` and `-halted` the call once its answer is known.
 use Rattle.expr_laws.proofs.Operators.{closed_plain, closed_jump}
-use borrow.Author.Rules.{rules}
 use Rattle.expr_operators.proofs.after_right.Goals as goal
 
 pub returns-then-operator-lt10 : goal.returns-then-operator-lt10

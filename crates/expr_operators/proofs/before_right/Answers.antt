@@ -1,13 +1,8 @@
 -- Before the right side.
--- The places first, each over the one before: of a call `-asked` is the place where it is made, `-left` the call from where its areas have come back,
--- `-went` and `-halted` the call once its answer is known.
-use mathlib.Core.Path.{◌∙◌}
 use Rattle.steps.proofs.Steps.{went, went_to, placed, still}
 use Rattle.expr_laws.proofs.Operators.{begun_plain, begun_stop, begun_and, begun_or_stop, begun_or_stop_2, begun_or}
-use borrow.Author.Rules.{rules}
 use Rattle.expr_operators.proofs.before_right.Goals as goal
 
--- ## The needs
 pub returns-then-operator-lt10 : goal.returns-then-operator-lt10
 returns-then-operator-lt10 c = λ class. begun_plain _ c.if-operator-lt10.true c.requires
 
@@ -43,18 +38,6 @@ returns-in_default-d c =
 pub emit_op-requires-2 : goal.emit_op-requires-2
 emit_op-requires-2 c =
     (went (c.patch_jump-d.ensures 0) c.in-Next-d.is).ahead.fit
-
-pub shape_of-t : goal.shape_of-t
-shape_of-t c =
-    c.emit_op-2.auto.t ∙ c.patch_jump-d.auto.t ∙ c.emit_jump-b.auto.t ∙ c.emit_jump-a.auto.t
-
-pub shape_of-code : goal.shape_of-code
-shape_of-code c =
-    c.emit_op-2.auto.code ∙ c.patch_jump-d.auto.code ∙ c.emit_jump-b.auto.code ∙ c.emit_jump-a.auto.code
-
-pub shape_of-spans : goal.shape_of-spans
-shape_of-spans c =
-    c.emit_op-2.auto.spans ∙ c.patch_jump-d.auto.spans ∙ c.emit_jump-b.auto.spans ∙ c.emit_jump-a.auto.spans
 
 pub returns : goal.returns
 returns c =

@@ -1,9 +1,6 @@
 -- `compile_super`, line by line.
--- The places first, each over the one before: of a call `-asked` is the place where it is made, `-left` the call from where its areas have come back,
--- `-went` and `-halted` the call once its answer is known.
 use Rattle.rules.specs.Compiler.{compile_super}
 use Rattle.steps.proofs.Steps.{went, halt, then_on}
-use borrow.Author.Rules.{rules}
 use Rattle.expr_super.proofs.compile_super.Goals as goal
 
 pub returns-in_default : goal.returns-in_default

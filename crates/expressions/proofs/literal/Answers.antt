@@ -1,14 +1,10 @@
 -- A literal, by its kind.
--- The places first, each over the one before: of a call `-asked` is the place where it is made, `-left` the call from where its areas have come back,
--- `-went` and `-halted` the call once its answer is known.
 use mathlib.Core.Path.{sym, ◌∙◌}
 use Rattle.tree_laws.proofs.Expressions.{literal_at, number_at, string_at, last_kind}
 use Rattle.expressions.proofs.Arms.{false_done, true_done, nil_done, number_done, string_done}
 use native.Mathlib.Omega.{arith}
-use borrow.Author.Rules.{rules}
 use Rattle.expressions.proofs.literal.Goals as goal
 
--- ## The needs
 pub overflow_add-at : goal.overflow_add-at
 overflow_add-at c =
     let b = (literal_at _ _ _ _ c.requires.2 c.requires.1.there.is).bound in omega (arith, b)
@@ -65,13 +61,17 @@ overflow_add-at-2 c =
 
 pub u16_at-name-requires : goal.u16_at-name-requires
 u16_at-name-requires c =
-    let i = literal_at _ _ _ _ c.requires.2 c.requires.1.there.is in let k = last_kind _ _ _ i (λ e. c.if-kind-eq0.false (c.u8_at-kind.ensures ∙ e)) (λ e. c.if-kind-eq1.false (c.u8_at-kind.ensures ∙ e))
-    (λ e. c.if-kind-eq2.false (c.u8_at-kind.ensures ∙ e)) (λ e. c.if-kind-eq3.false (c.u8_at-kind.ensures ∙ e)) in let b = (string_at _ _ _ i k).bound in omega (arith, b)
+    let i = literal_at _ _ _ _ c.requires.2 c.requires.1.there.is in
+    let k = last_kind _ _ _ i (λ e. c.if-kind-eq0.false (c.u8_at-kind.ensures ∙ e)) (λ e. c.if-kind-eq1.false (c.u8_at-kind.ensures ∙ e))
+    (λ e. c.if-kind-eq2.false (c.u8_at-kind.ensures ∙ e)) (λ e. c.if-kind-eq3.false (c.u8_at-kind.ensures ∙ e)) in
+    let b = (string_at _ _ _ i k).bound in omega (arith, b)
 
 pub overflow_add-at-3 : goal.overflow_add-at-3
 overflow_add-at-3 c =
-    let i = literal_at _ _ _ _ c.requires.2 c.requires.1.there.is in let k = last_kind _ _ _ i (λ e. c.if-kind-eq0.false (c.u8_at-kind.ensures ∙ e)) (λ e. c.if-kind-eq1.false (c.u8_at-kind.ensures ∙ e))
-    (λ e. c.if-kind-eq2.false (c.u8_at-kind.ensures ∙ e)) (λ e. c.if-kind-eq3.false (c.u8_at-kind.ensures ∙ e)) in let b = (string_at _ _ _ i k).bound in omega (arith, b)
+    let i = literal_at _ _ _ _ c.requires.2 c.requires.1.there.is in
+    let k = last_kind _ _ _ i (λ e. c.if-kind-eq0.false (c.u8_at-kind.ensures ∙ e)) (λ e. c.if-kind-eq1.false (c.u8_at-kind.ensures ∙ e))
+    (λ e. c.if-kind-eq2.false (c.u8_at-kind.ensures ∙ e)) (λ e. c.if-kind-eq3.false (c.u8_at-kind.ensures ∙ e)) in
+    let b = (string_at _ _ _ i k).bound in omega (arith, b)
 
 pub returns : goal.returns
 returns c =

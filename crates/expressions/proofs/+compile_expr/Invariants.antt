@@ -1,0 +1,20 @@
+-- The measure of `compile_expr`, how many bytes are left, and its loop: of a call's parts, those that are left come to the same from the areas as they are
+-- as all of them from where the loop began, and the next one stands after the call's own start.
+use Prim.Native.Nat.{ℕ, ◌-◌, ◌<◌}
+use lib.ListN.{length}
+use Rattle.steps.specs.View.{mem}
+use Rattle.expr_laws.specs.Exprs.{expr_at}
+use Rattle.expr_laws.proofs.Calls.{Walk}
+use Rattle.expressions.proofs.+compile_expr.Given as goal
+
+-- how many bytes are left
+abbrev pub decreases-compile_expr : goal.decreases-compile_expr
+decreases-compile_expr l = length l.tree.now - l.at
+
+abbrev pub invariant-loop-parts : goal.invariant-loop-parts
+invariant-loop-parts l =
+    ((d : ℕ) → Walk l.class l.limit l.level (expr_at l.tree d) l.initial.parts l.initial.next (mem l.initial.t l.initial.code l.initial.spans) (mem l.t l.code l.spans) l.next l.parts)
+    × (l.at < l.next)
+
+abbrev pub decreases-loop-parts : goal.decreases-loop-parts
+decreases-loop-parts l = l.parts
