@@ -2,8 +2,7 @@
 // ends.
 #![tactic(auto)]
 
-ghost use Rattle.std.specs.Prelude.{◌≡◌, ◌+◌, ◌*◌, ◌/◌, ◌≤◌, min, length};
-ghost use Rattle.rules.specs.Base.{if◌then◌else◌};
+ghost use Rattle.std.specs.Prelude.{◌≡◌, ◌+◌, ◌*◌, ◌/◌, ◌≤◌, min, length, if◌then◌else◌};
 ghost use Rattle.rules.specs.Limits.{max_code};
 ghost use Rattle.rules.specs.Entry.{asks_directory, leaves};
 ghost use Rattle.state.specs.Layout.{table_words, word, name_place};

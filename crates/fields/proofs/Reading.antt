@@ -9,7 +9,7 @@ use native.Mathlib.Nat.{add_assoc}
 use lib.ListN.{length, get_or}
 use lib.Dec.{leb, eqb}
 use borrow.Author.Tests.{lt-ltb, le-ltb, eq-eqb, ne_eqb, leb-true, leb-false, eqb-true, eqb-false}
-use Rattle.rules.specs.Base.{if◌then◌else◌}
+use Rattle.std.specs.Prelude.{if◌then◌else◌}
 use Rattle.rules.specs.declared.Refusal.{Refusal}
 use Rattle.rules.specs.Reader.{Read, got, bad, Reader, go_on, ◌>>=◌, return, need, u8, u16, u32, u64, mark, mark_is, span}
 use Rattle.fields.specs.Words.{word8, word16, word32, word64, letters, span_of}

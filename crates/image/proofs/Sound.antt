@@ -11,7 +11,8 @@ use mathlib.Core.Logic.{⊎_elim}
 use lib.ListN.{length, get_or, drop, get_elem?, length-append}
 use lib.Dec.{eqb, ltb}
 use borrow.Author.Tests.{ltb-true, ltb-false, eqb-true}
-use Rattle.rules.specs.Base.{if◌then◌else◌, all, all_below}
+use Rattle.rules.specs.Base.{all, all_below}
+use Rattle.std.specs.Prelude.{if◌then◌else◌}
 use Rattle.rules.specs.Chunk.{Constant, CN, CS, CF, total, ObjectFunction}
 use Rattle.rules.specs.Division.{function_kind, kind_of, kind_at, Instruction, division, is_function, operands_fit, lands, run_fits, runs_fit, code_fits, function_fits, fits}
 use Rattle.rules.specs.Checker.{runs_apart, distinct, names_earlier, all_earlier, named_once, closures, closed_at, closed_in, closed_once, facts, sound, instructions, instruction_count}

@@ -7,7 +7,8 @@ use native.Mathlib.Omega.{arith}
 use lib.ListN.{get_or}
 use lib.Dec.{eqb}
 use borrow.Author.Tests.{eq-eqb, ne_eqb}
-use Rattle.rules.specs.Base.{if◌then◌else◌, all_below}
+use Rattle.rules.specs.Base.{all_below}
+use Rattle.std.specs.Prelude.{if◌then◌else◌}
 use Rattle.rules.specs.Division.{Kind, Instruction, is_function}
 use Rattle.image_code.specs.Table.{kind_of, kinds_in, from, instructions, closed_by}
 use Rattle.image_code.proofs.Fitting.{function_no}

@@ -1,8 +1,8 @@
 // Whether each function of the constants is named by one CLOSURE, in a code that divides.
 #![tactic(auto)]
 
-ghost use Rattle.std.specs.Prelude.{◌≡◌, true, eqb, ℕ, get_or};
-ghost use Rattle.rules.specs.Base.{if◌then◌else◌, all_below};
+ghost use Rattle.std.specs.Prelude.{◌≡◌, true, eqb, ℕ, get_or, if◌then◌else◌};
+ghost use Rattle.rules.specs.Base.{all_below};
 ghost use Rattle.rules.specs.Division.{is_function};
 ghost use Rattle.image_code.specs.Table.{kinds_in};
 ghost use Rattle.image_closures.specs.Counts.{Closing, Counted};

@@ -8,7 +8,8 @@ use native.Mathlib.Omega.{arith}
 use lib.ListN.{length, get_or, take, drop}
 use lib.Dec.{ltb, eqb}
 use borrow.Author.Tests.{lt-ltb, ltb-true, ne_eqb}
-use Rattle.rules.specs.Base.{if◌then◌else◌, all, all_below}
+use Rattle.rules.specs.Base.{all, all_below}
+use Rattle.std.specs.Prelude.{if◌then◌else◌}
 use Rattle.rules.specs.Op.{Operands, Plain, Byte, Captured, Value, Text, Invoke, Ahead, Back, Closure}
 use Rattle.rules.specs.Division.{Kind, Instruction, followed_by, divide, fit, operands_fit, is_function, lands}
 use Rattle.rules.specs.Checker.{closes, closures}

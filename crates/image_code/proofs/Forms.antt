@@ -15,7 +15,8 @@ use borrow.Author.Tests.{eq-eqb, ne_eqb}
 use Rattle.op.proofs.Ranges.{below}
 use Rattle.image_code.specs.Forms.{form, form_of, by_form, width_by, width}
 use Rattle.image_code.proofs.Computes.{computes}
-use Rattle.rules.specs.Base.{if◌then◌else◌, all_below, lookup}
+use Rattle.rules.specs.Base.{all_below, lookup}
+use Rattle.std.specs.Prelude.{if◌then◌else◌}
 use Rattle.rules.specs.Op.{Operands, Plain, Byte, Captured, Value, Text, Invoke, Ahead, Back, Closure, operands, operands_of}
 use Rattle.rules.specs.Op as Op
 use Rattle.rules.specs.Division.{Kind, missing, number, text, function}

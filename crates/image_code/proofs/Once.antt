@@ -6,7 +6,8 @@ use native.Mathlib.Omega.{arith}
 use native.Mathlib.Nat.{eq-or-lt_of_le}
 use native.Mathlib.Numerals.{add-one}
 use mathlib.Core.Logic.{⊎_elim}
-use Rattle.rules.specs.Base.{if◌then◌else◌, all_below}
+use Rattle.rules.specs.Base.{all_below}
+use Rattle.std.specs.Prelude.{if◌then◌else◌}
 
 pub either_false : (b : Bool) → (if b then false else false) ≡ false
 either_false true = refl

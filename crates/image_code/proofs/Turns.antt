@@ -8,7 +8,8 @@ use native.Mathlib.Omega.{arith}
 use lib.ListN.{length, get_or, drop}
 use Rattle.rules.specs.Division.{Kind, Instruction, followed_by}
 use Rattle.image_code.specs.Forms.{width}
-use Rattle.rules.specs.Base.{if◌then◌else◌, all}
+use Rattle.rules.specs.Base.{all}
+use Rattle.std.specs.Prelude.{if◌then◌else◌}
 use Rattle.image_code.specs.Table.{instruction_at, from, instructions, is_some}
 use Rattle.image_code.proofs.Steps.{here, at_size, ended, within_code, has_width, onto_some, no_true}
 

@@ -11,7 +11,8 @@ use lib.ListN.{length, get_or, take, drop, set, length-set, length-take, get_ele
 use lib.Seq.{get_or-take, get_or-set_same, get_or-set_other}
 use lib.Dec.{ltb}
 use borrow.Author.Tests.{lt-ltb, le-ltb, ltb-true, ltb-false}
-use Rattle.rules.specs.Base.{if◌then◌else◌, all}
+use Rattle.rules.specs.Base.{all}
+use Rattle.std.specs.Prelude.{if◌then◌else◌}
 use Rattle.rules.specs.Reader.{Read, got, bad, many}
 use Rattle.rules.specs.Chunk.{Constant, CN, CS, CF, ObjectFunction}
 use Rattle.rules.specs.Division.{Kind, missing, number, text, function, function_kind, kind_at}

@@ -10,7 +10,8 @@ use lib.ListN.{length, get_or, take, set, length-set, length-take}
 use lib.Seq.{get_or-take, get_or-set_same, get_or-set_other}
 use lib.Dec.{eqb}
 use borrow.Author.Tests.{eq-eqb, ne_eqb, eqb-true, eqb-false, lt-ltb, le-ltb}
-use Rattle.rules.specs.Base.{if◌then◌else◌, all}
+use Rattle.rules.specs.Base.{all}
+use Rattle.std.specs.Prelude.{if◌then◌else◌}
 use Rattle.rules.specs.Chunk.{Constant, same_constant}
 use Rattle.rules.specs.Checker.{distinct}
 use Rattle.image_constants.specs.Words.{constant_of, constants_of, slot_in}

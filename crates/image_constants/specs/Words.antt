@@ -1,6 +1,5 @@
 -- The constants that words stand for.
-use Rattle.std.specs.Prelude.{◌≡◌, List, map, ℕ, ◌/◌, ◌%◌, ◌<◌, ◌≤◌, get_or, take, eqb, ltb}
-use Rattle.rules.specs.Base.{if◌then◌else◌}
+use Rattle.std.specs.Prelude.{◌≡◌, List, map, ℕ, ◌/◌, ◌%◌, ◌<◌, ◌≤◌, get_or, take, eqb, ltb, if◌then◌else◌}
 use Rattle.rules.specs.Reader.{got, many}
 use Rattle.rules.specs.Chunk.{Constant, CN, CS, CF}
 use Rattle.rules.specs.ImageFile.{read_constant}

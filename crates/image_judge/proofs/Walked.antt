@@ -6,7 +6,8 @@ use mathlib.Core.List.{List}
 use Prim.Native.Nat.{ℕ, ◌+◌}
 use native.Mathlib.Omega.{arith}
 use lib.ListN.{length}
-use Rattle.rules.specs.Base.{if◌then◌else◌, all, all_below}
+use Rattle.rules.specs.Base.{all, all_below}
+use Rattle.std.specs.Prelude.{if◌then◌else◌}
 use Rattle.rules.specs.Division.{Kind, Instruction, operands_fit, lands}
 use Rattle.image_code.specs.Table.{instructions, is_some, judged, closed_by, code_right, judged_code}
 use Rattle.image_code.specs.declared.Verdict.TheVariants.{Yes, No}

@@ -7,7 +7,8 @@ use native.Mathlib.Omega.{arith}
 use native.Mathlib.Numerals.{add-one}
 use lib.ListN.{length, get_or}
 use lib.Dec.{eqb}
-use Rattle.rules.specs.Base.{if◌then◌else◌, all_below}
+use Rattle.rules.specs.Base.{all_below}
+use Rattle.std.specs.Prelude.{if◌then◌else◌}
 use Rattle.rules.specs.Reader.{got, many}
 use Rattle.rules.specs.Chunk.{Constant, ObjectFunction}
 use Rattle.rules.specs.ImageFile.{read_constant, read_function}

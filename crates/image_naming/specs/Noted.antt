@@ -1,6 +1,5 @@
 -- How often functions are named, counted up to two in a table that begins at a number.
-use Rattle.std.specs.Prelude.{◌≡◌, List, ℕ, zero, suc, ◌+◌, ◌<◌, ◌≤◌, length, get_or}
-use Rattle.rules.specs.Base.{if◌then◌else◌}
+use Rattle.std.specs.Prelude.{◌≡◌, List, ℕ, zero, suc, ◌+◌, ◌<◌, ◌≤◌, length, get_or, if◌then◌else◌}
 use Rattle.rules.specs.Reader.{got, many}
 use Rattle.rules.specs.Chunk.{Constant, CF, same_constant, ObjectFunction}
 use Rattle.rules.specs.ImageFile.{read_constant, read_function}

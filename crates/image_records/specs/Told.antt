@@ -1,6 +1,6 @@
 -- What the readers of records tell, by what the rules read: a constant as one word, a function's header, where a record ends.
-use Rattle.std.specs.Prelude.{◌&&◌, List, ◌∷◌, ℕ, ◌+◌, ◌*◌, length, leb, eqb}
-use Rattle.rules.specs.Base.{if◌then◌else◌, all}
+use Rattle.std.specs.Prelude.{◌&&◌, List, ◌∷◌, ℕ, ◌+◌, ◌*◌, length, leb, eqb, if◌then◌else◌}
+use Rattle.rules.specs.Base.{all}
 use Rattle.rules.specs.Reader.{Read, got, bad}
 use Rattle.rules.specs.Chunk.{Constant, CN, CS, CF, Run, total}
 use Rattle.rules.specs.Division.{run_fits}

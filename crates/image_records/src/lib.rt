@@ -1,8 +1,7 @@
 // The records of an image: a constant, a function's header, its runs, and where each ends.
 #![tactic(auto)]
 
-ghost use Rattle.std.specs.Prelude.{◌≡◌, ◌+◌, ◌*◌, ◌<◌, eqb, true};
-ghost use Rattle.rules.specs.Base.{if◌then◌else◌};
+ghost use Rattle.std.specs.Prelude.{◌≡◌, ◌+◌, ◌*◌, ◌<◌, eqb, true, if◌then◌else◌};
 ghost use Rattle.rules.specs.Chunk.{same_span};
 ghost use Rattle.rules.specs.Reader.{many};
 ghost use Rattle.rules.specs.ImageFile.{number_mark, string_mark, function_mark, constant_fields, read_constant, read_run, read_function};

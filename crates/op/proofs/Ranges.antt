@@ -6,7 +6,8 @@ use Prim.Native.Nat.{ℕ, zero, suc, ◌<◌}
 use native.Mathlib.Omega.{arith}
 use native.Mathlib.Nat.{eq-or-lt_of_le}
 use lib.Dec.{T}
-use Rattle.rules.specs.Base.{if◌then◌else◌, all_below}
+use Rattle.rules.specs.Base.{all_below}
+use Rattle.std.specs.Prelude.{if◌then◌else◌}
 
 -- what is true of every number below a bound is true of each
 pub below : (count : ℕ) (p : ℕ → Bool) → T (all_below count p) → (i : ℕ) → i < count → T (p i)

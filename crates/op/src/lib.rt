@@ -1,8 +1,7 @@
 // The opcodes (src/vm/op.rs): their numbers, in its order, and how many bytes an instruction has.
 #![tactic(auto)]
 
-ghost use Rattle.std.specs.Prelude.{◌≡◌, eqb};
-ghost use Rattle.rules.specs.Base.{if◌then◌else◌};
+ghost use Rattle.std.specs.Prelude.{◌≡◌, eqb, if◌then◌else◌};
 ghost use Rattle.rules.specs.Op as rules;
 
 // How many opcodes there are.

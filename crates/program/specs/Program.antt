@@ -1,6 +1,5 @@
 -- What the program answers: the compiler's answer, where a tree of more than 65,536 bytes is too long already.
-use Rattle.std.specs.Prelude.{◌≡◌, List, ℕ, ◌≤◌, length, leb}
-use Rattle.rules.specs.Base.{if◌then◌else◌}
+use Rattle.std.specs.Prelude.{◌≡◌, List, ℕ, ◌≤◌, length, leb, if◌then◌else◌}
 use Rattle.rules.specs.declared.Answer.{Answer}
 use Rattle.rules.specs.declared.Refusal.TheVariants.{TreeTooLong}
 use Rattle.rules.specs.Answer.{refusal}

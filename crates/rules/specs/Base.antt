@@ -1,11 +1,6 @@
 -- What the other files share: a choice, searches, the order of texts, numbers as little-endian bytes.
-use Rattle.std.specs.Prelude.{Bool, true, false, List, [], ◌∷◌, ℕ, zero, suc, ◌/◌, ◌%◌, ltb, eqb}
+use Rattle.std.specs.Prelude.{if◌then◌else◌, Bool, true, false, List, [], ◌∷◌, ℕ, zero, suc, ◌/◌, ◌%◌, ltb, eqb}
 use Rattle.std.proofs.Math.Option.{Option, none, some}
-
-infixr 5 if◌then◌else◌
-abbrev pub if◌then◌else◌ : {A : Type 0} → Bool → A → A → A
-if true then a else b = a
-if false then a else b = b
 
 -- a place, seen from one place before
 unfoldable pub one_on : Option ℕ → Option ℕ

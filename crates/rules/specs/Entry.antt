@@ -1,6 +1,5 @@
 -- The whole: from a tree file's bytes and the sizes of what is lent to the answer and what every lent area then holds.
-use Rattle.std.specs.Prelude.{Bool, List, ◌++◌, ℕ, ◌-◌, ◌*◌, ◌/◌, ◌%◌, min, length, replicate, leb, eqb}
-use Rattle.rules.specs.Base.{if◌then◌else◌}
+use Rattle.std.specs.Prelude.{Bool, List, ◌++◌, ℕ, ◌-◌, ◌*◌, ◌/◌, ◌%◌, min, length, replicate, leb, eqb, if◌then◌else◌}
 use Rattle.rules.specs.Limits.{Limits, first_limits, max_tree, max_code}
 use Rattle.rules.specs.declared.Answer.{Answer}
 use Rattle.rules.specs.declared.Stopped.{Stopped}

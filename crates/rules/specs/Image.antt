@@ -1,6 +1,6 @@
 -- The image file: from finished functions to bytes, with or without a directory behind them.
-use Rattle.std.specs.Prelude.{Bool, List, [], ◌∷◌, ◌++◌, ℕ, ◌+◌, length}
-use Rattle.rules.specs.Base.{if◌then◌else◌, le}
+use Rattle.std.specs.Prelude.{Bool, List, [], ◌∷◌, ◌++◌, ℕ, ◌+◌, length, if◌then◌else◌}
+use Rattle.rules.specs.Base.{le}
 use Rattle.rules.specs.Chunk.{Chunk, Constant, CN, CS, CF, Run, ObjectFunction}
 
 -- ## Records

@@ -1,6 +1,5 @@
 -- The image file read back, with a directory or without: from bytes to functions, or 40 where the bytes have another form.
-use Rattle.std.specs.Prelude.{List, [], ◌∷◌, ℕ, length, ltb, leb, eqb}
-use Rattle.rules.specs.Base.{if◌then◌else◌}
+use Rattle.std.specs.Prelude.{List, [], ◌∷◌, ℕ, length, ltb, leb, eqb, if◌then◌else◌}
 use Rattle.rules.specs.Limits.{max_bits}
 use Rattle.rules.specs.declared.Refusal.TheVariants.{ImageRefused}
 use Rattle.rules.specs.Reader.{Read, Reader, ◌>>=◌, ◌>>◌, return, here, need, one_of, u8, u16, u32, u64, mark, mark_is, span, many}

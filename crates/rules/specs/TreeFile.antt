@@ -1,9 +1,9 @@
 -- The tree file: from bytes to a program, or the first refusal of 3, 4 and 5 in reading order.
 -- In one record: mark, 4, 5, other fields. `depth` is how many levels of records may still open, and `funs` how many `SF` records: the file's
 -- own limits are what the recursion falls by. A refusal names the place where its record starts; `fault` is 3 at that place.
-use Rattle.std.specs.Prelude.{Bool, true, false, List, [], ◌∷◌, ℕ, zero, suc, ◌+◌, ◌-◌, ◌/◌, ◌%◌, length, ltb, leb, eqb}
+use Rattle.std.specs.Prelude.{Bool, true, false, List, [], ◌∷◌, ℕ, zero, suc, ◌+◌, ◌-◌, ◌/◌, ◌%◌, length, ltb, leb, eqb, if◌then◌else◌}
 use Rattle.std.proofs.Math.Option.{Option, none, some}
-use Rattle.rules.specs.Base.{if◌then◌else◌, before, all}
+use Rattle.rules.specs.Base.{before, all}
 use Rattle.rules.specs.Limits.{max_names, max_bits}
 use Rattle.rules.specs.declared.Span.{Span}
 use Rattle.rules.specs.declared.Refusal.{Refusal}

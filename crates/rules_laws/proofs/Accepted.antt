@@ -7,7 +7,8 @@ use Prim.Native.Nat.{ℕ, ◌+◌, ◌-◌, ◌*◌, ◌≤◌, ◌<◌}
 use native.Mathlib.Omega.{arith}
 use lib.ListN.{length, replicate}
 use lib.Dec.{T, leb, ltb→lt, leb→le}
-use Rattle.rules.specs.Base.{if◌then◌else◌, all}
+use Rattle.rules.specs.Base.{all}
+use Rattle.std.specs.Prelude.{if◌then◌else◌}
 use Rattle.rules.specs.Limits.{Limits, first_limits, max_tree, max_code}
 use Rattle.rules.specs.declared.Refusal.TheVariants as refusal
 use Rattle.rules.specs.Answer.{accepted, outside, refusal_in}

@@ -7,7 +7,8 @@ use Prim.Native.Nat.{ℕ, zero, suc, ◌+◌, ◌-◌, ◌*◌, ◌≤◌, ◌<�
 use native.Mathlib.Omega.{arith}
 use lib.ListN.{length, length-append, replicate, get_elem?}
 use lib.Dec.{T, leb, eqb, eqb→eq, eqb_refl, lt→ltb}
-use Rattle.rules.specs.Base.{if◌then◌else◌, all, all_below}
+use Rattle.rules.specs.Base.{all, all_below}
+use Rattle.std.specs.Prelude.{if◌then◌else◌}
 use Rattle.rules.specs.declared.Answer.{Answer}
 use Rattle.rules.specs.declared.Refusal.{Refusal}
 use Rattle.rules.specs.declared.Refusal.TheVariants as answer

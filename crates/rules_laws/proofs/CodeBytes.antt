@@ -8,7 +8,8 @@ use Prim.Native.Nat.{ℕ, zero, suc, ◌+◌, ◌-◌, ◌/◌, ◌%◌, ◌≤�
 use native.Mathlib.Omega.{arith}
 use lib.ListN.{length, length-append, get_elem?, set, length-set, replicate}
 use lib.Dec.{T, ltb, eqb, eqb→eq, ltb→lt}
-use Rattle.rules.specs.Base.{if◌then◌else◌, all, lookup, le}
+use Rattle.rules.specs.Base.{all, lookup, le}
+use Rattle.std.specs.Prelude.{if◌then◌else◌}
 use Rattle.rules.specs.declared.Span.{Span}
 use Rattle.rules.specs.Tree.{Stmts}
 use Rattle.rules.specs.Op as op

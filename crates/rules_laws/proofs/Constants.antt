@@ -8,7 +8,8 @@ use native.Mathlib.Omega.{arith}
 use native.Mathlib.Decide.{dec_lt}
 use lib.ListN.{length, length-append, get_elem?}
 use lib.Dec.{T, ltb, eqb, eqb→eq, eqb_refl, lt→ltb, ltb→lt}
-use Rattle.rules.specs.Base.{if◌then◌else◌, all, position, one_on}
+use Rattle.rules.specs.Base.{all, position, one_on}
+use Rattle.std.specs.Prelude.{if◌then◌else◌}
 use Rattle.rules.specs.Tree.{Stmts}
 use Rattle.rules.specs.Op as op
 use Rattle.rules.specs.Chunk.{Constant, CF, same_constant, ObjectFunction}

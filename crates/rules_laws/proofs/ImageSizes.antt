@@ -10,7 +10,8 @@ use native.Mathlib.Nat.{add-mul, mul-le-mul_right}
 use lib.ListN.{length, length-append, length-set}
 use lib.Dec.{T, ltb, eqb, ltb→lt, nltb→le, eqb_refl}
 use Rattle.rules.proofs.Numbers.{le_length}
-use Rattle.rules.specs.Base.{if◌then◌else◌, position, le}
+use Rattle.rules.specs.Base.{position, le}
+use Rattle.std.specs.Prelude.{if◌then◌else◌}
 use Rattle.rules.specs.declared.Span.{Span}
 use Rattle.rules.specs.declared.Refusal.{Refusal}
 use Rattle.rules.specs.declared.Refusal.TheVariants.{CodeFull}

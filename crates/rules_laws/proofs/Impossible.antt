@@ -10,7 +10,8 @@ use Prim.Native.Nat.{ℕ, suc, ◌-◌, ◌≤◌, ◌<◌}
 use native.Mathlib.Omega.{arith}
 use lib.ListN.{length, length-append, drop}
 use lib.Dec.{ltb, eqb, ltb→lt}
-use Rattle.rules.specs.Base.{if◌then◌else◌, position}
+use Rattle.rules.specs.Base.{position}
+use Rattle.std.specs.Prelude.{if◌then◌else◌}
 use Rattle.rules.specs.declared.Span.{Span}
 use Rattle.rules.specs.declared.Refusal.TheVariants.{TooManyUpvalues}
 use Rattle.rules.specs.Tree.{Expr, Stmts, Superclass, StmtClass, fun, Methods}

@@ -13,7 +13,8 @@ use lib.Seq.{get_or-append_seam}
 use lib.Dec.{T, ltb, leb, eqb, le→leb, lt→ltb, eqb_refl}
 use borrow.Author.Tests.{eq-eqb, ne_eqb}
 use Rattle.rules.proofs.Numbers.{le_length}
-use Rattle.rules.specs.Base.{if◌then◌else◌, le}
+use Rattle.rules.specs.Base.{le}
+use Rattle.std.specs.Prelude.{if◌then◌else◌}
 use Rattle.rules.specs.Limits.{max_bits}
 use Rattle.rules.specs.declared.Span.{Span}
 use Rattle.rules.specs.declared.Refusal.{Refusal}

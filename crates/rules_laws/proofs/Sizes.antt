@@ -8,7 +8,8 @@ use Prim.Native.Nat.{ℕ, suc, ◌+◌, ◌-◌, ◌*◌, ◌≤◌, ◌<◌, ma
 use native.Mathlib.Omega.{arith}
 use lib.ListN.{length, length-append, length-set}
 use lib.Dec.{T, ltb, ltb→lt, lt→ltb}
-use Rattle.rules.specs.Base.{if◌then◌else◌, position}
+use Rattle.rules.specs.Base.{position}
+use Rattle.std.specs.Prelude.{if◌then◌else◌}
 use Rattle.rules.specs.declared.Span.{Span}
 use Rattle.rules.specs.declared.Refusal.TheVariants.{CodeFull, TooManyUpvalues}
 use Rattle.rules.specs.Tree.{Stmts}

@@ -5,7 +5,8 @@ use mathlib.Core.List.{List, [], ◌∷◌, ◌++◌}
 use Prim.Native.Nat.{ℕ, zero, suc, ◌<◌}
 use native.Mathlib.Omega.{arith}
 use lib.Dec.{T}
-use Rattle.rules.specs.Base.{if◌then◌else◌, all, all_below}
+use Rattle.rules.specs.Base.{all, all_below}
+use Rattle.std.specs.Prelude.{if◌then◌else◌}
 
 pub both : (a b : Bool) → T a → T b → T (a && b)
 both true b p q = q

@@ -11,7 +11,8 @@ use lib.ListN.{length, get_elem?, length-append}
 use lib.Dec.{ltb}
 use borrow.Author.Tests.{lt-ltb, le-ltb, eq-eqb, ne_eqb}
 use Rattle.rules.proofs.Numbers.{le_length}
-use Rattle.rules.specs.Base.{if◌then◌else◌, le}
+use Rattle.rules.specs.Base.{le}
+use Rattle.std.specs.Prelude.{if◌then◌else◌}
 use Rattle.rules.specs.declared.Refusal.TheVariants.{ImageRefused, NoSuchFunction}
 use Rattle.rules.specs.Answer.{refusal}
 use Rattle.rules.specs.Reader as r

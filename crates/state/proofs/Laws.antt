@@ -12,7 +12,8 @@ use lib.Seq.{get_or-set_same, get_or-set_other, set_out}
 use borrow.Author.Tests.{eq-eqb, ne_eqb}
 use mathlib.Core.Option.{some}
 use mathlib.Core.Option.{none as nothing}
-use Rattle.rules.specs.Base.{if◌then◌else◌, position, one_on}
+use Rattle.rules.specs.Base.{position, one_on}
+use Rattle.std.specs.Prelude.{if◌then◌else◌}
 use Rattle.rules.specs.Chunk.{Chunk, Run, Constant}
 use Rattle.rules.specs.Compiler.{Local, Upvalue, at_slot, uninitialized, find_local, capture}
 use Rattle.state.specs.Layout.{levels, deepest, row, stack, vec, pile, local_of, upvalue_of, constant_of, type_of, run_at, locals_of, upvalues_of, level_constants, start_of_code, start_of_runs, chunk_at, ctx_at, parents_of, Wf, upvalues_place, upvalue_count_place, constants_place, constant_count_place, depth_place, code_from_place, runs_from_place, name_place, arity_place, type_place, level_words, local_count_place, level_used}

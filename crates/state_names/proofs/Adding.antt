@@ -12,7 +12,8 @@ use lib.Seq.{get_or-set_same}
 use lib.Dec.{eqb, ltb}
 use lib.Arith.{digits_div, digits_mod}
 use borrow.Author.Tests.{eq-eqb, eqb-true, eqb-false, lt-ltb, le-ltb}
-use Rattle.rules.specs.Base.{if◌then◌else◌, position}
+use Rattle.rules.specs.Base.{position}
+use Rattle.std.specs.Prelude.{if◌then◌else◌}
 use Rattle.rules.specs.declared.Span.{Span}
 use Rattle.rules.specs.Compiler.{Upvalue, CompilerCtx, captured, with_upvalues, same_upvalue, added, add_upvalue}
 use Rattle.state.specs.Layout.{levels, upvalue_of, upvalues_of, ctx_at, Wf, upvalues_place, upvalue_count_place, constants_place, depth_place, level_words}

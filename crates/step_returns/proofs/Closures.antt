@@ -6,7 +6,7 @@ use mathlib.Core.Bool.{Bool, true, false}
 use mathlib.Core.List.{List, [], ◌∷◌}
 use lib.ListN.{get_or}
 use lib.Dec.{eqb}
-use Rattle.rules.specs.Base.{if◌then◌else◌}
+use Rattle.std.specs.Prelude.{if◌then◌else◌}
 use Rattle.rules.specs.declared.Span.{Span}
 use Rattle.rules.specs.Compiler.{Upvalue, Compiler, Compile, ok, ◌>>◌, done, return, emit_u8, emit_op, emit_upvalues}
 use Rattle.state.specs.Layout.{levels, code_end_at, row, upvalue_of, upvalues_of, Wf, upvalues_place, upvalue_count_place, level_words}

@@ -7,7 +7,7 @@ use mathlib.Core.List.{List, [], ◌∷◌, ◌++◌}
 use mathlib.Core.Option.{none}
 use lib.ListN.{get_or}
 use lib.Dec.{eqb}
-use Rattle.rules.specs.Base.{if◌then◌else◌}
+use Rattle.std.specs.Prelude.{if◌then◌else◌}
 use Rattle.rules.specs.Answer.{NO_SPAN}
 use Rattle.rules.specs.Op as op
 use Rattle.rules.specs.declared.Span.{Span}

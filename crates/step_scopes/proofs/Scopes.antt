@@ -7,7 +7,7 @@ use native.Mathlib.Omega.{arith}
 use lib.ListN.{length, get_or}
 use lib.Dec.{ltb, eqb}
 use borrow.Author.Tests.{lt-ltb, le-ltb}
-use Rattle.rules.specs.Base.{if◌then◌else◌}
+use Rattle.std.specs.Prelude.{if◌then◌else◌}
 use Rattle.rules.specs.Op as op
 use Rattle.rules.specs.declared.Span.{Span}
 use Rattle.rules.specs.Compiler.{Local, CompilerCtx, Compiler, with_ctx, with_locals, with_scope_depth, Outcome, ok, Compile, go_on, ◌>>=◌, ◌>>◌, done, return, the, update_ctx, declare_local, define_local, is_global, begin_scope, begin_ctx, emit_u8, emit_op, pop_locals, end_scope, end_ctx, back_to}

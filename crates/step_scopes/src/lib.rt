@@ -1,10 +1,9 @@
 // Scopes and the locals in them, contexts begun and ended: each against the rules' step of its name.
 #![tactic(auto)]
 
-ghost use Rattle.std.specs.Prelude.{◌≡◌, ℕ, ◌+◌, ◌*◌, ◌<◌, get_or};
+ghost use Rattle.std.specs.Prelude.{◌≡◌, ℕ, ◌+◌, ◌*◌, ◌<◌, get_or, if◌then◌else◌};
 ghost use Rattle.rules.specs.Compiler.{declare_local, define_local, is_global, begin_scope, end_scope};
 ghost use Rattle.rules.specs.Op as ops;
-ghost use Rattle.rules.specs.Base.{if◌then◌else◌};
 ghost use Rattle.state.specs.Layout.{levels, deepest, local_of, Wf, depth_place, level_words};
 ghost use Rattle.steps.specs.View.{mem, Fit, steady, deeper, shallower, Did, Changed, Tried, Asked, PoppedAt, Entered, Left};
 

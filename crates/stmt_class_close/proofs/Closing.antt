@@ -4,7 +4,7 @@ use mathlib.Core.Option.{Option}
 use mathlib.Core.List.{List}
 use Prim.Native.Nat.{ℕ, ◌+◌}
 use lib.Dec.{ltb}
-use Rattle.rules.specs.Base.{if◌then◌else◌}
+use Rattle.std.specs.Prelude.{if◌then◌else◌}
 use Rattle.rules.specs.declared.Span.{Span}
 use Rattle.rules.specs.Answer.{NO_SPAN}
 use Rattle.rules.specs.Tree.{Superclass}

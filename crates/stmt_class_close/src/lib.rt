@@ -1,8 +1,7 @@
 // A class after its methods: it goes from the stack where it had some, and the scope of `super` is ended where one was begun.
 #![tactic(auto)]
 
-ghost use Rattle.std.specs.Prelude.{◌≡◌, ℕ, ◌+◌, ◌*◌, ◌≤◌, ◌<◌, length, get_or, ltb};
-ghost use Rattle.rules.specs.Base.{if◌then◌else◌};
+ghost use Rattle.std.specs.Prelude.{◌≡◌, ℕ, ◌+◌, ◌*◌, ◌≤◌, ◌<◌, length, get_or, ltb, if◌then◌else◌};
 ghost use Rattle.rules.specs.Op as ops;
 ghost use Rattle.rules.specs.Compiler.{done, emit_op};
 ghost use Rattle.fields.specs.Words.{word8, word16};

@@ -1,8 +1,8 @@
 -- What the functions around a class's methods say: what stands before them opens the class, what stands after them closes it. Between the two the class
 -- is the innermost one, and where it has a superclass the scope of `super` is open.
-use Rattle.std.specs.Prelude.{◌≡◌, Bool, true, List, ◌∷◌, ℕ, ◌+◌, ◌-◌, ◌≤◌, length, ltb}
+use Rattle.std.specs.Prelude.{◌≡◌, Bool, true, List, ◌∷◌, ℕ, ◌+◌, ◌-◌, ◌≤◌, length, ltb, if◌then◌else◌}
 use Rattle.std.proofs.Math.Option.{Option, some}
-use Rattle.rules.specs.Base.{if◌then◌else◌, lookup}
+use Rattle.rules.specs.Base.{lookup}
 use Rattle.rules.specs.declared.Span.{Span}
 use Rattle.rules.specs.Tree.{Superclass}
 use Rattle.rules.specs.Reader.{got}

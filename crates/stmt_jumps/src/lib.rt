@@ -1,9 +1,8 @@
 // The jumps around the parts of an `if`, a `while` and a `for`.
 #![tactic(auto)]
 
-ghost use Rattle.std.specs.Prelude.{◌≡◌, true, ℕ, ◌+◌, ◌≤◌};
+ghost use Rattle.std.specs.Prelude.{◌≡◌, true, ℕ, ◌+◌, ◌≤◌, if◌then◌else◌};
 ghost use Rattle.std.proofs.Math.Option.{some, none};
-ghost use Rattle.rules.specs.Base.{if◌then◌else◌};
 ghost use Rattle.steps.specs.View.{mem, Fit, code_len, steady, Did, Opened};
 ghost use Rattle.stmt_jumps.specs.Jumps.{open_jump, turn_jump, close_loop};
 

@@ -1,8 +1,7 @@
 -- The condition and the increment of a `for`: either may be missing, and a byte of the record says which of them are there. What was read is compiled
 -- by the rules' `for_cond` and `for_incr`.
-use Rattle.std.specs.Prelude.{◌≡◌, Bool, true, List, ℕ, ◌+◌, ◌/◌, ◌%◌, ◌≤◌, eqb}
+use Rattle.std.specs.Prelude.{◌≡◌, Bool, true, List, ℕ, ◌+◌, ◌/◌, ◌%◌, ◌≤◌, eqb, if◌then◌else◌}
 use Rattle.std.proofs.Math.Option.{Option, none, some}
-use Rattle.rules.specs.Base.{if◌then◌else◌}
 use Rattle.rules.specs.declared.Span.{Span}
 use Rattle.rules.specs.Tree.{Expr}
 use Rattle.rules.specs.Reader.{Read, got}

@@ -1,8 +1,7 @@
 -- Statements are compiled in parts, since their children are compiled in between. Each part is a cut of the rules' step; proofs/ has the laws that
 -- the parts make the whole.
-use Rattle.std.specs.Prelude.{Bool, List, ℕ, ◌+◌, length, leb}
+use Rattle.std.specs.Prelude.{Bool, List, ℕ, ◌+◌, length, leb, if◌then◌else◌}
 use Rattle.std.proofs.Math.Option.{Option}
-use Rattle.rules.specs.Base.{if◌then◌else◌}
 use Rattle.rules.specs.declared.Span.{Span}
 use Rattle.rules.specs.declared.Refusal.TheVariants.{TooManyParams}
 use Rattle.rules.specs.Tree.{Superclass, Fun}

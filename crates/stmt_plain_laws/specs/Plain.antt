@@ -1,8 +1,8 @@
 -- A statement that holds no statement finishes no function: it is compiled by steps alone. A `var` and a `return` are cut in parts, since their values
 -- are compiled in between; proofs/ has the laws that the parts make the whole.
-use Rattle.std.specs.Prelude.{◌≡◌, Bool, List, ℕ}
+use Rattle.std.specs.Prelude.{◌≡◌, Bool, List, ℕ, if◌then◌else◌}
 use Rattle.std.proofs.Math.Option.{Option, some}
-use Rattle.rules.specs.Base.{if◌then◌else◌, lookup}
+use Rattle.rules.specs.Base.{lookup}
 use Rattle.rules.specs.declared.Span.{Span}
 use Rattle.rules.specs.declared.Refusal.TheVariants.{ReturnInInitializer, ReturnOutsideFunction}
 use Rattle.rules.specs.Tree.{Expr, Stmt}

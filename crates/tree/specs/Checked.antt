@@ -1,7 +1,6 @@
 -- What the file as a whole comes to.
-use Rattle.std.specs.Prelude.{List, ℕ, leb, eqb, length}
+use Rattle.std.specs.Prelude.{List, ℕ, leb, eqb, length, if◌then◌else◌}
 use Rattle.std.proofs.Math.Option.{none}
-use Rattle.rules.specs.Base.{if◌then◌else◌}
 use Rattle.rules.specs.Limits.{first_limits, max_tree}
 use Rattle.rules.specs.declared.Refusal.TheVariants.{TreeForm, TreeTooLong}
 use Rattle.rules.specs.Tree.{Stmts}

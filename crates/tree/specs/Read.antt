@@ -1,6 +1,5 @@
 -- The reader's part of the answer: what the rules' reader says of a file, whatever the compiler would make of it.
-use Rattle.std.specs.Prelude.{List, ℕ, leb, length}
-use Rattle.rules.specs.Base.{if◌then◌else◌}
+use Rattle.std.specs.Prelude.{List, ℕ, leb, length, if◌then◌else◌}
 use Rattle.rules.specs.Limits.{first_limits, max_tree}
 use Rattle.rules.specs.declared.Answer.{Answer}
 use Rattle.rules.specs.declared.Refusal.TheVariants.{TreeTooLong}

@@ -7,7 +7,8 @@ use mathlib.Core.List.{List, [], ◌∷◌}
 use Prim.Native.Nat.{ℕ}
 use native.Mathlib.Omega.{arith}
 use lib.Dec.{T, ltb, ltb→lt, nltb→le}
-use Rattle.rules.specs.Base.{if◌then◌else◌, all, before}
+use Rattle.rules.specs.Base.{all, before}
+use Rattle.std.specs.Prelude.{if◌then◌else◌}
 use Rattle.rules.specs.TreeFile.{rises, differs}
 use Rattle.rules_laws.proofs.Facts.{All}
 use Rattle.rules_laws.proofs.Tests.{all_and, all_cons}

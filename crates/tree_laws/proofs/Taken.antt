@@ -9,7 +9,8 @@ use native.Mathlib.Omega.{arith}
 use lib.ListN.{length}
 use lib.Dec.{ltb, eqb}
 use borrow.Author.Tests.{ltb-true, eqb-true}
-use Rattle.rules.specs.Base.{if◌then◌else◌, lookup}
+use Rattle.rules.specs.Base.{lookup}
+use Rattle.std.specs.Prelude.{if◌then◌else◌}
 use Rattle.rules.specs.declared.Refusal.{Refusal}
 use Rattle.rules.specs.Reader.{Read, got, bad, Reader, go_on, ◌>>=◌, ◌>>◌, return, refuse, need, known, one_of, u8, u16, mark}
 use Rattle.rules.specs.TreeFile.{name}

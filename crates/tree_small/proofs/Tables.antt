@@ -11,7 +11,8 @@ use lib.Dec.{T, ltb, leb, eqb}
 use borrow.Author.Tests.{lt-ltb, le-ltb, lt-leb, le-leb, leb-true, leb-false, ltb-true, ltb-false, eqb-true, eqb-false, ne_eqb}
 use types.Run.{OneOf, hit, miss}
 use mir.Val.{has_key}
-use Rattle.rules.specs.Base.{if◌then◌else◌, lookup, all, all_below}
+use Rattle.rules.specs.Base.{lookup, all, all_below}
+use Rattle.std.specs.Prelude.{if◌then◌else◌}
 use Rattle.rules.specs.declared.Refusal.{Refusal}
 use Rattle.rules.specs.Reader.{got, bad, go_on, ◌>>=◌, ◌>>◌, return, refuse, need, known, one_of, u8, mark}
 use Rattle.rules.specs.TreeFile.{flags, infix_ops, prefix_ops, literal_kinds}

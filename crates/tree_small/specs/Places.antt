@@ -1,7 +1,7 @@
 -- Where a reader of the rules gets to: what it read is left out, and the place after it stays, or the refusal.
 use Rattle.std.proofs.Math.Option.{Option, none, some}
-use Rattle.std.specs.Prelude.{List, ◌≡◌, ℕ, zero, suc, ◌+◌, ◌≤◌, ◌<◌, ltb, leb, length}
-use Rattle.rules.specs.Base.{if◌then◌else◌, lookup}
+use Rattle.std.specs.Prelude.{List, ◌≡◌, ℕ, zero, suc, ◌+◌, ◌≤◌, ◌<◌, ltb, leb, length, if◌then◌else◌}
+use Rattle.rules.specs.Base.{lookup}
 use Rattle.rules.specs.declared.Refusal.{Refusal}
 use Rattle.rules.specs.Reader.{Read, got, bad, Reader, ◌>>=◌, ◌>>◌, return, need, u8}
 use Rattle.fields.specs.Words.{letters}

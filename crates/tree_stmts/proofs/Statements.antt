@@ -12,7 +12,8 @@ use lib.Dec.{ltb, leb, eqb, lit<}
 use native.Mathlib.Nat.{mod-lt}
 use borrow.Author.Tests.{lt-ltb, le-ltb, leb-true, leb-false, ltb-true, ltb-false, eqb-true, eqb-false, ne_eqb}
 use types.Run.{OneOf}
-use Rattle.rules.specs.Base.{if◌then◌else◌, lookup, all}
+use Rattle.rules.specs.Base.{lookup, all}
+use Rattle.std.specs.Prelude.{if◌then◌else◌}
 use Rattle.rules.specs.declared.Span.{Span}
 use Rattle.rules.specs.declared.Refusal.{Refusal}
 use Rattle.rules.specs.declared.Refusal.TheVariants.{TreeForm, TreeTooDeep, TooManyOpen}

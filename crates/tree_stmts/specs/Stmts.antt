@@ -1,7 +1,7 @@
 -- Statements and methods: what a record's own fields announce, and where the record ends.
-use Rattle.std.specs.Prelude.{Bool, true, false, List, [], ◌∷◌, ◌≡◌, ℕ, ◌+◌, ◌-◌, ◌<◌}
+use Rattle.std.specs.Prelude.{Bool, true, false, List, [], ◌∷◌, ◌≡◌, ℕ, ◌+◌, ◌-◌, ◌<◌, if◌then◌else◌}
 use Rattle.std.proofs.Math.Option.{some}
-use Rattle.rules.specs.Base.{if◌then◌else◌, lookup}
+use Rattle.rules.specs.Base.{lookup}
 use Rattle.rules.specs.declared.Span.{Span}
 use Rattle.rules.specs.declared.Refusal.TheVariants.{TreeForm}
 use Rattle.rules.specs.Reader.{Read, got, bad}

@@ -7,7 +7,7 @@ use native.Mathlib.Omega.{arith}
 use lib.ListN.{length}
 use lib.Dec.{leb, eqb}
 use borrow.Author.Tests.{leb-true, eq-eqb, ne_eqb, le-leb, lt-leb}
-use Rattle.rules.specs.Base.{if◌then◌else◌}
+use Rattle.std.specs.Prelude.{if◌then◌else◌}
 use Rattle.fields.specs.Words.{word16, word32, letters}
 use Rattle.writer_directory.specs.Walk.{constant_size, constant_end, constants_end, record_end}
 

@@ -1,6 +1,5 @@
 -- The walk over the records of an image, by their marks and counts, and what it is to put their directory behind them.
-use Rattle.std.specs.Prelude.{◌≡◌, List, ◌++◌, ℕ, zero, suc, ◌+◌, ◌*◌, length, replicate, leb, eqb}
-use Rattle.rules.specs.Base.{if◌then◌else◌}
+use Rattle.std.specs.Prelude.{◌≡◌, List, ◌++◌, ℕ, zero, suc, ◌+◌, ◌*◌, length, replicate, leb, eqb, if◌then◌else◌}
 use Rattle.rules.specs.Chunk.{ObjectFunction}
 use Rattle.rules.specs.Image.{join, function_bytes, directory_bytes}
 use Rattle.fields.specs.Words.{word16, word32, letters}

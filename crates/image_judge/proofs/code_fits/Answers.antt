@@ -1,7 +1,7 @@
 -- `code_fits` meets its contract.
 use mathlib.Core.Path.{refl, sym, ◌∙◌, ap}
 use mathlib.Core.Bool.{Bool}
-use Rattle.rules.specs.Base.{if◌then◌else◌}
+use Rattle.std.specs.Prelude.{if◌then◌else◌}
 use lib.ListN.{length}
 use Rattle.rules.specs.Division.{operands_fit}
 use Rattle.image_code.specs.Table.{kinds_in, division, from, judged, judged_code}

@@ -4,7 +4,8 @@ use mathlib.Core.Bool.{not}
 use mathlib.Core.Path.{refl, sym, ◌∙◌}
 use mathlib.Core.List.{[], ◌∷◌}
 use mathlib.Core.Logic.{⊎_elim}
-use Rattle.rules.specs.Base.{if◌then◌else◌, lookup, all}
+use Rattle.rules.specs.Base.{lookup, all}
+use Rattle.std.specs.Prelude.{if◌then◌else◌}
 use Rattle.rules.specs.TreeFile.{stmt_marks}
 use Rattle.tree_stmts.specs.Stmts.{known_stmt, method_marks}
 use Rattle.tree_small.proofs.Places.{cut, there}
