@@ -88,9 +88,9 @@ pub fn stopped_of(t: &[u64], why: Why) -> Stopped
     ensures { result ≡ told t.now why }
 {
     Stopped {
-        what: refusal_of(why),
         function: name_of(t, why.around),
         around: why.around as u64,
+        what: refusal_of(why),
     }
 }
 

@@ -1,0 +1,41 @@
+-- The script: its statements, its end, and it is finished. The places first, each over the one before: of a call `-asked` is the place where it is made,
+-- `-left` the call from where its areas have come back, `-went` and `-halted` the call once its answer is known.
+use native.Mathlib.Omega.{arith}
+use borrow.Author.Rules.{rules}
+use Rattle.rules.specs.Limits.{first_limits}
+use Rattle.entry.proofs.Rows.{there}
+use Rattle.entry.proofs.Script.{ready, stopped_first, fit_between, stopped_second, to_finish, scripted}
+use Rattle.entry.proofs.compile_script.Goals as goal
+
+-- ## The needs
+pub compile_stmts-a-requires : goal.compile_stmts-a-requires
+compile_stmts-a-requires c =
+    record { left = first_limits.depth; there = there c.requires.0; ready = ready c.requires.1 _ _ c.requires.0.short }
+
+pub returns-in_default : goal.returns-in_default
+returns-in_default c =
+    stopped_first c.requires.0 c.requires.1 (c.compile_stmts-a.ensures.at_depth first_limits.depth) c.in_default.is
+
+pub end_script-b-requires : goal.end_script-b-requires
+end_script-b-requires c =
+    fit_between c.requires.0 c.requires.1 (c.compile_stmts-a.ensures.at_depth first_limits.depth) c.in-Next.is
+
+pub returns-in_default-b : goal.returns-in_default-b
+returns-in_default-b c =
+    stopped_second c.requires.0 c.requires.1 (c.compile_stmts-a.ensures.at_depth first_limits.depth) c.in-Next.is c.end_script-b.ensures c.in_default-b.is
+
+pub finish-requires : goal.finish-requires
+finish-requires c =
+    to_finish c.requires.0 c.requires.1 (c.compile_stmts-a.ensures.at_depth first_limits.depth) c.in-Next.is c.end_script-b.ensures
+    c.in-Next-b.is
+
+pub overflow_add-result : goal.overflow_add-result
+overflow_add-result c =
+    let f = to_finish c.requires.0 c.requires.1 (c.compile_stmts-a.ensures.at_depth first_limits.depth) c.in-Next.is c.end_script-b.ensures
+    c.in-Next-b.is in
+    omega (arith, c.finish.ensures.bytes, f.2)
+
+pub returns : goal.returns
+returns c =
+    scripted c.requires.0 c.requires.1 (c.compile_stmts-a.ensures.at_depth first_limits.depth) c.in-Next.is c.end_script-b.ensures c.in-Next-b.is
+    c.finish.ensures
