@@ -1,4 +1,4 @@
-/* Puffbramble's functions for C, in the archive libpuffbramble.a (x86-64 Linux; `rt staticlib puffbramble` writes it). What they answer is proved
+/* Puffbramble's functions for C, in the archive libpuffbramble.a (x86-64 Linux; `tools/archive` writes it). What they answer is proved
  * in crates/puffbramble for all bytes and numbers: none is refused a call. What the caller owes is what C asks of any pointer.
  *
  * Lent memory. A pointer stands with the number of elements behind it (of bytes for uint8_t, of words of four bytes for uint32_t, of eight for

@@ -1,4 +1,4 @@
-//! Links the archive of `rt staticlib puffbramble`: from PUFFBRAMBLE_ARCHIVE, a folder, or from the repository's target/staticlib.
+//! Links the archive that `tools/archive` builds: from PUFFBRAMBLE_ARCHIVE, a folder, or from the repository's target/staticlib.
 
 use std::env;
 use std::path::PathBuf;
@@ -14,7 +14,7 @@ fn main() {
     let archive = folder.join("libpuffbramble.a");
     println!("cargo:rerun-if-changed={}", archive.display());
     if !archive.is_file() {
-        eprintln!("{} is not there: `rt staticlib puffbramble` at the repository's top writes it", archive.display());
+        eprintln!("{} is not there: `tools/archive` at the repository's top writes it", archive.display());
         exit(1);
     }
     println!("cargo:rustc-link-search=native={}", folder.display());

@@ -1,18 +1,17 @@
 -- P1 to P12 of the order: one table, one theorem, by computation. A tree is written as the digits of its records.
 use mathlib.Core.Path.{◌≡◌, refl}
-use mathlib.Core.Bool.{Bool, true, false}
 use mathlib.Core.Option.{Option, none, some}
 use mathlib.Core.List.{List, [], ◌∷◌, ◌++◌, map}
 use Prim.Native.Nat.{ℕ, zero, suc, ◌+◌, ◌/◌, ◌%◌, ◌^◌}
-use lib.ListN.{length, replicate}
+use lib.ListN.{replicate}
 use Rattle.rules.specs.declared.Span.{Span}
 use Rattle.rules.specs.declared.Answer.{Answer}
-use Rattle.rules.specs.declared.Refusal.TheVariants.{WorkShort, TreeTooDeep, TooManyOpen, CodeFull, OutFull, NoSuchFunction}
+use Rattle.rules.specs.declared.Refusal.TheVariants.{WorkShort, CodeFull, OutFull, NoSuchFunction}
 use Rattle.rules.specs.Answer.{refusal, accepted, at_span, in_function, refusal_in}
 use Rattle.rules.specs.Op.{Operands, Plain, Byte, Captured, Value, Text, Invoke, Ahead, Back, Closure}
 use Rattle.rules.specs.Chunk.{ObjectFunction}
-use Rattle.rules.specs.Limits.{Limits, first_limits, max_code}
-use Rattle.rules.specs.Entry.{Lent, Left, Compiled, functions_are, refused, leaves, compile_tree, compile}
+use Rattle.rules.specs.Limits.{first_limits, max_code}
+use Rattle.rules.specs.Entry.{Lent, Compiled, functions_are, refused, leaves, compile_tree, compile}
 use Rattle.rules.specs.Image.{image_bytes}
 use Rattle.rules.specs.Division.{Instruction, division, word}
 use Rattle.rules.specs.Checker.{check, code_of, code_place, code_answer}

@@ -3,7 +3,6 @@ use Rattle.std.specs.Prelude.{Bool, true, false, not, ◌&&◌, List, [], ◌∷
 use Rattle.std.proofs.Math.Option.{Option, none, some}
 use Rattle.std.proofs.Math.ListN.{get_elem?}
 use Rattle.rules.specs.Base.{all, all_below}
-use Rattle.rules.specs.declared.Span.{Span}
 use Rattle.rules.specs.declared.Answer.{Answer}
 use Rattle.rules.specs.declared.Refusal.TheVariants.{ImageRefused, NoSuchFunction, NoSuchByte}
 use Rattle.rules.specs.Answer.{refusal, accepted, at_span}

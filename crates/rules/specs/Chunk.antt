@@ -1,5 +1,5 @@
 -- src/vm/chunk.rs: code bytes, constants and span runs, and the two writes. The `debug` family is left out.
-use Rattle.std.specs.Prelude.{Bool, true, false, ◌&&◌, List, [], ◌∷◌, ◌++◌, ℕ, ◌+◌, length, ltb, eqb, if◌then◌else◌}
+use Rattle.std.specs.Prelude.{Bool, false, ◌&&◌, List, [], ◌∷◌, ◌++◌, ℕ, ◌+◌, length, ltb, eqb, if◌then◌else◌}
 use Rattle.std.proofs.Math.Option.{Option, none, some}
 use Rattle.rules.specs.Base.{position}
 use Rattle.rules.specs.declared.Span.{Span}

@@ -3,7 +3,7 @@
 -- antt wants a definition above its use, so the file goes from the Rust's end to its start: the structs, `impl CompilerCtx`, the small functions
 -- of `impl Compiler`, then `compile_expr`, `compile_function`, `compile_stmt`, `compile`. The arms of each `match` stand in the Rust's order.
 -- A list of locals, of contexts or of classes has the newest first; code, constants, captured variables and finished functions stand in order.
-use Rattle.std.specs.Prelude.{Bool, true, false, not, ◌&&◌, List, [], ◌∷◌, ◌++◌, ℕ, zero, suc, ◌+◌, ◌-◌, ◌/◌, ◌%◌, length, drop, set, ltb, leb, eqb, if◌then◌else◌}
+use Rattle.std.specs.Prelude.{Bool, true, false, not, ◌&&◌, List, [], ◌∷◌, ◌++◌, ℕ, ◌+◌, ◌-◌, ◌/◌, ◌%◌, length, drop, set, ltb, leb, eqb, if◌then◌else◌}
 use Rattle.std.proofs.Math.Option.{Option, none, some}
 use Rattle.rules.specs.Base.{position}
 use Rattle.rules.specs.declared.Span.{Span}

@@ -1,7 +1,7 @@
 -- The image file: from finished functions to bytes, with or without a directory behind them.
 use Rattle.std.specs.Prelude.{Bool, List, [], ◌∷◌, ◌++◌, ℕ, ◌+◌, length, if◌then◌else◌}
 use Rattle.rules.specs.Base.{le}
-use Rattle.rules.specs.Chunk.{Chunk, Constant, CN, CS, CF, Run, ObjectFunction}
+use Rattle.rules.specs.Chunk.{Constant, CN, CS, CF, Run, ObjectFunction}
 
 -- ## Records
 

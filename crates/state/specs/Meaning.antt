@@ -1,6 +1,6 @@
 -- What each function of src/ answers and leaves, in the rules' own terms. Each record says which words it may have changed: every other is as it was,
 -- the image writer's among them.
-use Rattle.std.specs.Prelude.{◌≡◌, Bool, true, false, ◌&&◌, List, ◌∷◌, ℕ, suc, ◌+◌, ◌*◌, ◌-◌, ◌/◌, ◌%◌, ◌≤◌, ◌<◌, length, get_or, ltb}
+use Rattle.std.specs.Prelude.{◌≡◌, Bool, true, false, ◌&&◌, List, ◌∷◌, ℕ, suc, ◌+◌, ◌*◌, ◌-◌, ◌%◌, ◌≤◌, ◌<◌, length, get_or, ltb}
 use Rattle.rules.specs.declared.Span.{Span}
 use Rattle.rules.specs.declared.Refusal.TheVariants.{AccessInsideInitializer, TooManyUpvalues}
 use Rattle.rules.specs.Chunk.{Chunk, Run, same_span, write_u8, write_constant, Written, at_place, no_room}

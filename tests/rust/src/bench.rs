@@ -1,5 +1,5 @@
 //! Timings beside the port, in one process over the same bytes: the two sides in turn, the least of several rounds.
-//! Built by `bench` with the archive of `rt staticlib puffbramble` and without the checks that the other commands run with.
+//! Built by `bench` with the archive of `tools/archive` and without the checks that the other commands run with.
 
 use std::hint::black_box;
 

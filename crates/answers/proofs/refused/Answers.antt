@@ -1,7 +1,6 @@
 -- `Answer::refused` is the rules' `refusal`, case by case.
 use mathlib.Core.Path.{◌∙◌, sym, ap}
 use Rattle.rules.specs.Answer.{refusal}
-use borrow.Author.Rules.{rules}
 use Rattle.answers.proofs.refused.Goals as goal
 
 pub returns-in-WorkShort : goal.returns-in-WorkShort

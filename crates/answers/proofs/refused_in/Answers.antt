@@ -2,7 +2,6 @@
 use mathlib.Core.Path.{ap}
 use Rattle.rules.specs.declared.Answer.{Answer}
 use Rattle.rules.specs.Answer.{in_function, refusal_in}
-use borrow.Author.Rules.{rules}
 use Rattle.answers.proofs.refused_in.Goals as goal
 
 pub returns : goal.returns

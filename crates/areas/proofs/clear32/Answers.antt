@@ -1,8 +1,5 @@
 -- `clear32`, by the laws of `Clear`.
-use Prim.Native.Nat.{◌-◌}
-use lib.ListN.{length}
-use Rattle.areas.proofs.Clear.{Cleared, none, more, all}
-use borrow.Author.Rules.{rules}
+use Rattle.areas.proofs.Clear.{none, more, all}
 use Rattle.areas.proofs.clear32.Goals as goal
 
 pub loop-half-init : goal.loop-half-init

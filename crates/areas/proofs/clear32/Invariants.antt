@@ -1,8 +1,7 @@
 -- `clear32`, by the laws of `Clear`.
 use Prim.Native.Nat.{◌-◌}
 use lib.ListN.{length}
-use Rattle.areas.proofs.Clear.{Cleared, none, more, all}
-use borrow.Author.Rules.{rules}
+use Rattle.areas.proofs.Clear.{Cleared}
 use Rattle.areas.proofs.clear32.Given as goal
 
 abbrev pub invariant-loop-half : goal.invariant-loop-half

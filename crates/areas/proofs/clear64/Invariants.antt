@@ -1,8 +1,7 @@
 -- `clear64`, by the laws of `Clear`.
 use Prim.Native.Nat.{◌-◌}
 use lib.ListN.{length}
-use Rattle.areas.proofs.Clear.{Cleared, none, more, all}
-use borrow.Author.Rules.{rules}
+use Rattle.areas.proofs.Clear.{Cleared}
 use Rattle.areas.proofs.clear64.Given as goal
 
 abbrev pub invariant-loop-word : goal.invariant-loop-word

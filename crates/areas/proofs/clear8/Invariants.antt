@@ -1,8 +1,7 @@
 -- `clear8`, by the laws of `Clear`.
 use Prim.Native.Nat.{◌-◌}
 use lib.ListN.{length}
-use Rattle.areas.proofs.Clear.{Cleared, none, more, all}
-use borrow.Author.Rules.{rules}
+use Rattle.areas.proofs.Clear.{Cleared}
 use Rattle.areas.proofs.clear8.Given as goal
 
 abbrev pub invariant-loop-byte : goal.invariant-loop-byte
