@@ -1,15 +1,14 @@
 -- What the compiler gives, the image checker accepts: `sound` of the functions of every image, and what the output then holds.
 use mathlib.Core.Path.{◌≡◌, refl, subst, subst⁻¹}
-use mathlib.Core.Bool.{Bool, true, false, not, ◌&&◌}
+use mathlib.Core.Bool.{Bool, true, false, not}
 use mathlib.Core.Option.{Option, none, some}
 use mathlib.Core.List.{List, [], ◌∷◌, ◌++◌}
-use Prim.Native.Nat.{ℕ, zero, suc, ◌+◌, ◌-◌, ◌*◌, ◌≤◌, ◌<◌}
+use Prim.Native.Nat.{ℕ, zero, suc, ◌+◌, ◌-◌, ◌*◌, ◌≤◌}
 use native.Mathlib.Omega.{arith}
 use lib.ListN.{length, length-append, replicate, get_elem?}
 use lib.Dec.{T, leb, eqb, eqb→eq, eqb_refl, lt→ltb}
-use Rattle.rules.specs.Base.{all, all_below}
+use Rattle.rules.specs.Base.{all}
 use Rattle.std.specs.Prelude.{if◌then◌else◌}
-use Rattle.rules.specs.declared.Answer.{Answer}
 use Rattle.rules.specs.declared.Refusal.{Refusal}
 use Rattle.rules.specs.declared.Refusal.TheVariants as answer
 use Rattle.rules.specs.Answer.{refusal, accepted, outside, refusal_in}
@@ -31,7 +30,7 @@ use Rattle.rules.specs.Entry.{Lent, Left, asks_directory, code_limit, Compiled, 
 use Rattle.rules_laws.proofs.Tests.{both, left, right, all_cons, all_and, below_all}
 use Rattle.rules_laws.proofs.Keeps.{After}
 use Rattle.rules_laws.proofs.Layer as layer
-use Rattle.rules_laws.proofs.Facts.{All, all_at, all_map, same_eq, Form, plain, byte, captured_at, value_at, text_at, invoke, ahead, back, closure}
+use Rattle.rules_laws.proofs.Facts.{All, same_eq, Form, plain, byte, captured_at, value_at, text_at, invoke, ahead, back, closure}
 use Rattle.rules_laws.proofs.Pieces.{Piece, code}
 use Rattle.rules_laws.proofs.Runs.{Counted, counted}
 use Rattle.rules_laws.proofs.Coded.{Formed, Coded, Known, none_known, coded, in_order, Earlier, naming, closings, closes_if}

@@ -19,7 +19,7 @@ use Rattle.rules.specs.Compiler.{Outcome, ok, err}
 use Rattle.rules_laws.proofs.Keeps.{After}
 use Rattle.rules_laws.proofs.Layer as layer
 use Rattle.rules_laws.proofs.Facts.{Fact, ChunkLaws, Grown, as_before, one_more, IsValue, with_constants, jump_bytes, loop_bytes, same_eq}
-use Rattle.rules_laws.proofs.Tests.{both, left, right, all_cons, all_and, all_snoc}
+use Rattle.rules_laws.proofs.Tests.{both, left, right, all_cons, all_snoc}
 use Rattle.rules_laws.proofs.Coded.{names_end, names_grown, write_constants}
 
 -- ## No two are equal

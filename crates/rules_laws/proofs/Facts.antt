@@ -3,7 +3,7 @@
 -- `P k opened fs n ch` is a fact of an open function: `ch` is its chunk, `n` how many variables it has captured so far, `fs` the functions finished
 -- so far, `opened` those that were finished when it was opened, and `k` says which jumps wait and which places may be gone back to.
 use mathlib.Core.Path.{◌≡◌, refl, ap, subst}
-use mathlib.Core.Bool.{Bool, true, false, not, ◌&&◌}
+use mathlib.Core.Bool.{Bool, true, false}
 use mathlib.Core.Option.{Option, none, some}
 use mathlib.Core.List.{List, [], ◌∷◌, ◌++◌}
 use Prim.Native.Nat.{ℕ, zero, suc, ◌+◌, ◌-◌, ◌*◌, ◌/◌, ◌%◌, ◌≤◌, ◌<◌}
@@ -20,7 +20,6 @@ use Rattle.rules.specs.Division.{pairs_fit}
 use Rattle.rules.specs.Compiler as c
 use Rattle.rules.specs.Compiler.{CompilerCtx, at_slot, uninitialized, captured, Upvalue, Local}
 use Rattle.rules_laws.proofs.Tests.{both}
-use Rattle.rules_laws.proofs.Keeps.{the}
 
 -- ## Lists
 

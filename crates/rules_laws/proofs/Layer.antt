@@ -21,7 +21,6 @@ use Rattle.rules.specs.Compiler as c
 use Rattle.rules.specs.Compiler.{Compiler, CompilerCtx, Outcome, ok, err, Found, at_slot, uninitialized, no_local, Resolved, captured, nowhere, failed, Upvalue, Local, FunctionType}
 use Rattle.rules_laws.proofs.Keeps as keeps
 use Rattle.rules_laws.proofs.Keeps.{After, Triple, ◌>>=◌, ◌>>◌, the, need, refuse, return, gives, given, Laws}
-use Rattle.rules_laws.proofs.Tests.{both}
 use Rattle.rules_laws.proofs.Facts.{All, all_map, all_end, at_end, stopped, same_eq, with_constants, with_ops, write_all, IsValue, grown_map, Wrote, Form, Still, Within, within_more, pairs, length_pairs, pairs_within, pairs_bytes, Small, slot_inside, capture_length, initialize_length, Nested, jump_bytes, loop_bytes, Fact, ChunkLaws, as_before, one_more, a_number, a_string, plain, byte, captured_at, value_at, text_at, invoke, still_plain, still_byte, still_captured, still_value, still_text, still_invoke}
 use Rattle.rules.proofs.Computes as computes
 

@@ -19,7 +19,6 @@ use Rattle.rules.specs.Tree.{OpInfix, Add, Subtract, Multiply, Divide, Less, Les
 use Rattle.rules.specs.Tree.{ExprLiteral, LitBool, LitNil, LitNumber, LitString, Superclass}
 use Rattle.rules.specs.Tree.{Stmt, Stmts, StmtBlock, StmtClass, StmtExpr, StmtFor, StmtFun, StmtIf, StmtPrint, StmtReturn, StmtVar, StmtWhile, []ˢ, ◌∷ˢ◌}
 use Rattle.rules.specs.Tree.{Fun, fun, Methods, []ᵐ, method}
-use Rattle.rules.specs.Op as op
 use Rattle.rules.specs.Chunk.{Constant, CN, CS, CF}
 use Rattle.rules.specs.Compiler as c
 use Rattle.rules.specs.Compiler.{Compiler, Compile, FunctionType, Script, Function, Method, Initializer}

@@ -1,5 +1,4 @@
 -- Tests put together: what `&&`, `||`, `all` and `all_below` say of their parts.
-use mathlib.Core.Path.{◌≡◌, refl}
 use mathlib.Core.Bool.{Bool, true, false, ◌&&◌, ◌||◌}
 use mathlib.Core.List.{List, [], ◌∷◌, ◌++◌}
 use Prim.Native.Nat.{ℕ, zero, suc, ◌<◌}
