@@ -1,22 +1,20 @@
 -- A code of bytes looks for constants below 256 only: kinds that agree there judge it alike. And it has no more instructions than bytes.
 use mathlib.Core.Path.{◌≡◌, refl, sym, ◌∙◌, ap}
-use mathlib.Core.Bool.{Bool, true, false, ◌&&◌}
+use mathlib.Core.Bool.{Bool, true, false}
 use mathlib.Core.Option.{Option, none, some}
-use mathlib.Core.List.{List, [], ◌∷◌}
-use Prim.Native.Nat.{ℕ, zero, suc, ◌+◌, ◌-◌, ◌*◌, ◌<◌, ◌≤◌}
+use mathlib.Core.List.{List, ◌∷◌}
+use Prim.Native.Nat.{ℕ, zero, suc, ◌+◌, ◌-◌, ◌<◌, ◌≤◌}
 use native.Mathlib.Omega.{arith}
-use lib.ListN.{length, get_or, take, drop}
+use lib.ListN.{length, get_or, take}
 use lib.Dec.{ltb, eqb}
 use borrow.Author.Tests.{lt-ltb, ltb-true, ne_eqb}
 use Rattle.rules.specs.Base.{all, all_below}
 use Rattle.std.specs.Prelude.{if◌then◌else◌}
 use Rattle.rules.specs.Op.{Operands, Plain, Byte, Captured, Value, Text, Invoke, Ahead, Back, Closure}
-use Rattle.rules.specs.Division.{Kind, Instruction, followed_by, divide, fit, operands_fit, is_function, lands}
+use Rattle.rules.specs.Division.{Kind, Instruction, followed_by, divide, fit, operands_fit, is_function}
 use Rattle.rules.specs.Checker.{closes, closures}
-use Rattle.image_code.specs.Forms.{form_of, operands_by, width_by, width}
+use Rattle.image_code.specs.Forms.{form_of, width_by, width}
 use Rattle.image_code.specs.Table.{instructions, closed_by, code_right, judged_code}
-use Rattle.image_code.specs.declared.Verdict.{Verdict}
-use Rattle.image_code.specs.declared.Verdict.TheVariants.{Yes, No}
 use Rattle.image_code.proofs.Steps.{divide_none, divide_op, sized_at}
 use Rattle.image_code.proofs.Once.{below_same}
 

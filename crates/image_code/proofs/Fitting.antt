@@ -1,15 +1,14 @@
 -- Laws of an instruction's operands.
-use mathlib.Core.Path.{◌≡◌, refl, sym, ◌∙◌, ap}
-use mathlib.Core.Bool.{Bool, true, false, ◌&&◌, ◌||◌}
-use mathlib.Core.List.{List, [], ◌∷◌}
+use mathlib.Core.Path.{◌≡◌, refl, sym, ◌∙◌}
+use mathlib.Core.Bool.{Bool, true, false}
+use mathlib.Core.List.{List, ◌∷◌}
 use Prim.Native.Nat.{ℕ, zero, suc, ◌+◌, ◌-◌, ◌*◌, ◌<◌, ◌≤◌}
 use native.Mathlib.Omega.{arith}
 use lib.ListN.{length, get_or, take, drop}
-use lib.Dec.{ltb, leb, eqb}
+use lib.Dec.{ltb, eqb}
 use lib.Seq.{get_or-drop, get_or-take, drop-drop}
-use borrow.Author.Tests.{eq-eqb, ne_eqb, lt-ltb, le-ltb}
-use Rattle.rules.specs.Division.{Kind, missing, number, text, function, Instruction, fit, operands_fit, pairs_fit, is_value, is_text, is_function}
-use Rattle.rules.specs.Op.{Operands}
+use borrow.Author.Tests.{ne_eqb, le-ltb}
+use Rattle.rules.specs.Division.{Kind, missing, number, text, function, fit, operands_fit, pairs_fit, is_value, is_text, is_function}
 use Rattle.image_code.specs.Forms.{operands_by, form_of, width, width_by}
 use Rattle.image_code.proofs.Computes.{computes}
 use Rattle.image_code.specs.Table.{kind_of, kinds_in, instruction_at}

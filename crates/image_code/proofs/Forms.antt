@@ -1,15 +1,15 @@
 -- Laws of single instructions: forms, widths, kinds.
-use mathlib.Core.Path.{◌≡◌, refl, sym, ◌∙◌, ap}
+use mathlib.Core.Path.{◌≡◌, refl}
 use mathlib.Core.Bool.{Bool, true, false}
 use mathlib.Core.Option.{Option, none, some}
-use mathlib.Core.List.{List, [], ◌∷◌}
-use Prim.Native.Nat.{ℕ, zero, suc, ◌+◌, ◌-◌, ◌*◌, ◌<◌, ◌≤◌}
+use mathlib.Core.List.{List, ◌∷◌}
+use Prim.Native.Nat.{ℕ, zero, suc, ◌+◌, ◌-◌, ◌<◌, ◌≤◌}
 use native.Mathlib.Omega.{arith}
 use native.Mathlib.Nat.{add-zero, eq-or-lt_of_le}
 use mathlib.Core.Logic.{⊎_elim}
 use native.Mathlib.Decide.{dec_lt}
 use lib.Dec.{T, ltb, leb, eqb, eqb→eq, ltb→lt, leb→le}
-use lib.ListN.{length, get_or, take, drop, get_or-eq_default}
+use lib.ListN.{length, get_or, drop, get_or-eq_default}
 use lib.Seq.{get_or-drop}
 use borrow.Author.Tests.{eq-eqb, ne_eqb}
 use Rattle.op.proofs.Ranges.{below}
@@ -19,7 +19,7 @@ use Rattle.rules.specs.Base.{all_below, lookup}
 use Rattle.std.specs.Prelude.{if◌then◌else◌}
 use Rattle.rules.specs.Op.{Operands, Plain, Byte, Captured, Value, Text, Invoke, Ahead, Back, Closure, operands, operands_of}
 use Rattle.rules.specs.Op as Op
-use Rattle.rules.specs.Division.{Kind, missing, number, text, function}
+use Rattle.rules.specs.Division.{Kind}
 use Rattle.rules.proofs.Computes as rules
 use Rattle.image_code.specs.Table.{kind_of, kinds_in}
 

@@ -2,7 +2,7 @@
 use mathlib.Core.Path.{◌≡◌, refl, sym, ap, ◌∙◌}
 use mathlib.Core.Bool.{Bool, true, false, ◌&&◌}
 use mathlib.Core.Option.{Option, none, some}
-use mathlib.Core.List.{List, [], ◌∷◌, map}
+use mathlib.Core.List.{List, ◌∷◌, map}
 use mathlib.Core.Logic.{⊎_elim}
 use Prim.Native.Nat.{ℕ, zero, suc, ◌+◌, ◌/◌, ◌%◌, ◌<◌, ◌≤◌}
 use native.Mathlib.Omega.{arith}
@@ -15,7 +15,7 @@ use Rattle.rules.specs.Base.{all}
 use Rattle.std.specs.Prelude.{if◌then◌else◌}
 use Rattle.rules.specs.Reader.{Read, got, bad, many}
 use Rattle.rules.specs.Chunk.{Constant, CN, CS, CF, ObjectFunction}
-use Rattle.rules.specs.Division.{Kind, missing, number, text, function, function_kind, kind_at}
+use Rattle.rules.specs.Division.{function_kind, kind_at}
 use Rattle.rules.specs.Division as Division
 use Rattle.rules.specs.ImageFile.{read_function}
 use Rattle.rules.specs.Checker.{names_earlier}

@@ -2,7 +2,7 @@
 use mathlib.Core.Path.{◌≡◌, refl, ap, ◌∙◌, subst, subst⁻¹}
 use mathlib.Core.Bool.{◌||◌}
 use mathlib.Core.Option.{Option, none, some}
-use mathlib.Core.List.{List, [], ◌∷◌, ◌++◌, append_assoc, append-nil}
+use mathlib.Core.List.{List, ◌∷◌, ◌++◌, append_assoc, append-nil}
 use Prim.Native.Nat.{ℕ, suc, ◌+◌, ◌-◌, ◌≤◌, ◌<◌}
 use native.Mathlib.Omega.{arith}
 use native.Mathlib.Decide.{dec_lt}
@@ -14,7 +14,7 @@ use Rattle.rules.specs.Op as op
 use Rattle.rules.specs.Op.{Operands}
 use Rattle.rules.specs.Chunk.{Constant, Run, total, ObjectFunction}
 use Rattle.rules.specs.Division as d
-use Rattle.rules.specs.Division.{Instruction, Kind, word, fits}
+use Rattle.rules.specs.Division.{Instruction, word, fits}
 use Rattle.rules.specs.Compiler as c
 use Rattle.rules.specs.Compiler.{Compiler, Outcome, ok, err}
 use Rattle.rules_laws.proofs.Keeps.{After}

@@ -5,7 +5,7 @@
 use mathlib.Core.Path.{◌≡◌, refl, ap, subst}
 use mathlib.Core.Bool.{Bool, true, false}
 use mathlib.Core.Option.{Option, none, some}
-use mathlib.Core.List.{List, [], ◌∷◌, ◌++◌}
+use mathlib.Core.List.{List, ◌∷◌, ◌++◌}
 use Prim.Native.Nat.{ℕ, zero, suc, ◌+◌, ◌-◌, ◌*◌, ◌/◌, ◌%◌, ◌≤◌, ◌<◌}
 use native.Mathlib.Omega.{arith}
 use lib.ListN.{length, get_or, get_elem?}
@@ -18,7 +18,7 @@ use Rattle.rules.specs.Op.{Operands, Plain, Byte, Captured, Value, Text, Invoke,
 use Rattle.rules.specs.Chunk.{Chunk, Constant, CN, CS, CF, empty_chunk, write_u8, ObjectFunction, same_constant}
 use Rattle.rules.specs.Division.{pairs_fit}
 use Rattle.rules.specs.Compiler as c
-use Rattle.rules.specs.Compiler.{CompilerCtx, at_slot, uninitialized, captured, Upvalue, Local}
+use Rattle.rules.specs.Compiler.{CompilerCtx, at_slot, uninitialized, Upvalue, Local}
 use Rattle.rules_laws.proofs.Tests.{both}
 
 -- ## Lists

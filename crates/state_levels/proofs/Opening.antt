@@ -4,11 +4,11 @@ use native.Mathlib.Omega.{arith}
 use native.Mathlib.Nat.{eq-or-lt_of_le}
 use mathlib.Core.Logic.{⊎_elim}
 use mathlib.Core.Path.{◌≡◌, refl, sym, ap, ap₂, ◌∙◌, subst}
-use mathlib.Core.List.{List, [], ◌∷◌}
+use mathlib.Core.List.{List, ◌∷◌}
 use lib.ListN.{length, get_or, set, length-set}
 use lib.Seq.{get_or-set_same, get_or-set_other}
 use Rattle.rules.specs.Compiler.{new_ctx}
-use Rattle.state.specs.Layout.{levels, deepest, table_words, code_end_at, runs_end_at, row, stack, local_of, upvalue_of, constant_of, type_of, start_of_code, start_of_runs, end_of_code, end_of_runs, run_at, chunk_at, ctx_at, parents_of, Wf, upvalues_place, upvalue_count_place, constants_place, constant_count_place, depth_place, code_from_place, runs_from_place, name_place, arity_place, type_place, level_words, local_count_place}
+use Rattle.state.specs.Layout.{levels, deepest, table_words, code_end_at, runs_end_at, local_of, upvalue_of, constant_of, type_of, start_of_code, start_of_runs, end_of_code, end_of_runs, run_at, chunk_at, ctx_at, parents_of, Wf, upvalues_place, upvalue_count_place, constants_place, constant_count_place, depth_place, code_from_place, runs_from_place, name_place, arity_place, type_place, level_words, local_count_place}
 use Rattle.state.specs.Meaning.{Kept, Moved, Closed, Began}
 use Rattle.state.proofs.Laws.{kept_set, kept_then, ctx_same, parents_named, wf_count, wf_upvalues, wf_depth, wf_plain}
 use Rattle.state.proofs.Words.{none_row, none_stack}

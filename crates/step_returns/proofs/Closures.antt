@@ -2,16 +2,15 @@
 use Prim.Native.Nat.{ℕ, zero, suc, ◌+◌, ◌*◌, ◌-◌, ◌/◌, ◌%◌, ◌≤◌, ◌<◌}
 use native.Mathlib.Omega.{arith}
 use mathlib.Core.Path.{◌≡◌, refl, sym, ap, ap₂, subst, ◌∙◌}
-use mathlib.Core.Bool.{Bool, true, false}
-use mathlib.Core.List.{List, [], ◌∷◌}
+use mathlib.Core.List.{List, ◌∷◌}
 use lib.ListN.{get_or}
 use lib.Dec.{eqb}
 use Rattle.std.specs.Prelude.{if◌then◌else◌}
 use Rattle.rules.specs.declared.Span.{Span}
-use Rattle.rules.specs.Compiler.{Upvalue, Compiler, Compile, ok, ◌>>◌, done, return, emit_u8, emit_op, emit_upvalues}
-use Rattle.state.specs.Layout.{levels, code_end_at, row, upvalue_of, upvalues_of, Wf, upvalues_place, upvalue_count_place, level_words}
+use Rattle.rules.specs.Compiler.{Upvalue, Compiler, ◌>>◌, done, return, emit_u8, emit_op, emit_upvalues}
+use Rattle.state.specs.Layout.{levels, row, upvalue_of, upvalues_of, upvalues_place, upvalue_count_place, level_words}
 use Rattle.state.proofs.Laws.{row_cong}
-use Rattle.steps.specs.View.{Mem, mem, t_of, Rest, view, Agrees, Fit, steady, Gave, Refused, Did, Turning, PairedAs, PairedAt}
+use Rattle.steps.specs.View.{Mem, mem, t_of, Rest, view, Fit, steady, Did, Turning, PairedAs, PairedAt}
 use Rattle.steps.specs.declared.Step.{Step}
 use Rattle.steps.specs.declared.Step.TheVariants.{Next, Stop}
 use Rattle.steps.proofs.Steps.{went, stuck, next, stop, ahead_then, seq_ok, seq_err}

@@ -1,9 +1,8 @@
 -- Steps one after the other, however they are grouped, and steps that do nothing.
 use mathlib.Core.Path.{◌≡◌, refl, subst, ◌∙◌}
 use Prim.Native.Nat.{ℕ}
-use native.Mathlib.Omega.{arith}
 use Rattle.rules.specs.Compiler.{Compiler, Outcome, ok, err, Compile, go_on, return, done}
-use Rattle.steps.specs.View.{Mem, Fit, Turn, steady, Ahead, Gave, DidAs, Did}
+use Rattle.steps.specs.View.{Mem, Fit, Turn, steady, Gave, DidAs, Did}
 use Rattle.steps.specs.declared.Step.{Step}
 use Rattle.steps.specs.declared.Step.TheVariants.{Next, Stop}
 use Rattle.steps.proofs.Jumps.{ahead_none}

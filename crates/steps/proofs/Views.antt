@@ -1,13 +1,12 @@
 -- What a change of the areas is to the rules' state: which context it is, what stays, and how much code there is.
 use mathlib.Core.Path.{◌≡◌, refl, sym, ap, ap₂, subst, ◌∙◌}
-use mathlib.Core.List.{List, [], ◌∷◌}
+use mathlib.Core.List.{List, ◌∷◌}
 use Prim.Native.Nat.{ℕ, zero, suc, ◌+◌, ◌*◌, ◌-◌, ◌≤◌, ◌<◌}
 use native.Mathlib.Omega.{arith}
 use native.Mathlib.Nat.{eq-or-lt_of_le}
 use mathlib.Core.Logic.{⊎_elim}
 use lib.ListN.{length, get_or}
 use Rattle.rules.specs.declared.Refusal.{Refusal}
-use Rattle.rules.specs.declared.Stopped.{Stopped}
 use Rattle.rules.specs.Chunk.{Chunk}
 use Rattle.rules.specs.Compiler.{Local, CompilerCtx, Compiler, with_ctx, with_chunk, with_locals, with_scope_depth, open_code, stopped}
 use Rattle.state.specs.Layout.{levels, code_end_at, runs_end_at, image_at, locals_of, start_of_code, start_of_runs, end_of_code, end_of_runs, chunk_at, ctx_at, parents_of, Wf, Coded, upvalues_place, constants_place, depth_place, code_from_place, runs_from_place, name_place, type_place, level_words, word}

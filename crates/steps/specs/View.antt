@@ -1,5 +1,5 @@
 -- How the lent areas stand for the compiler's state of the rules, and what it is for a function over them to do what a step of the rules does.
-use Rattle.std.specs.Prelude.{◌≡◌, Bool, true, false, ◌&&◌, List, [], ◌∷◌, ◌++◌, ℕ, suc, ◌+◌, ◌*◌, ◌-◌, ◌≤◌, ◌<◌, length, get_or}
+use Rattle.std.specs.Prelude.{◌≡◌, Bool, true, false, ◌&&◌, List, ◌∷◌, ◌++◌, ℕ, suc, ◌+◌, ◌*◌, ◌-◌, ◌≤◌, ◌<◌, length, get_or}
 use Rattle.rules.specs.declared.Span.{Span}
 use Rattle.rules.specs.declared.Stopped.{Stopped}
 use Rattle.rules.specs.Chunk.{ObjectFunction}
@@ -8,7 +8,6 @@ use Rattle.rules.specs.Compiler.{emit_upvalues, Compiler, new, new_ctx, finish, 
 use Rattle.state.specs.Layout.{levels, image_at, start_of_code, end_of_code, end_of_runs, ctx_at, parents_of, type_of, Wf, Coded, code_end_at, upvalue_of, upvalues_of, depth_place, code_from_place, type_place, level_words, local_count_place}
 use Rattle.state.specs.Meaning.{Kept}
 use Rattle.steps.specs.Why.{code_full, told}
-use Rattle.steps.specs.declared.Why.{Why}
 use Rattle.steps.specs.declared.Step.{Step}
 use Rattle.steps.specs.declared.Step.TheVariants.{Next, Stop}
 use Rattle.steps.specs.declared.Place.{Place}

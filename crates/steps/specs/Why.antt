@@ -1,5 +1,5 @@
 -- Why the compiler stops, as the code hands it on: which refusal its numbers are, and in which function.
-use Rattle.std.specs.Prelude.{◌≡◌, refl, Bool, true, false, List, ℕ, eqb, if◌then◌else◌}
+use Rattle.std.specs.Prelude.{List, ℕ, eqb, if◌then◌else◌}
 use Rattle.rules.specs.Answer.{NO_SPAN}
 use Rattle.rules.specs.declared.Span.{Span}
 use Rattle.rules.specs.declared.Refusal.{Refusal}

@@ -1,18 +1,16 @@
 -- A block: statements between the start and the end of a scope.
 use mathlib.Core.Path.{◌≡◌, refl, sym, ap, ◌∙◌}
-use mathlib.Core.List.{List, []}
+use mathlib.Core.List.{List}
 use Prim.Native.Nat.{ℕ, ◌+◌, ◌-◌, ◌*◌, ◌≤◌, ◌<◌}
 use native.Mathlib.Omega.{arith}
 use native.Mathlib.Nat.{le_refl}
 use Rattle.rules.specs.declared.Span.{Span}
-use Rattle.rules.specs.Tree.{Stmt, Stmts, StmtBlock}
-use Rattle.rules.specs.Reader.{got}
-use Rattle.rules.specs.Compiler.{Compiler, Compile, ◌>>◌, begin_scope, end_scope, compile_stmt, compile_stmts}
+use Rattle.rules.specs.Tree.{Stmt, StmtBlock}
+use Rattle.rules.specs.Compiler.{Compiler, Compile, begin_scope, end_scope, compile_stmt, compile_stmts}
 use Rattle.fields.specs.Words.{word16, letters, span_of}
 use Rattle.tree_laws.proofs.Statements.{block_at}
-use Rattle.tree_laws.proofs.Later.{later_stmts}
 use Rattle.state.specs.Layout.{deepest}
-use Rattle.steps.specs.View.{Mem, Fit, steady, deeper, shallower, depth_at, Gave, Refused, Did}
+use Rattle.steps.specs.View.{Mem, Fit, deeper, shallower, depth_at, Gave, Did}
 use Rattle.steps.specs.declared.Step.{Step}
 use Rattle.steps.specs.declared.Step.TheVariants.{Next, Stop}
 use Rattle.steps.proofs.Steps.{refused_seq, one_up_one_down}

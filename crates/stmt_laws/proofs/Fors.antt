@@ -2,29 +2,27 @@
 use mathlib.Core.Path.{◌≡◌, refl, sym, ap, subst, ◌∙◌}
 use mathlib.Core.Bool.{Bool, true, false}
 use mathlib.Core.Option.{Option, some}
-use mathlib.Core.List.{List, []}
-use Prim.Native.Nat.{ℕ, ◌+◌, ◌-◌, ◌*◌, ◌/◌, ◌%◌, ◌≤◌, ◌<◌}
+use mathlib.Core.List.{List}
+use Prim.Native.Nat.{ℕ, ◌+◌, ◌-◌, ◌/◌, ◌%◌, ◌≤◌, ◌<◌}
 use native.Mathlib.Omega.{arith}
 use native.Mathlib.Nat.{le_refl, le_trans}
 use lib.Dec.{eqb}
 use borrow.Author.Tests.{eqb-true, eqb-false}
 use Rattle.rules.specs.declared.Span.{Span}
-use Rattle.rules.specs.Tree.{Expr, Stmt, Stmts, StmtWhile, StmtFor}
+use Rattle.rules.specs.Tree.{Expr, Stmt, Stmts, StmtFor}
 use Rattle.rules.specs.Reader.{got, Reader}
 use Rattle.rules.specs.TreeFile.{maybe, maybe_stmt, read_expr, read_stmt, read_stmts}
-use Rattle.rules.specs.Compiler.{Compile, ◌>>=◌, ◌>>◌, start_loop, code_length, begin_scope, end_scope, for_cond, for_incr, compile_expr, compile_stmt, compile_stmts}
+use Rattle.rules.specs.Compiler.{start_loop, code_length, begin_scope, end_scope, for_cond, for_incr, compile_stmt, compile_stmts}
 use Rattle.fields.specs.Words.{word8, word16, letters, span_of}
 use Rattle.tree_laws.proofs.Statements.{maybe_yes, maybe_no, ForAt, for_at}
-use Rattle.tree_laws.proofs.Later.{later_expr, later_stmt, later_stmts}
-use Rattle.state.specs.Layout.{deepest}
-use Rattle.steps.specs.View.{Mem, Fit, code_len, depth_at, steady, deeper, shallower, Gave, Refused, Did, Opened, Told}
+use Rattle.tree_laws.proofs.Later.{later_expr, later_stmts}
+use Rattle.steps.specs.View.{Mem, Fit, code_len, depth_at, steady, deeper, shallower, Gave, Did, Told}
 use Rattle.steps.specs.declared.Step.{Step}
 use Rattle.steps.specs.declared.Step.TheVariants.{Next, Stop}
-use Rattle.steps.proofs.Steps.{went, still, valued, stuck, went_to, placed, stuck_to, refused_seq, refused_bind, one_up_one_down}
-use Rattle.expr_laws.specs.Exprs.{There, expr_at, Ran}
-use Rattle.stmt_jumps.specs.Jumps.{open_jump}
+use Rattle.steps.proofs.Steps.{went, still, valued, stuck, refused_seq, refused_bind, one_up_one_down}
+use Rattle.expr_laws.specs.Exprs.{There}
 use Rattle.steps.proofs.Monad.{on_to}
-use Rattle.stmt_output_laws.specs.Output.{funs_left, stmt_at, stmts_at, Grew, Worked, Walked, Ready}
+use Rattle.stmt_output_laws.specs.Output.{funs_left, stmt_at, stmts_at, Worked, Walked, Ready}
 use Rattle.stmt_jumps.specs.Jumps.{close_loop}
 use Rattle.stmt_output_laws.proofs.Growing.{Run, free_steady, of_gave, of_grew, to_grew, told_run, run_seq, run_bind, run_refused, run_refused_seq, grown, reached, refused, stopped, conclude, ready_after}
 use Rattle.stmt_loops.specs.Loops.{cond_at, incr_at, place_of, ConditionedAs, Conditioned, Incremented}
@@ -32,7 +30,7 @@ use Rattle.stmt_loops.specs.declared.Cond.{Cond}
 use Rattle.stmt_laws.proofs.Calls.{further, same_on}
 use Rattle.stmt_laws.proofs.Cuts.{for_cut}
 use Rattle.stmt_laws.proofs.Blocks.{by_parts, begun, less_deep, over_zero, free_shallower}
-use Rattle.stmt_laws.proofs.Ifs.{none_row, one_row, no_deeper, eleven_on}
+use Rattle.stmt_laws.proofs.Ifs.{none_row, one_row}
 use Rattle.fields.specs.Marks as marks
 use Rattle.steps.specs.declared.Why.{Why}
 

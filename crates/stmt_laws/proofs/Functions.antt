@@ -1,34 +1,34 @@
 -- A function: begun a level higher, its statements compiled there, and finished; and the statement and the method that are functions.
 use mathlib.Core.Path.{◌≡◌, refl, sym, ap, subst, ◌∙◌}
 use mathlib.Core.Bool.{true, false}
-use mathlib.Core.List.{List, [], ◌∷◌, ◌++◌, append_assoc}
+use mathlib.Core.List.{List, ◌∷◌, ◌++◌, append_assoc}
 use Prim.Native.Nat.{ℕ, suc, ◌+◌, ◌-◌, ◌*◌, ◌≤◌, ◌<◌}
 use native.Mathlib.Omega.{arith}
-use native.Mathlib.Nat.{le_refl, le_trans}
+use native.Mathlib.Nat.{le_refl}
 use lib.ListN.{length, get_or}
 use Rattle.rules.specs.Limits.{max_tree}
 use Rattle.rules.specs.declared.Span.{Span}
 use Rattle.rules.specs.declared.Refusal.TheVariants.{TreeForm}
 use Rattle.rules.specs.Tree.{Stmt, StmtFun, Stmts, Fun, fun}
-use Rattle.rules.specs.Reader.{got, many}
+use Rattle.rules.specs.Reader.{got}
 use Rattle.rules.specs.TreeFile.{name, read_stmt, fun_fields}
 use Rattle.rules.specs.Chunk.{ObjectFunction, CS}
 use Rattle.rules.specs.Op as op
 use Rattle.rules.specs.Compiler.{Compiler, Compile, ok, err, ◌>>◌, FunctionType, Function, fun_name, method_type, define_name, emit_op_constant, compile_stmt, compile_stmts, compile_function}
 use Rattle.fields.specs.Words.{word16, letters, span_of}
 use Rattle.tree_laws.proofs.Statements.{FunAt, fun_of, FunStmtAt, fun_stmt_at, MethodAt, method_at}
-use Rattle.tree_laws.proofs.Later.{later_names, later_stmts, within_stmts}
+use Rattle.tree_laws.proofs.Later.{later_names, within_stmts}
 use Rattle.state.specs.Layout.{levels, deepest, image_at, start_of_code, end_of_code, type_of, depth_place, code_from_place, type_place, level_words}
-use Rattle.steps.specs.View.{Mem, mem, t_of, Rest, view, Agrees, Fit, code_len, depth_at, steady, Ahead, Gave, Refused, Did}
+use Rattle.steps.specs.View.{Mem, mem, t_of, Rest, view, Agrees, Fit, code_len, depth_at, steady, Refused, Did}
 use Rattle.steps.specs.declared.Step.{Step}
 use Rattle.steps.specs.declared.Step.TheVariants.{Next, Stop}
 use Rattle.steps.proofs.Steps.{seq_ok, seq_err, refused_seq}
 use Rattle.expr_laws.specs.Exprs.{There}
 use Rattle.steps.proofs.Monad.{on_to}
-use Rattle.stmt_output_laws.specs.Output.{funs_left, stmt_at, stmts_at, fun_at, largest, Holds, Added, more, grow, Grew, WorkedAs, Worked, Walked, Ready}
+use Rattle.stmt_output_laws.specs.Output.{funs_left, stmt_at, stmts_at, fun_at, largest, Holds, Added, more, Grew, WorkedAs, Worked, Walked, Ready}
 use Rattle.stmt_output_laws.specs.Output as output
 use Rattle.stmt_output_laws.specs.Parts.{open_function, close_function, compile_method}
-use Rattle.stmt_output_laws.proofs.Growing.{Run, free_steady, of_gave, of_grew, to_grew, run_seq, run_refused_seq, grown, reached, refused, stopped, worked, conclude, worked_like, more_more}
+use Rattle.stmt_output_laws.proofs.Growing.{free_steady, of_gave, of_grew, to_grew, run_seq, run_refused_seq, grown, reached, refused, stopped, conclude, worked_like, more_more}
 use Rattle.stmt_functions.specs.Functions.{FunHead, Inside, FunctionOpenedAs, FunctionOpened, Finished, FunctionClosedAs, FunctionClosed}
 use Rattle.stmt_functions.proofs.Cut.{function_cut}
 use Rattle.stmt_laws.proofs.Cuts.{fun_cut}

@@ -3,29 +3,29 @@
 use mathlib.Core.Path.{◌≡◌, refl, sym, ap, subst, ◌∙◌}
 use mathlib.Core.Bool.{Bool, true, false}
 use mathlib.Core.Option.{some}
-use mathlib.Core.List.{List, []}
+use mathlib.Core.List.{List}
 use mathlib.Core.Logic.{⊎_elim}
 use Prim.Native.Nat.{ℕ, ◌+◌, ◌-◌, ◌*◌, ◌≤◌, ◌<◌}
 use native.Mathlib.Omega.{arith}
 use native.Mathlib.Nat.{le_refl}
 use Rattle.rules.specs.Base.{lookup}
 use Rattle.rules.specs.declared.Span.{Span}
-use Rattle.rules.specs.Tree.{Stmt, Stmts, StmtIf, []ˢ, ◌∷ˢ◌}
+use Rattle.rules.specs.Tree.{Stmt, Stmts, StmtIf}
 use Rattle.rules.specs.Reader.{got, Reader, go_on, return, ◌>>=◌}
 use Rattle.rules.specs.TreeFile.{flags, maybe_stmt, read_expr, read_stmt, read_stmts}
 use Rattle.rules.specs.Compiler.{◌>>◌, compile_expr, compile_stmt, compile_stmts, patch_jump}
 use Rattle.fields.specs.Words.{word8, word16, letters, span_of}
 use Rattle.tree_laws.proofs.Statements.{IfAt, if_at, flag_on, flag_off, flag_is}
-use Rattle.tree_laws.proofs.Later.{later_expr, later_stmt, later_stmts}
+use Rattle.tree_laws.proofs.Later.{later_expr, later_stmt}
 use Rattle.state.specs.Layout.{deepest}
-use Rattle.steps.specs.View.{Mem, Fit, code_len, depth_at, steady, Gave, Refused, Did, Opened}
+use Rattle.steps.specs.View.{Mem, Fit, code_len, depth_at, steady, Did, Opened}
 use Rattle.steps.specs.declared.Step.{Step}
 use Rattle.steps.specs.declared.Step.TheVariants.{Next, Stop}
 use Rattle.steps.proofs.Steps.{went, still, valued, stuck, went_to, placed, stuck_to, refused_seq, refused_bind}
 use Rattle.expr_laws.specs.Exprs.{There, expr_at, Ran}
 use Rattle.stmt_jumps.specs.Jumps.{open_jump, turn_jump}
 use Rattle.steps.proofs.Monad.{on_to}
-use Rattle.stmt_output_laws.specs.Output.{funs_left, stmt_at, stmts_at, Grew, Worked, Walked, Ready}
+use Rattle.stmt_output_laws.specs.Output.{funs_left, stmt_at, stmts_at, Worked, Walked, Ready}
 use Rattle.stmt_output_laws.proofs.Growing.{Run, free_steady, of_gave, of_grew, to_grew, run_seq, run_bind, run_refused, run_refused_seq, grown, reached, refused, stopped, conclude, ready_after}
 use Rattle.stmt_laws.proofs.Cuts.{if_cut}
 use Rattle.stmt_laws.proofs.Blocks.{by_parts}

@@ -1,21 +1,20 @@
 -- A row of statements is walked: those that are left come to the same, from the areas as they are, as all of them from where the walk began.
 use mathlib.Core.Path.{◌≡◌, refl, sym, ap, subst, ◌∙◌}
-use mathlib.Core.List.{List, []}
-use Prim.Native.Nat.{ℕ, suc, ◌+◌, ◌-◌, ◌*◌, ◌≤◌, ◌<◌}
+use mathlib.Core.List.{List}
+use Prim.Native.Nat.{ℕ, suc, ◌-◌, ◌≤◌, ◌<◌}
 use native.Mathlib.Omega.{arith}
-use Rattle.rules.specs.Tree.{Stmt, Stmts, []ˢ, ◌∷ˢ◌}
+use Rattle.rules.specs.Tree.{Stmts}
 use Rattle.rules.specs.Reader.{got}
-use Rattle.rules.specs.TreeFile.{read_stmt, read_stmts}
+use Rattle.rules.specs.TreeFile.{read_stmt}
 use Rattle.rules.specs.Compiler.{Compiler, ◌>>◌, compile_stmt, compile_stmts}
 use Rattle.fields.specs.Words.{word16}
 use Rattle.tree_laws.proofs.Statements.{StmtRowAt, no_stmts, more_stmts}
-use Rattle.state.specs.Layout.{deepest}
-use Rattle.steps.specs.View.{Mem, Fit, depth_at, Refused}
+use Rattle.steps.specs.View.{Mem, Refused}
 use Rattle.steps.specs.declared.Step.{Step}
 use Rattle.steps.specs.declared.Step.TheVariants.{Next, Stop}
 use Rattle.steps.proofs.Steps.{refused_seq}
 use Rattle.expr_laws.specs.Exprs.{There}
-use Rattle.stmt_output_laws.specs.Output.{funs_left, stmt_at, stmts_at, Grew, Worked, Walked, Ready}
+use Rattle.stmt_output_laws.specs.Output.{funs_left, stmt_at, stmts_at, Grew, Walked, Ready}
 use Rattle.stmt_output_laws.proofs.Growing.{of_grew, ready_after, grown, reached, refused, worked, stopped, Onward, onward_start, onward_step, onward_refused, onward_done}
 use Rattle.stmt_laws.proofs.Cuts.{none_cut, row_cut}
 use Rattle.steps.specs.declared.Why.{Why}

@@ -1,29 +1,26 @@
 -- A `while`: where its code starts, a condition, a body, and the jump back.
 use mathlib.Core.Path.{◌≡◌, refl, sym, ap, subst, ◌∙◌}
-use mathlib.Core.Bool.{Bool, true, false}
-use mathlib.Core.Option.{Option, some}
-use mathlib.Core.List.{List, []}
-use Prim.Native.Nat.{ℕ, ◌+◌, ◌-◌, ◌*◌, ◌/◌, ◌%◌, ◌≤◌, ◌<◌}
+use mathlib.Core.Option.{some}
+use mathlib.Core.List.{List}
+use Prim.Native.Nat.{ℕ, ◌+◌, ◌-◌, ◌≤◌, ◌<◌}
 use native.Mathlib.Omega.{arith}
 use native.Mathlib.Nat.{le_refl, le_trans}
-use lib.Dec.{eqb}
 use Rattle.rules.specs.declared.Span.{Span}
-use Rattle.rules.specs.Tree.{Expr, Stmt, Stmts, StmtWhile, StmtFor}
-use Rattle.rules.specs.Reader.{got, Reader}
-use Rattle.rules.specs.TreeFile.{maybe, maybe_stmt, read_expr, read_stmt, read_stmts}
-use Rattle.rules.specs.Compiler.{Compile, ◌>>=◌, ◌>>◌, start_loop, code_length, begin_scope, end_scope, for_cond, for_incr, compile_expr, compile_stmt, compile_stmts}
-use Rattle.fields.specs.Words.{word8, word16, letters, span_of}
-use Rattle.tree_laws.proofs.Statements.{WhileAt, while_at, ForAt, for_at}
-use Rattle.tree_laws.proofs.Later.{later_expr, later_stmt, later_stmts}
-use Rattle.state.specs.Layout.{deepest}
-use Rattle.steps.specs.View.{Mem, Fit, code_len, depth_at, steady, deeper, shallower, Gave, Refused, Did, Opened, Told}
+use Rattle.rules.specs.Tree.{Stmt, StmtWhile}
+use Rattle.rules.specs.Reader.{got}
+use Rattle.rules.specs.TreeFile.{read_expr, read_stmt}
+use Rattle.rules.specs.Compiler.{start_loop, code_length, compile_expr, compile_stmt}
+use Rattle.fields.specs.Words.{word16, letters, span_of}
+use Rattle.tree_laws.proofs.Statements.{WhileAt, while_at}
+use Rattle.tree_laws.proofs.Later.{later_expr}
+use Rattle.steps.specs.View.{Mem, Fit, code_len, depth_at, steady, Did, Opened, Told}
 use Rattle.steps.specs.declared.Step.{Step}
 use Rattle.steps.specs.declared.Step.TheVariants.{Next, Stop}
-use Rattle.steps.proofs.Steps.{went, still, valued, stuck, went_to, placed, stuck_to, refused_seq, refused_bind, one_up_one_down}
+use Rattle.steps.proofs.Steps.{went, still, valued, stuck, went_to, placed, stuck_to, refused_seq, refused_bind}
 use Rattle.expr_laws.specs.Exprs.{There, expr_at, Ran}
 use Rattle.stmt_jumps.specs.Jumps.{open_jump}
 use Rattle.steps.proofs.Monad.{on_to}
-use Rattle.stmt_output_laws.specs.Output.{funs_left, stmt_at, stmts_at, Grew, Worked, Walked, Ready}
+use Rattle.stmt_output_laws.specs.Output.{funs_left, stmt_at, Worked, Walked, Ready}
 use Rattle.stmt_jumps.specs.Jumps.{close_loop}
 use Rattle.stmt_output_laws.proofs.Growing.{Run, free_steady, of_gave, of_grew, to_grew, told_run, run_seq, run_bind, run_refused, run_refused_seq, grown, reached, refused, stopped, conclude, ready_after}
 use Rattle.stmt_laws.proofs.Cuts.{while_cut}

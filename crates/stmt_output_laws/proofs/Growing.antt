@@ -1,11 +1,11 @@
 -- Steps that may finish functions, one after the other: what they add to the output adds up, and whatever else they do is done in turn.
 use mathlib.Core.Path.{◌≡◌, refl, sym, ap, subst, ◌∙◌}
 use mathlib.Core.Bool.{Bool, true, false, ◌&&◌}
-use mathlib.Core.List.{List, [], ◌++◌, append_assoc, append-nil}
+use mathlib.Core.List.{List, ◌++◌, append_assoc, append-nil}
 use Prim.Native.Nat.{ℕ, ◌+◌, ◌*◌, ◌-◌, ◌≤◌}
 use native.Mathlib.Omega.{arith}
-use native.Mathlib.Nat.{le_refl, le_trans}
-use lib.ListN.{length, get_or}
+use native.Mathlib.Nat.{le_refl}
+use lib.ListN.{get_or}
 use Rattle.rules.specs.Chunk.{ObjectFunction}
 use Rattle.rules.specs.Compiler.{Compiler, Outcome, ok, Compile, go_on, ◌>>=◌, ◌>>◌}
 use Rattle.state.specs.Layout.{deepest, image_at}
@@ -14,7 +14,7 @@ use Rattle.steps.specs.declared.Step.{Step}
 use Rattle.steps.specs.declared.Step.TheVariants.{Next, Stop}
 use Rattle.steps.proofs.Steps.{gave_bind, gave_seq, gave_refused, gave_refused_seq, ahead_then}
 use Rattle.steps.proofs.Jumps.{ahead_none}
-use Rattle.stmt_output_laws.specs.Output.{largest, Holds, Added, more, grow, Grew, WorkedAs, Worked, Ready}
+use Rattle.stmt_output_laws.specs.Output.{Holds, Added, more, grow, Grew, WorkedAs, Worked, Ready}
 use Rattle.steps.specs.Why.{told}
 use Rattle.steps.specs.declared.Why.{Why}
 use Rattle.rules.specs.declared.Stopped.{Stopped}

@@ -8,7 +8,7 @@ use lib.ListN.{length}
 use Rattle.rules.specs.declared.Span.{Span}
 use Rattle.rules.specs.declared.Refusal.{Refusal}
 use Rattle.rules.specs.declared.Refusal.TheVariants.{TreeForm}
-use Rattle.rules.specs.Tree.{Expr, Stmt, Stmts, Fun, Methods}
+use Rattle.rules.specs.Tree.{Expr, Stmt, Stmts, Fun}
 use Rattle.rules.specs.Reader.{got, Reader, go_on, ◌>>=◌, ◌>>◌, return, here, need, one_of, u8, many}
 use Rattle.rules.specs.TreeFile.{ExprMark, EA, EC, EG, EI, EL, EP, ES, EU, EV, LiteralKind, a_false, a_true, a_nil, a_number, a_string, infix_ops, prefix_ops, literal_kinds, name, flag, flags, maybe, maybe_stmt, read_exprs, read_stmts, read_methods, assign_fields, call_fields, get_fields, infix_fields, literal_of, literal_fields, prefix_fields, set_fields, super_fields, var_fields, expr_fields, expr_mark, expr_marks, expr_record, read_expr}
 use Rattle.rules.specs.TreeFile.{StmtMark, SB, SC, SE, SF, SI, SO, SP, SR, SV, SW, Children, block_fields, class_fields, expression_fields, fun_fields, if_fields, for_fields, print_fields, return_fields, var_stmt_fields, while_fields, stmt_fields, stmt_mark, stmt_marks, stmt_record, read_superclass, read_stmt, read_method}

@@ -1,11 +1,8 @@
 -- `least_words` meets its contract, by the law of `io` on counts.
 use native.Mathlib.Omega.{arith}
 use Rattle.io.proofs.Counting.{prefix_len_of_le}
-use borrow.Author.Rules.{rules}
 use Rattle.compile_replay.proofs.least_words.Statement.{statement}
 use Rattle.compile_replay.proofs.least_words.Tie as tie
-use Rattle.compile_replay.proofs.least_words.Reads as reads
-use Rattle.compile_replay.proofs.least_words.Lts as lts
 
 returns : tie.Need-returns
 returns c = prefix_len_of_le _ _ (omega arith)

@@ -3,11 +3,6 @@ use Prim.Native.Nat.{◌-◌, ◌≤◌}
 use borrow.Author.Rules.{rules}
 use Rattle.compile_replay.proofs.replay_all.Statement.{statement}
 use Rattle.compile_replay.proofs.replay_all.Tie as tie
-use Rattle.compile_replay.proofs.replay_all.Reads as reads
-use Rattle.compile_replay.proofs.replay_all.Lts as lts
-use Rattle.vectors.proofs.one_if.Reads as one-if-reads
-use Rattle.compile_replay.proofs.replay.Reads as replay-reads
-use Rattle.vectors.proofs.report.Reads as report-reads
 
 abbrev invariant-loop : tie.invariant-loop
 invariant-loop packed₀ tree₀ image₀ out₀ table₀ code₀ spans₀ same₀ other₀ k₀ packed tree image out table code spans same other k = (k ≤ 100000) × (same ≤ k) × (other ≤ k)

@@ -4,9 +4,6 @@ use lib.ListN.{length}
 use borrow.Author.Rules.{rules}
 use Rattle.compile_replay.proofs.same_output.Statement.{statement}
 use Rattle.compile_replay.proofs.same_output.Tie as tie
-use Rattle.compile_replay.proofs.same_output.Reads as reads
-use Rattle.compile_replay.proofs.same_output.Lts as lts
-use Rattle.compile_replay.proofs.byte_or_zero.Reads as byte-or-zero-reads
 
 abbrev invariant-loop : tie.invariant-loop
 invariant-loop out image i₀ i = i ≤ length out

@@ -1,6 +1,5 @@
 -- `compile` meets its contract.
 use Rattle.entry.proofs.Answers.{answered}
-use borrow.Author.Rules.{rules}
 use Rattle.entry.proofs.compile.Goals as goal
 
 pub returns : goal.returns

@@ -1,9 +1,8 @@
 -- `compile_lent` meets its contract.
-use mathlib.Core.Path.{refl, sym, ◌∙◌}
+use mathlib.Core.Path.{sym, ◌∙◌}
 use lib.Seq.{length-take-le}
 use Rattle.tree.proofs.SoundFile.{refused_file}
 use Rattle.entry.proofs.Answers.{refused_as, written_as, table_short, table_enough}
-use borrow.Author.Rules.{rules}
 use Rattle.state.specs.Layout.{table_words}
 use Rattle.entry.proofs.compile_lent.Goals as goal
 

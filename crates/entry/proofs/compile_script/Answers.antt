@@ -1,7 +1,6 @@
 -- The script: its statements, its end, and it is finished. The places first, each over the one before: of a call `-asked` is the place where it is made,
 -- `-left` the call from where its areas have come back, `-went` and `-halted` the call once its answer is known.
 use native.Mathlib.Omega.{arith}
-use borrow.Author.Rules.{rules}
 use Rattle.rules.specs.Limits.{first_limits}
 use Rattle.entry.proofs.Rows.{there}
 use Rattle.entry.proofs.Script.{ready, stopped_first, fit_between, stopped_second, to_finish, scripted}

@@ -4,7 +4,6 @@ use lib.ListN.{length}
 use Rattle.entry.proofs.Rows.{rows_of, sound_refused, sound_recorded}
 use Rattle.entry.proofs.Script.{clean}
 use Rattle.entry.proofs.Answers.{written_limit, written_finished, refused_as}
-use borrow.Author.Rules.{rules}
 use Rattle.entry.proofs.compile_sound.Goals as goal
 
 pub compile_script-r-requires : goal.compile_script-r-requires

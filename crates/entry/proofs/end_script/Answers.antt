@@ -1,6 +1,5 @@
 -- `end_script` meets its contract.
 use Rattle.steps.proofs.Steps.{went, halt, then_on}
-use borrow.Author.Rules.{rules}
 use Rattle.entry.proofs.end_script.Goals as goal
 
 pub returns-in_default : goal.returns-in_default

@@ -1,6 +1,5 @@
 -- `span_at` meets its contract.
 use Rattle.fields.specs.Words.{span_of}
-use borrow.Author.Rules.{rules}
 use Rattle.fields.proofs.span_at.Goals as goal
 
 pub returns : goal.returns

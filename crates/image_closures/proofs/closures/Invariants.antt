@@ -1,11 +1,8 @@
 -- `closures` meets its contract.
 use Prim.Native.Nat.{◌-◌}
-use native.Mathlib.Omega.{arith}
-use mathlib.Core.Path.{◌≡◌}
 use lib.ListN.{length}
 use Rattle.image_code.specs.Table.{kinds_in}
 use Rattle.image_closures.specs.Counts.{Closing}
-use Rattle.image_closures.proofs.Counting.{closing_skip, closing_width, closing_fits, closing_two, closing_other, closing_here, closing_done}
 use Rattle.image_closures.proofs.closures.Given as goal
 
 abbrev pub invariant-loop-at : goal.invariant-loop-at

@@ -1,7 +1,6 @@
 -- `form_of` meets its contract.
 use Rattle.image_code.proofs.Forms.{forms, form_known, form_unknown}
 use native.Mathlib.Omega.{arith}
-use borrow.Author.Rules.{rules}
 use Rattle.image_code.proofs.form_of.Goals as goal
 
 pub returns-then-op-le-METHOD : goal.returns-then-op-le-METHOD

@@ -2,7 +2,6 @@
 use native.Mathlib.Omega.{arith}
 use Prim.Native.Nat.{◌+◌}
 use Rattle.image_code.proofs.Forms.{kind_found, kind_beyond}
-use borrow.Author.Rules.{rules}
 use Rattle.image_code.proofs.kind_at.Goals as goal
 
 pub offset_bounds-kinds-place : goal.offset_bounds-kinds-place

@@ -2,9 +2,7 @@
 use Prim.Native.Nat.{◌-◌}
 use native.Mathlib.Omega.{arith}
 use mathlib.Core.Path.{refl}
-use lib.ListN.{get_or}
 use Rattle.image_code.proofs.Forms.{width_fixed, width_missed, width_found}
-use borrow.Author.Rules.{rules}
 use Rattle.image_code.proofs.width_at.Goals as goal
 
 pub returns-then-op-ne-CLOSURE : goal.returns-then-op-ne-CLOSURE

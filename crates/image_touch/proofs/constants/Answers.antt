@@ -4,7 +4,6 @@ use mathlib.Core.Bool.{not}
 use native.Mathlib.Omega.{arith}
 use mathlib.Core.Path.{◌∙◌}
 use borrow.Author.Tests.{not-true, not-false}
-use borrow.Author.Rules.{rules}
 use Rattle.image_touch.proofs.Knowing.{known_stop, known_wrong, known_done}
 use Rattle.image_touch.proofs.constants.Goals as goal
 

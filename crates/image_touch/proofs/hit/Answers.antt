@@ -2,7 +2,6 @@
 use native.Mathlib.Omega.{arith}
 use mathlib.Core.Path.{◌≡◌, refl}
 use Prim.Native.Nat.{◌+◌}
-use borrow.Author.Rules.{rules}
 use Rattle.image_touch.proofs.hit.Goals as goal
 
 pub overflow_add-operand : goal.overflow_add-operand

@@ -1,7 +1,6 @@
 -- `touch` meets its contract.
 use native.Mathlib.Omega.{arith}
 use mathlib.Core.Path.{◌∙◌}
-use borrow.Author.Rules.{rules}
 use Rattle.image_touch.specs.Walked.{Sound}
 use Rattle.image_touch.proofs.Searching.{not_image, image_room, image_sound}
 use Rattle.image_touch.proofs.touch.Goals as goal

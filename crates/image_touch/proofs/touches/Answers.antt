@@ -7,7 +7,6 @@ use mathlib.Core.Bool.{true}
 use lib.ListN.{get_or}
 use lib.Dec.{eqb}
 use borrow.Author.Tests.{not-true, not-false}
-use borrow.Author.Rules.{rules}
 use Rattle.rules.specs.Touch.{names_global}
 use Rattle.image_touch.proofs.Walking.{other_op, operand_within, past_constants, by_word}
 use Rattle.image_touch.proofs.touches.Goals as goal

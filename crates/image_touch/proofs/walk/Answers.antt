@@ -5,7 +5,7 @@ use mathlib.Core.Path.{sym, ◌∙◌}
 use lib.ListN.{length}
 use Rattle.image_code.specs.Table.{kinds_in}
 use Rattle.image_constants.specs.Words.{constants_of}
-use Rattle.image_touch.proofs.Walking.{Walking, walk_begin, walk_width, walk_fits, walk_hit, walk_on, walk_done}
+use Rattle.image_touch.proofs.Walking.{walk_begin, walk_width, walk_fits, walk_hit, walk_on, walk_done}
 use Rattle.image_touch.proofs.walk.Goals as goal
 use Rattle.image_touch.proofs.walk.Tie as tie
 use Rattle.image_touch.proofs.walk.Lts as lts

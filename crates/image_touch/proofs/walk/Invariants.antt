@@ -1,11 +1,9 @@
 -- `walk` meets its contract.
-use Prim.Native.Nat.{◌+◌, ◌-◌, ◌<◌, ◌≤◌}
-use native.Mathlib.Omega.{arith}
-use mathlib.Core.Path.{sym, ◌∙◌}
+use Prim.Native.Nat.{◌-◌}
 use lib.ListN.{length}
 use Rattle.image_code.specs.Table.{kinds_in}
 use Rattle.image_constants.specs.Words.{constants_of}
-use Rattle.image_touch.proofs.Walking.{Walking, walk_begin, walk_width, walk_fits, walk_hit, walk_on, walk_done}
+use Rattle.image_touch.proofs.Walking.{Walking}
 use Rattle.image_touch.proofs.walk.Given as goal
 
 abbrev pub invariant-loop-at : goal.invariant-loop-at

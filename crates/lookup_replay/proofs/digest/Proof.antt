@@ -3,9 +3,6 @@ use Prim.Native.Nat.{◌-◌, ◌≤◌}
 use borrow.Author.Rules.{rules}
 use Rattle.lookup_replay.proofs.digest.Statement.{statement}
 use Rattle.lookup_replay.proofs.digest.Tie as tie
-use Rattle.lookup_replay.proofs.digest.Reads as reads
-use Rattle.lookup_replay.proofs.digest.Lts as lts
-use Rattle.lookup_replay.proofs.fold_answer.Reads as fold-answer-reads
 
 abbrev invariant-loop : tie.invariant-loop
 invariant-loop bytes directory count sum₀ k₀ sum k = k ≤ count

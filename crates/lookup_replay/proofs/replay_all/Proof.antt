@@ -3,9 +3,6 @@ use Prim.Native.Nat.{◌-◌, ◌≤◌}
 use borrow.Author.Rules.{rules}
 use Rattle.lookup_replay.proofs.replay_all.Statement.{statement}
 use Rattle.lookup_replay.proofs.replay_all.Tie as tie
-use Rattle.lookup_replay.proofs.replay_all.Reads as reads
-use Rattle.lookup_replay.proofs.replay_all.Lts as lts
-use Rattle.lookup_replay.proofs.replay.Reads as replay-reads
 
 abbrev invariant-loop : tie.invariant-loop
 invariant-loop space₀ k₀ space k = k ≤ 1000

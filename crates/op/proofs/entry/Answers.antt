@@ -1,10 +1,8 @@
 -- `entry` goes through all rows and holds the bytes of the opcode's.
-use Prim.Native.Nat.{ℕ, ◌-◌}
+use Prim.Native.Nat.{◌-◌}
 use native.Mathlib.Omega.{arith}
-use lib.ListN.{length}
-use borrow.Author.Rules.{rules}
 use Rattle.rules.proofs.Computes as computes
-use Rattle.op.proofs.Widths.{beside, Held, begun, taken, passed, found}
+use Rattle.op.proofs.Widths.{beside, begun, taken, passed, found}
 use Rattle.op.proofs.entry.Goals as goal
 use Rattle.op.proofs.entry.Goals.{then-row-op, else-row-op}
 

@@ -1,11 +1,7 @@
 -- `entry` goes through all rows and holds the bytes of the opcode's.
-use Prim.Native.Nat.{ℕ, ◌-◌}
-use native.Mathlib.Omega.{arith}
-use mathlib.Core.Logic.{⊎_elim}
+use Prim.Native.Nat.{◌-◌}
 use lib.ListN.{length}
-use borrow.Author.Rules.{rules}
-use Rattle.rules.proofs.Computes as computes
-use Rattle.op.proofs.Widths.{beside, Held, begun, taken, passed, found}
+use Rattle.op.proofs.Widths.{Held}
 use Rattle.op.proofs.entry.Given as goal
 
 abbrev pub invariant-loop-place : goal.invariant-loop-place

@@ -1,5 +1,5 @@
 -- `answer` meets its contract. Assumes nothing.
-use mathlib.Core.Path.{◌≡◌, refl, sym, ◌∙◌, ap}
+use mathlib.Core.Path.{◌≡◌, sym, ◌∙◌, ap}
 use mathlib.Core.List.{List}
 use Prim.Native.Nat.{ℕ, ◌≤◌, ◌<◌}
 use native.Mathlib.Omega.{arith}
@@ -13,10 +13,6 @@ use Rattle.program.specs.Program.{most, program_answer, Answered}
 use borrow.Author.Rules.{rules}
 use Rattle.program.proofs.answer.Statement.{statement}
 use Rattle.program.proofs.answer.Tie as tie
-use Rattle.program.proofs.answer.Reads as reads
-use Rattle.program.proofs.answer.Lts as lts
-use Rattle.entry.proofs.compile.Reads as compile-reads
-use Rattle.answers.proofs.refused.Reads as refused-reads
 
 module _ (tree : List ℕ) (lent : Lent) where
   long : most < length tree → program_answer tree lent ≡ refusal TreeTooLong

@@ -1,11 +1,8 @@
 -- `least` meets its contract, by the law of `io` on counts.
 use native.Mathlib.Omega.{arith}
 use Rattle.io.proofs.Counting.{prefix_len_of_le}
-use borrow.Author.Rules.{rules}
 use Rattle.program.proofs.least.Statement.{statement}
 use Rattle.program.proofs.least.Tie as tie
-use Rattle.program.proofs.least.Reads as reads
-use Rattle.program.proofs.least.Lts as lts
 
 returns : tie.Need-returns
 returns c = prefix_len_of_le _ _ (omega arith)

@@ -3,9 +3,6 @@ use Prim.Native.Nat.{◌-◌, ◌≤◌}
 use borrow.Author.Rules.{rules}
 use Rattle.span_replay.proofs.digest.Statement.{statement}
 use Rattle.span_replay.proofs.digest.Tie as tie
-use Rattle.span_replay.proofs.digest.Reads as reads
-use Rattle.span_replay.proofs.digest.Lts as lts
-use Rattle.span_replay.proofs.fold_answer.Reads as fold-answer-reads
 
 abbrev invariant-loop : tie.invariant-loop
 invariant-loop words offsets sum₀ offset₀ sum offset = offset ≤ offsets

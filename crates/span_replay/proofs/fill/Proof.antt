@@ -5,9 +5,6 @@ use lib.ListN.{length}
 use borrow.Author.Rules.{rules}
 use Rattle.span_replay.proofs.fill.Statement.{statement}
 use Rattle.span_replay.proofs.fill.Tie as tie
-use Rattle.span_replay.proofs.fill.Reads as reads
-use Rattle.span_replay.proofs.fill.Lts as lts
-use Rattle.vectors.proofs.next_u32.Reads as next-u32-reads
 
 abbrev invariant-loop : tie.invariant-loop
 invariant-loop words₀ i₀ words i = (i ≤ length words₀) × (length words ≡ length words₀)

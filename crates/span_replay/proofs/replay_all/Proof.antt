@@ -3,9 +3,6 @@ use Prim.Native.Nat.{◌-◌, ◌≤◌}
 use borrow.Author.Rules.{rules}
 use Rattle.span_replay.proofs.replay_all.Statement.{statement}
 use Rattle.span_replay.proofs.replay_all.Tie as tie
-use Rattle.span_replay.proofs.replay_all.Reads as reads
-use Rattle.span_replay.proofs.replay_all.Lts as lts
-use Rattle.span_replay.proofs.replay.Reads as replay-reads
 
 abbrev invariant-loop : tie.invariant-loop
 invariant-loop words₀ k₀ words k = k ≤ 1000

@@ -1,5 +1,4 @@
 -- `can_grow` meets its contract.
-use borrow.Author.Rules.{rules}
 use Rattle.state_code.proofs.Emit as ways
 use Rattle.state_code.proofs.can_grow.Goals as goal
 

@@ -3,7 +3,6 @@ use Prim.Native.Nat.{◌-◌}
 use native.Mathlib.Omega.{arith}
 use mathlib.Core.Path.{sym, ◌∙◌}
 use lib.ListN.{length-set}
-use borrow.Author.Rules.{rules}
 use Rattle.state.specs.Layout.{start_of_runs, end_of_runs}
 use Rattle.state_code.proofs.Emit as ways
 use Rattle.state_code.proofs.emit_u8.Goals as goal

@@ -2,7 +2,6 @@
 use Prim.Native.Nat.{◌+◌, ◌*◌, ◌-◌, ◌≤◌}
 use native.Mathlib.Omega.{arith}
 use lib.ListN.{get_or, length-set}
-use borrow.Author.Rules.{rules}
 use Rattle.state_code.proofs.Constant as ways
 use Rattle.state.specs.Layout.{constant_count_place, level_words}
 use Rattle.state_code.proofs.write_constant.Goals as goal

@@ -1,7 +1,6 @@
 -- `begin_ctx` meets its contract.
 use native.Mathlib.Omega.{arith}
 use lib.ListN.{length-set}
-use borrow.Author.Rules.{rules}
 use Rattle.state_levels.proofs.Opening as ways
 use Rattle.state_levels.proofs.begin_ctx.Goals as goal
 

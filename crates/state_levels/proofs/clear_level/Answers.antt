@@ -1,7 +1,6 @@
 -- `clear_level` meets its contract.
 use native.Mathlib.Omega.{arith}
 use lib.ListN.{length-set}
-use borrow.Author.Rules.{rules}
 use Rattle.state_levels.proofs.Clearing.{emptied}
 use Rattle.state_levels.proofs.clear_level.Goals as goal
 

@@ -1,11 +1,7 @@
 -- `clear_levels` meets its contract. The loop's invariant: the levels that it has passed are empty. The measure is how many are left.
-use Prim.Native.Nat.{ℕ, ◌-◌, ◌≤◌, ◌<◌}
+use Prim.Native.Nat.{◌-◌}
 use native.Mathlib.Omega.{arith}
-use mathlib.Core.Path.{◌≡◌, refl, ◌∙◌}
-use lib.ListN.{length}
-use borrow.Author.Rules.{rules}
-use Rattle.state.specs.Layout.{levels}
-use Rattle.state.specs.Meaning.{Empty}
+use mathlib.Core.Path.{refl, ◌∙◌}
 use Rattle.state_levels.proofs.Clearing.{empty_more, blank}
 use Rattle.state_levels.proofs.clear_levels.Goals as goal
 

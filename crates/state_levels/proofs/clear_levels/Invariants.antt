@@ -1,12 +1,9 @@
 -- `clear_levels` meets its contract. The loop's invariant: the levels that it has passed are empty. The measure is how many are left.
 use Prim.Native.Nat.{ℕ, ◌-◌, ◌≤◌, ◌<◌}
-use native.Mathlib.Omega.{arith}
-use mathlib.Core.Path.{◌≡◌, refl, ◌∙◌}
+use mathlib.Core.Path.{◌≡◌}
 use lib.ListN.{length}
-use borrow.Author.Rules.{rules}
 use Rattle.state.specs.Layout.{levels}
 use Rattle.state.specs.Meaning.{Empty}
-use Rattle.state_levels.proofs.Clearing.{empty_more, blank}
 use Rattle.state_levels.proofs.clear_levels.Given as goal
 
 abbrev pub invariant-loop-level : goal.invariant-loop-level

@@ -1,5 +1,4 @@
 -- `end_ctx` meets its contract.
-use borrow.Author.Rules.{rules}
 use Rattle.state_levels.proofs.Opening as ways
 use Rattle.state_levels.proofs.end_ctx.Goals as goal
 

@@ -1,5 +1,4 @@
 -- `move_scope` meets its contract.
-use borrow.Author.Rules.{rules}
 use Rattle.state_levels.proofs.Opening as ways
 use Rattle.state_levels.proofs.move_scope.Goals as goal
 

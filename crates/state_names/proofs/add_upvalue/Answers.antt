@@ -2,7 +2,6 @@
 use Prim.Native.Nat.{◌+◌, ◌*◌, ◌-◌, ◌≤◌}
 use native.Mathlib.Omega.{arith}
 use lib.ListN.{get_or, length-set}
-use borrow.Author.Rules.{rules}
 use Rattle.state_names.proofs.Adding as ways
 use Rattle.state.specs.Layout.{upvalue_count_place, level_words}
 use Rattle.state_names.proofs.add_upvalue.Goals as goal

@@ -1,13 +1,12 @@
 -- `clashing` meets its contract. A scan from the top down: what it has passed decides nothing.
-use Prim.Native.Nat.{ℕ, ◌+◌, ◌-◌, ◌≤◌, ◌<◌}
+use Prim.Native.Nat.{ℕ, ◌+◌, ◌-◌, ◌<◌}
 use native.Mathlib.Omega.{arith}
-use mathlib.Core.Path.{◌≡◌, sym, ◌∙◌}
+use mathlib.Core.Path.{sym, ◌∙◌}
 use lib.ListN.{get_or}
 use borrow.Author.Tests.{lt-ltb}
-use borrow.Author.Rules.{rules}
-use Rattle.rules.specs.Compiler.{Local, declared_here}
+use Rattle.rules.specs.Compiler.{Local}
 use Rattle.state_names.proofs.Declare as ways
-use Rattle.state.specs.Layout.{stack, local_of}
+use Rattle.state.specs.Layout.{local_of}
 use Rattle.state_names.proofs.clashing.Goals as goal
 
 pub loop-i-preserved : goal.loop-i-preserved

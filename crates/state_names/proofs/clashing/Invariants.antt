@@ -1,12 +1,8 @@
 -- `clashing` meets its contract. A scan from the top down: what it has passed decides nothing.
-use Prim.Native.Nat.{ℕ, ◌+◌, ◌-◌, ◌≤◌, ◌<◌}
-use native.Mathlib.Omega.{arith}
-use mathlib.Core.Path.{◌≡◌, sym, ◌∙◌}
+use Prim.Native.Nat.{◌+◌, ◌-◌, ◌≤◌}
+use mathlib.Core.Path.{◌≡◌}
 use lib.ListN.{get_or}
-use borrow.Author.Tests.{lt-ltb}
-use borrow.Author.Rules.{rules}
-use Rattle.rules.specs.Compiler.{Local, declared_here}
-use Rattle.state_names.proofs.Declare as ways
+use Rattle.rules.specs.Compiler.{declared_here}
 use Rattle.state.specs.Layout.{stack, local_of}
 use Rattle.state_names.proofs.clashing.Given as goal
 

@@ -2,7 +2,6 @@
 use Prim.Native.Nat.{◌+◌, ◌*◌, ◌-◌, ◌≤◌}
 use native.Mathlib.Omega.{arith}
 use lib.ListN.{get_or}
-use borrow.Author.Rules.{rules}
 use Rattle.state_names.proofs.Declare as ways
 use Rattle.state.specs.Layout.{level_words, local_count_place}
 use Rattle.state_names.proofs.define_local.Goals as goal

@@ -1,6 +1,5 @@
 -- `drop_local` meets its contract.
 use native.Mathlib.Omega.{arith}
-use borrow.Author.Rules.{rules}
 use Rattle.state_names.proofs.Declare as ways
 use Rattle.state_names.proofs.drop_local.Goals as goal
 

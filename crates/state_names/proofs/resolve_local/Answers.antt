@@ -3,7 +3,6 @@ use Prim.Native.Nat.{ℕ, suc, ◌+◌, ◌*◌, ◌-◌, ◌≤◌}
 use native.Mathlib.Omega.{arith}
 use mathlib.Core.Path.{◌≡◌, subst}
 use lib.ListN.{get_or}
-use borrow.Author.Rules.{rules}
 use Rattle.state_names.proofs.Resolve as ways
 use Rattle.state.specs.Meaning.{Topmost}
 use Rattle.state.specs.Layout.{level_words, local_count_place}

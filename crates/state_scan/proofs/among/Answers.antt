@@ -2,7 +2,6 @@
 use mathlib.Core.Path.{◌≡◌}
 use Prim.Native.Nat.{ℕ}
 use native.Mathlib.Omega.{arith}
-use borrow.Author.Rules.{rules}
 use borrow.Author.Tests.{eqb-false}
 use Rattle.state_scan.proofs.Scan.{without_eight}
 use Rattle.state_scan.proofs.among.Goals as goal

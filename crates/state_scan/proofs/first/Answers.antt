@@ -1,10 +1,6 @@
 -- `first` meets its contract. A scan upwards from where `skip` leaves off: what it has passed are other words.
-use Prim.Native.Nat.{ℕ, ◌+◌, ◌-◌, ◌≤◌, ◌<◌}
 use native.Mathlib.Omega.{arith}
-use mathlib.Core.Path.{◌≡◌}
-use lib.ListN.{get_or}
 use borrow.Author.Count.{below_more}
-use borrow.Author.Rules.{rules}
 use Rattle.state_scan.proofs.first.Goals as goal
 
 pub loop-i-init : goal.loop-i-init

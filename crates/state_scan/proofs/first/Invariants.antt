@@ -1,10 +1,7 @@
 -- `first` meets its contract. A scan upwards from where `skip` leaves off: what it has passed are other words.
 use Prim.Native.Nat.{ℕ, ◌+◌, ◌-◌, ◌≤◌, ◌<◌}
-use native.Mathlib.Omega.{arith}
 use mathlib.Core.Path.{◌≡◌}
 use lib.ListN.{get_or}
-use borrow.Author.Count.{below_more}
-use borrow.Author.Rules.{rules}
 use Rattle.state_scan.proofs.first.Given as goal
 
 abbrev pub invariant-loop-i : goal.invariant-loop-i

@@ -1,9 +1,6 @@
 -- `skip` meets its contract. The loop's invariant: what it has passed are other words. The measure is how many are left.
 use Prim.Native.Nat.{◌-◌, ◌≤◌}
-use native.Mathlib.Omega.{arith}
-use borrow.Author.Rules.{rules}
 use Rattle.state.specs.Meaning.{Without}
-use Rattle.state_scan.proofs.Scan.{without_more}
 use Rattle.state_scan.proofs.skip.Given as goal
 
 abbrev pub invariant-loop-i : goal.invariant-loop-i

@@ -1,9 +1,8 @@
 -- `topmost` meets its contract. A scan from the top down: what it has passed has other names.
-use Prim.Native.Nat.{ℕ, ◌+◌, ◌-◌, ◌%◌, ◌≤◌, ◌<◌}
+use Prim.Native.Nat.{ℕ, ◌+◌, ◌%◌}
 use native.Mathlib.Omega.{arith}
 use mathlib.Core.Path.{◌≡◌, subst}
 use lib.ListN.{get_or}
-use borrow.Author.Rules.{rules}
 use Rattle.state.proofs.Laws.{above_more}
 use Rattle.state_scan.proofs.topmost.Goals as goal
 

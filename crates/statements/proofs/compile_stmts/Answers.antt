@@ -1,12 +1,9 @@
 -- A row of statements. The loop's invariant: those that are left come to the same, from the areas as they are, as all of them from where the loop began.
 -- The places first, each over the one before: of the call `-asked` is the place where it is made, `-left` the call from where its areas have come back,
 -- `-went` and `-halted` the call once its answer is known.
-use mathlib.Core.Path.{◌≡◌, refl, ◌∙◌}
+use mathlib.Core.Path.{refl, ◌∙◌}
 use native.Mathlib.Omega.{arith}
-use lib.ListN.{length}
-use borrow.Author.Rules.{rules}
-use Rattle.steps.specs.View.{mem}
-use Rattle.statements.proofs.Walks.{RowOf, row_start, row_child, row_stop, row_step, row_done}
+use Rattle.statements.proofs.Walks.{row_start, row_child, row_stop, row_step, row_done}
 use Rattle.statements.proofs.compile_stmts.Goals as goal
 use Rattle.statements.proofs.compile_stmts.Lts as lts
 use Rattle.statements.proofs.compile_stmts.Reads as reads

@@ -1,5 +1,4 @@
 -- `emit_constant` meets its contract.
-use borrow.Author.Rules.{rules}
 use Rattle.rules.specs.Compiler.{emit_op}
 use Rattle.steps.proofs.Steps.{stop}
 use Rattle.step_bytes.proofs.Bytes as ways

@@ -1,5 +1,4 @@
 -- `emit_invoke` meets its contract.
-use borrow.Author.Rules.{rules}
 use Rattle.rules.specs.Compiler.{emit_op, emit_invoke}
 use Rattle.steps.proofs.Steps.{went, halt, then_on}
 use Rattle.step_bytes.proofs.Bytes as ways

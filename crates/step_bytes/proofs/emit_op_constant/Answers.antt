@@ -1,5 +1,4 @@
 -- `emit_op_constant` meets its contract.
-use borrow.Author.Rules.{rules}
 use Rattle.rules.specs.Compiler.{emit_op, emit_op_constant}
 use Rattle.steps.proofs.Steps.{went, anew, halt, then_on}
 use Rattle.step_bytes.proofs.emit_op_constant.Goals as goal

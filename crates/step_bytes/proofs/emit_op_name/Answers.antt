@@ -1,5 +1,4 @@
 -- `emit_op_name` meets its contract.
-use borrow.Author.Rules.{rules}
 use Rattle.step_bytes.proofs.Bytes as ways
 use Rattle.step_bytes.proofs.emit_op_name.Goals as goal
 

@@ -1,5 +1,4 @@
 -- `emit_op_u8` meets its contract.
-use borrow.Author.Rules.{rules}
 use Rattle.rules.specs.Compiler.{emit_op, emit_op_u8}
 use Rattle.steps.proofs.Steps.{went, halt, then_on}
 use Rattle.step_bytes.proofs.emit_op_u8.Goals as goal

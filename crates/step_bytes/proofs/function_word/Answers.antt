@@ -1,5 +1,4 @@
 -- `function_word` meets its contract.
-use borrow.Author.Rules.{rules}
 use Rattle.state_code.proofs.Constant as words
 use Rattle.step_bytes.proofs.function_word.Goals as goal
 

@@ -1,6 +1,5 @@
 -- `name_word` meets its contract.
 use native.Mathlib.Omega.{arith}
-use borrow.Author.Rules.{rules}
 use Rattle.state_code.proofs.Constant as words
 use Rattle.step_bytes.proofs.name_word.Goals as goal
 

@@ -1,6 +1,5 @@
 -- `code_length` meets its contract.
 use mathlib.Core.Path.{refl}
-use borrow.Author.Rules.{rules}
 use Rattle.steps.proofs.Jumps as ways
 use Rattle.step_jumps.proofs.code_length.Goals as goal
 

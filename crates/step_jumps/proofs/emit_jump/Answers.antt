@@ -1,7 +1,5 @@
 -- `emit_jump` meets its contract.
 use native.Mathlib.Omega.{arith}
-use mathlib.Core.List.{[]}
-use borrow.Author.Rules.{rules}
 use Rattle.rules.specs.Compiler.{emit_op, emit_jump}
 use Rattle.steps.proofs.Steps.{went, halt_to, then_to}
 use Rattle.step_bytes.proofs.Bytes.{longer}

@@ -1,9 +1,7 @@
 -- `emit_loop` meets its contract.
 use native.Mathlib.Omega.{arith}
 use mathlib.Core.Path.{refl}
-use mathlib.Core.List.{[]}
 use borrow.Author.Tests.{le-leb, lt-leb}
-use borrow.Author.Rules.{rules}
 use Rattle.rules.specs.Compiler.{emit_op, emit_loop}
 use Rattle.steps.specs.Why.{jump_too_large, refusal_of}
 use Rattle.steps.proofs.Steps.{went, halt, then_on, stop, ask, ask_seq, ask_refused, refused_seq, passed, failed}

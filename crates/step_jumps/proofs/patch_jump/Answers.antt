@@ -2,7 +2,6 @@
 use native.Mathlib.Omega.{arith}
 use mathlib.Core.Path.{refl}
 use lib.ListN.{length-set}
-use borrow.Author.Rules.{rules}
 use Rattle.steps.proofs.Steps.{next, stop}
 use Rattle.steps.proofs.Jumps as ways
 use Rattle.steps.specs.View.{code_len}

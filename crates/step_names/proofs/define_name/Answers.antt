@@ -1,5 +1,4 @@
 -- `define_name` meets its contract.
-use borrow.Author.Rules.{rules}
 use Rattle.rules.specs.Compiler.{define_name, define_global}
 use Rattle.steps.proofs.Steps.{went, halt, then_on, next, ask, chosen, otherwise}
 use Rattle.step_names.proofs.define_name.Goals as goal

@@ -1,6 +1,5 @@
 -- `get_variable` meets its contract.
 use mathlib.Core.Path.{sym, ◌∙◌}
-use borrow.Author.Rules.{rules}
 use Rattle.rules.specs.Compiler.{get_place}
 use Rattle.steps.proofs.Steps.{stop, anew, did_bind, refused_bind}
 use Rattle.step_names.proofs.Names as ways

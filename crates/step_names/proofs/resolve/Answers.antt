@@ -1,5 +1,4 @@
 -- `resolve` meets its contract.
-use borrow.Author.Rules.{rules}
 use Rattle.step_names.proofs.Names as ways
 use Rattle.step_names.proofs.resolve.Goals as goal
 

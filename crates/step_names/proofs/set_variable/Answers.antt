@@ -1,5 +1,4 @@
 -- `set_variable` meets its contract.
-use borrow.Author.Rules.{rules}
 use Rattle.rules.specs.Compiler.{set_place, set_variable}
 use Rattle.steps.proofs.Steps.{stop, anew, did_bind, refused_bind}
 use Rattle.step_names.proofs.Names as ways

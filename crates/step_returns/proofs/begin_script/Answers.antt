@@ -1,7 +1,6 @@
 -- `begin_script` meets its contract.
 use native.Mathlib.Omega.{arith}
 use lib.ListN.{length-set}
-use borrow.Author.Rules.{rules}
 use Rattle.step_returns.proofs.Start.{started}
 use Rattle.step_returns.proofs.begin_script.Goals as goal
 

@@ -1,5 +1,4 @@
 -- `emit_nothing` meets its contract.
-use borrow.Author.Rules.{rules}
 use Rattle.steps.proofs.Steps.{by_name}
 use Rattle.step_returns.proofs.Returns as ways
 use Rattle.step_returns.proofs.emit_nothing.Goals as goal

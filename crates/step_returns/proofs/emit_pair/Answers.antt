@@ -1,7 +1,6 @@
 -- `emit_pair` meets its contract.
 use Rattle.steps.proofs.Steps.{went}
 use Rattle.step_returns.proofs.Closures as ways
-use borrow.Author.Rules.{rules}
 use Rattle.step_returns.proofs.emit_pair.Goals as goal
 
 pub returns-in_default : goal.returns-in_default

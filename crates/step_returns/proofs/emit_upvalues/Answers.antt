@@ -1,13 +1,10 @@
 -- `emit_upvalues` meets its contract. The loop's invariant: the upvalues that are left come to the same from where the loop stands as all of them
 -- from where it began. The measure is how many are left.
 use Rattle.step_returns.proofs.Closures as ways
-use Rattle.steps.specs.View.{mem}
-use mathlib.Core.Path.{◌≡◌, refl}
-use lib.ListN.{length, get_or}
-use Prim.Native.Nat.{◌+◌, ◌*◌, ◌-◌, ◌≤◌}
+use mathlib.Core.Path.{refl}
+use Prim.Native.Nat.{◌+◌, ◌-◌}
 use native.Mathlib.Omega.{arith}
-use borrow.Author.Rules.{rules}
-use Rattle.state.specs.Layout.{upvalues_place, upvalue_count_place, level_words}
+use Rattle.state.specs.Layout.{upvalues_place, upvalue_count_place}
 use Rattle.step_returns.proofs.emit_upvalues.Goals as goal
 
 pub loop-i-init : goal.loop-i-init

@@ -2,12 +2,10 @@
 -- from where it began. The measure is how many are left.
 use Rattle.step_returns.proofs.Closures as ways
 use Rattle.steps.specs.View.{mem}
-use mathlib.Core.Path.{◌≡◌, refl}
+use mathlib.Core.Path.{◌≡◌}
 use lib.ListN.{length, get_or}
 use Prim.Native.Nat.{◌+◌, ◌*◌, ◌-◌, ◌≤◌}
-use native.Mathlib.Omega.{arith}
-use borrow.Author.Rules.{rules}
-use Rattle.state.specs.Layout.{upvalues_place, upvalue_count_place, level_words}
+use Rattle.state.specs.Layout.{upvalue_count_place, level_words}
 use Rattle.step_returns.proofs.emit_upvalues.Given as goal
 
 abbrev pub invariant-loop-i : goal.invariant-loop-i

@@ -1,6 +1,5 @@
 -- `ends_in_return` meets its contract.
 use mathlib.Core.Path.{refl}
-use borrow.Author.Rules.{rules}
 use Rattle.step_returns.proofs.Returns as ways
 use Rattle.step_returns.proofs.ends_in_return.Goals as goal
 

@@ -1,5 +1,4 @@
 -- `implicit_return` meets its contract.
-use borrow.Author.Rules.{rules}
 use Rattle.step_returns.proofs.Returns as ways
 use Rattle.step_returns.proofs.implicit_return.Goals as goal
 

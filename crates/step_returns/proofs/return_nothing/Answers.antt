@@ -1,5 +1,4 @@
 -- `return_nothing` meets its contract.
-use borrow.Author.Rules.{rules}
 use Rattle.rules.specs.Compiler.{compile_return}
 use Rattle.steps.proofs.Steps.{went, halt, then_on, stop, ask, ask_refused, refused_seq}
 use Rattle.step_returns.proofs.Returns as ways

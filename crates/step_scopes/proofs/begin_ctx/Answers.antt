@@ -1,5 +1,4 @@
 -- `begin_ctx` meets its contract.
-use borrow.Author.Rules.{rules}
 use Rattle.step_scopes.proofs.Scopes as ways
 use Rattle.step_scopes.proofs.begin_ctx.Goals as goal
 

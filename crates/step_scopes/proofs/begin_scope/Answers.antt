@@ -1,6 +1,5 @@
 -- `begin_scope` meets its contract.
 use mathlib.Core.Path.{refl}
-use borrow.Author.Rules.{rules}
 use Rattle.step_scopes.proofs.Scopes as ways
 use Rattle.step_scopes.proofs.begin_scope.Goals as goal
 

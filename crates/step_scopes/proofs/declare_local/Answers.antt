@@ -1,5 +1,4 @@
 -- `declare_local` meets its contract.
-use borrow.Author.Rules.{rules}
 use Rattle.step_scopes.proofs.Scopes as ways
 use Rattle.step_scopes.proofs.declare_local.Goals as goal
 

@@ -1,5 +1,4 @@
 -- `define_local` meets its contract.
-use borrow.Author.Rules.{rules}
 use Rattle.step_scopes.proofs.Scopes as ways
 use Rattle.step_scopes.proofs.define_local.Goals as goal
 

@@ -1,5 +1,4 @@
 -- `end_ctx` meets its contract.
-use borrow.Author.Rules.{rules}
 use Rattle.step_scopes.proofs.Scopes as ways
 use Rattle.step_scopes.proofs.end_ctx.Goals as goal
 

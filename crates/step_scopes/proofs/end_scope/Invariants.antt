@@ -1,13 +1,8 @@
 -- `end_scope` meets its contract. The loop's invariant: what is left to pop comes to the same from where the loop began and from where it stands. The measure is the number of locals.
 use Prim.Native.Nat.{◌+◌, ◌*◌}
-use native.Mathlib.Omega.{arith}
-use mathlib.Core.Path.{◌≡◌, refl}
+use mathlib.Core.Path.{◌≡◌}
 use lib.ListN.{length, get_or}
-use borrow.Author.Rules.{rules}
-use Rattle.step_scopes.proofs.Scopes as ways
-use Rattle.steps.proofs.Steps.{next, stop}
 use Rattle.steps.specs.View.{mem, pops, Passing}
-use Rattle.steps.specs.declared.Popped.TheVariants as popped
 use Rattle.state.specs.Layout.{level_words, local_count_place}
 use Rattle.step_scopes.proofs.end_scope.Given as goal
 

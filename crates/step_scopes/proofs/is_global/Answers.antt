@@ -1,6 +1,5 @@
 -- `is_global` meets its contract.
 use mathlib.Core.Path.{refl}
-use borrow.Author.Rules.{rules}
 use Rattle.step_scopes.proofs.Scopes as ways
 use Rattle.step_scopes.proofs.is_global.Goals as goal
 

@@ -1,6 +1,5 @@
 -- `pop_local` meets its contract.
 use native.Mathlib.Omega.{arith}
-use borrow.Author.Rules.{rules}
 use Rattle.step_scopes.proofs.Scopes as ways
 use Rattle.step_scopes.proofs.pop_local.Goals as goal
 

@@ -4,7 +4,6 @@ use Prim.Native.Nat.{ℕ, ◌<◌}
 use Rattle.steps.proofs.Steps.{went}
 use Rattle.stmt_heads.proofs.Heads.{depth_on}
 use Rattle.stmt_class_close.proofs.Closing.{close_stop, close_with, close_without}
-use borrow.Author.Rules.{rules}
 use Rattle.stmt_class_close.proofs.close_class.Goals as goal
 
 pub returns-in_default : goal.returns-in_default

@@ -1,7 +1,6 @@
 -- The class goes from the stack where there are methods.
 use mathlib.Core.Path.{sym, ◌∙◌}
 use Rattle.stmt_class_close.proofs.Closing.{drop_none, drop_one}
-use borrow.Author.Rules.{rules}
 use Rattle.stmt_class_close.proofs.drop_class.Goals as goal
 
 pub returns-then-u16_at-eq0 : goal.returns-then-u16_at-eq0

@@ -6,7 +6,6 @@ use Rattle.state.specs.Layout.{deepest}
 use Rattle.steps.proofs.Steps.{went}
 use Rattle.stmt_heads.proofs.Heads.{depth_on}
 use Rattle.stmt_class_open.proofs.Opening.{class_stop, class_stop_2, class_stop_3, class_bare, class_full, opened_fit}
-use borrow.Author.Rules.{rules}
 use Rattle.stmt_class_open.proofs.open_class.Goals as goal
 
 pub returns-in_default : goal.returns-in_default

@@ -2,7 +2,6 @@
 use mathlib.Core.Path.{refl}
 use Rattle.steps.proofs.Steps.{went}
 use Rattle.stmt_closures.proofs.Closures.{closure_first, closure_second, closure_last}
-use borrow.Author.Rules.{rules}
 use Rattle.stmt_closures.proofs.emit_closure.Goals as goal
 
 pub returns-in_default : goal.returns-in_default

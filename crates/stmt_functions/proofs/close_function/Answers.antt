@@ -7,7 +7,6 @@ use Rattle.steps.specs.View.{mem}
 use Rattle.steps.proofs.Steps.{went}
 use Rattle.stmt_functions.proofs.Records.{can_put}
 use Rattle.stmt_functions.proofs.Closing.{closed_first_at, fit_after_at, closed_last_at}
-use borrow.Author.Rules.{rules}
 use Rattle.stmt_functions.proofs.close_function.Goals as goal
 
 pub returns-in_default : goal.returns-in_default

@@ -1,7 +1,6 @@
 -- The class that the methods are in, by the flag.
 use mathlib.Core.Path.{sym, ◌∙◌}
 use Rattle.stmt_heads.proofs.Heads.{inner_with, inner_without}
-use borrow.Author.Rules.{rules}
 use Rattle.stmt_heads.proofs.inner_class.Goals as goal
 
 pub returns-then-u8_at-eq1 : goal.returns-then-u8_at-eq1

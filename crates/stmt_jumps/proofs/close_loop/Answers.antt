@@ -4,7 +4,6 @@ use mathlib.Core.Path.{ap}
 use mathlib.Core.Bool.{not}
 use mathlib.Core.Path.{◌≡◌}
 use mathlib.Core.Bool.{true}
-use borrow.Author.Rules.{rules}
 use Rattle.steps.proofs.Steps.{went, still}
 use Rattle.stmt_jumps.proofs.Loops as ways
 use Rattle.stmt_jumps.proofs.close_loop.Goals as goal

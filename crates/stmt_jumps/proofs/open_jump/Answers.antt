@@ -3,7 +3,6 @@
 -- `-went` and `-halted` the call once its answer is known.
 use Rattle.steps.proofs.Steps.{went_to}
 use Rattle.stmt_jumps.proofs.Jumps.{open_stop, open_done}
-use borrow.Author.Rules.{rules}
 use Rattle.stmt_jumps.proofs.open_jump.Goals as goal
 
 pub returns-in_default : goal.returns-in_default

@@ -3,7 +3,6 @@
 -- `-went` and `-halted` the call once its answer is known.
 use Rattle.steps.proofs.Steps.{went, went_to, still}
 use Rattle.stmt_jumps.proofs.Jumps.{turn_stop, turn_stop_2, turn_done}
-use borrow.Author.Rules.{rules}
 use Rattle.stmt_jumps.proofs.turn_jump.Goals as goal
 
 pub returns-in_default : goal.returns-in_default

@@ -1,6 +1,5 @@
 -- The condition, and the jump past the loop. The places first, each over the one before: of a call `-asked` is the place where it is made, `-left` the call
 -- from where its areas have come back, `-went` and `-halted` the call once its answer is known.
-use borrow.Author.Rules.{rules}
 use Rattle.expr_laws.specs.Exprs.{Somewhere}
 use Rattle.expressions.proofs.Arms.{ran_fit}
 use Rattle.stmt_loops.proofs.Loops.{cond_expr, cond_none, cond_stop, cond_stop_2, cond_done}

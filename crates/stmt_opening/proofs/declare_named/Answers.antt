@@ -1,6 +1,5 @@
 -- `declare_named` meets its contract.
 use Rattle.stmt_opening.proofs.Names.{named_again, named_full, named_new}
-use borrow.Author.Rules.{rules}
 use Rattle.stmt_opening.proofs.declare_named.Goals as goal
 
 pub returns-in-Already : goal.returns-in-Already

@@ -1,10 +1,8 @@
 -- `declare_params` meets its contract. The loop's invariant: the names that are left come to the same from where the loop stands as all of them from
 -- where it began. The measure is how many are left.
-use mathlib.Core.Path.{◌≡◌, refl}
+use mathlib.Core.Path.{refl}
 use native.Mathlib.Omega.{arith}
-use lib.ListN.{length}
-use Rattle.stmt_opening.proofs.Names.{Walk, walk_start, walk_there, walk_stop, walk_step, walk_done}
-use borrow.Author.Rules.{rules}
+use Rattle.stmt_opening.proofs.Names.{walk_start, walk_there, walk_stop, walk_step, walk_done}
 use Rattle.stmt_opening.proofs.declare_params.Goals as goal
 
 pub loop-left-init : goal.loop-left-init

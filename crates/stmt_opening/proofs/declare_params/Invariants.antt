@@ -1,10 +1,8 @@
 -- `declare_params` meets its contract. The loop's invariant: the names that are left come to the same from where the loop stands as all of them from
 -- where it began. The measure is how many are left.
-use mathlib.Core.Path.{◌≡◌, refl}
-use native.Mathlib.Omega.{arith}
+use mathlib.Core.Path.{◌≡◌}
 use lib.ListN.{length}
-use Rattle.stmt_opening.proofs.Names.{Walk, walk_start, walk_there, walk_stop, walk_step, walk_done}
-use borrow.Author.Rules.{rules}
+use Rattle.stmt_opening.proofs.Names.{Walk}
 use Rattle.stmt_opening.proofs.declare_params.Given as goal
 
 abbrev pub invariant-loop-left : goal.invariant-loop-left

@@ -1,6 +1,5 @@
 -- `open_function` meets its contract.
 use Rattle.stmt_opening.proofs.Opening.{too_many, first_stop, first_wf, params_last, params_there}
-use borrow.Author.Rules.{rules}
 use Rattle.stmt_opening.proofs.open_function.Goals as goal
 
 pub returns-then-count-gt-PARAMS : goal.returns-then-count-gt-PARAMS

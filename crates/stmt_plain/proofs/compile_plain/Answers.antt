@@ -2,7 +2,6 @@
 -- `-left` the call from where its areas have come back.
 use mathlib.Core.Path.{sym, ◌∙◌}
 use native.Mathlib.Omega.{arith}
-use borrow.Author.Rules.{rules}
 use Rattle.stmt_plain_laws.proofs.Values.{bound, last_return}
 use Rattle.stmt_plain.proofs.compile_plain.Goals as goal
 

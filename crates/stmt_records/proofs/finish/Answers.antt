@@ -2,7 +2,7 @@
 use Prim.Native.Nat.{ℕ, ◌-◌, ◌+◌}
 use native.Mathlib.Omega.{arith}
 use lib.Seq.{get_or-set_other}
-use borrow.Author.Rules.{rules, Below-set}
+use borrow.Author.Rules.{Below-set}
 use Rattle.stmt_records.proofs.Records.{filed}
 use Rattle.state.specs.Layout.{image_at}
 use Rattle.stmt_records.proofs.finish.Goals as goal

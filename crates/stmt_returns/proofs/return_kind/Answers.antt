@@ -1,6 +1,5 @@
 -- By the word that holds a function's kind.
 use Rattle.stmt_returns.proofs.Returns as ways
-use borrow.Author.Rules.{rules}
 use Rattle.stmt_returns.proofs.return_kind.Goals as goal
 
 pub returns-then-kind-eq-SCRIPT : goal.returns-then-kind-eq-SCRIPT

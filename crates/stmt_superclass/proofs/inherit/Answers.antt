@@ -3,7 +3,6 @@ use mathlib.Core.Path.{◌∙◌}
 use native.Mathlib.Omega.{arith}
 use Rattle.steps.proofs.Steps.{went, halt, then_on}
 use Rattle.stmt_superclass.proofs.Inheriting.{begun_fit, declared_fit, defined_fit, inherit_self, inherit_stop, inherit_done}
-use borrow.Author.Rules.{rules}
 use Rattle.stmt_superclass.proofs.inherit.Goals as goal
 
 pub returns-then-parent-name : goal.returns-then-parent-name

@@ -2,7 +2,6 @@
 use mathlib.Core.Path.{sym, ◌∙◌}
 use Rattle.stmt_heads.proofs.Heads.{head_room}
 use Rattle.stmt_superclass.proofs.Inheriting.{superclass_there, superclass_none}
-use borrow.Author.Rules.{rules}
 use Rattle.stmt_superclass.proofs.superclass.Goals as goal
 
 pub inherit-requires : goal.inherit-requires

@@ -2,7 +2,6 @@
 -- `-left` the call from where its areas have come back, `-went` and `-halted` the call once its answer is known.
 use Prim.Native.Nat.{◌+◌}
 use native.Mathlib.Omega.{arith}
-use borrow.Author.Rules.{rules}
 use Rattle.expr_laws.specs.Exprs.{Somewhere}
 use Rattle.expressions.proofs.Arms.{ran_fit}
 use Rattle.stmt_plain_laws.proofs.Values as ways

@@ -3,7 +3,6 @@
 use Prim.Native.Nat.{◌+◌, ◌≤◌}
 use native.Mathlib.Omega.{arith}
 use lib.ListN.{length}
-use borrow.Author.Rules.{rules}
 use Rattle.steps.proofs.Steps.{went}
 use Rattle.stmt_plain_laws.specs.Plain.{Announced}
 use Rattle.stmt_vars.proofs.Vars as ways

@@ -1,5 +1,4 @@
 -- A global is not declared.
-use borrow.Author.Rules.{rules}
 use Rattle.stmt_vars.proofs.Vars as ways
 use Rattle.stmt_vars.proofs.open_var.Goals as goal
 

@@ -3,9 +3,6 @@ use Prim.Native.Nat.{◌-◌, ◌≤◌}
 use borrow.Author.Rules.{rules}
 use Rattle.touch_replay.proofs.digest.Statement.{statement}
 use Rattle.touch_replay.proofs.digest.Tie as tie
-use Rattle.touch_replay.proofs.digest.Reads as reads
-use Rattle.touch_replay.proofs.digest.Lts as lts
-use Rattle.touch_replay.proofs.fold_answer.Reads as fold-answer-reads
 
 abbrev invariant-loop : tie.invariant-loop
 invariant-loop bytes count sum₀ name₀ sum name = name ≤ count

@@ -4,7 +4,6 @@ use mathlib.Core.Path.{ap}
 use native.Mathlib.Omega.{arith}
 use Rattle.tree_small.specs.declared.Field.TheVariants.{Is}
 use Rattle.tree_small.proofs.Places.{cut, there, told, count_cut, count_is}
-use borrow.Author.Rules.{rules}
 use Rattle.tree_small.proofs.count_at.Goals as goal
 
 pub returns-then-not-has : goal.returns-then-not-has

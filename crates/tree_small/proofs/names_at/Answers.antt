@@ -1,10 +1,9 @@
 -- `names_at` meets its contract. The loop: what is left comes to what there was.
-use borrow.Author.Rules.{rules}
-use mathlib.Core.Path.{◌≡◌, refl, sym, ap, ◌∙◌}
+use mathlib.Core.Path.{refl, sym, ap, ◌∙◌}
 use native.Mathlib.Omega.{arith}
 use Rattle.rules.specs.declared.Refusal.TheVariants.{TreeForm}
 use Rattle.rules.specs.TreeFile.{name}
-use Rattle.tree_small.specs.Places.{place, row}
+use Rattle.tree_small.specs.Places.{place}
 use Rattle.tree_small.proofs.Places.{row_none, row_stops, row_goes}
 use Rattle.tree_small.proofs.names_at.Goals as goal
 

@@ -7,7 +7,6 @@ use Rattle.writer_constants.proofs.Rows.{constants_next}
 use Rattle.writer.proofs.Padding.{head_next}
 use Rattle.writer.proofs.Records.{as_function}
 use native.Mathlib.Omega.{arith}
-use borrow.Author.Rules.{rules}
 use Rattle.writer.proofs.put_function.Goals as goal
 
 pub put_constants-b-requires : goal.put_constants-b-requires

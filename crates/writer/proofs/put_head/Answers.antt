@@ -3,7 +3,6 @@ use Rattle.rules.specs.Base.{le}
 use Rattle.writer.specs.Put.{head_bytes}
 use Rattle.writer_bytes.proofs.Padding.{put_then, le_next}
 use native.Mathlib.Omega.{arith}
-use borrow.Author.Rules.{rules}
 use Rattle.writer.proofs.put_head.Goals as goal
 
 pub put_le-b-requires : goal.put_le-b-requires

@@ -1,8 +1,6 @@
 -- `put_code`: set where there is room for the whole stretch. Else, of the stretch, what is left is still to be put.
-use Prim.Native.Nat.{◌+◌, ◌≤◌}
-use Rattle.writer_bytes.specs.Put.{stretch, byte_at}
-use lib.ListN.{length}
-use Rattle.writer_bytes.proofs.Padding.{Putting, putting_start, putting_step, putting_end, has_room, stretch_more, stretch_none}
+use Rattle.writer_bytes.specs.Put.{byte_at}
+use Rattle.writer_bytes.proofs.Padding.{putting_start, putting_step, putting_end, has_room, stretch_more, stretch_none}
 use borrow.Author.Rules.{rules}
 use native.Mathlib.Omega.{arith}
 use Rattle.writer_bytes.proofs.put_code.Goals as goal

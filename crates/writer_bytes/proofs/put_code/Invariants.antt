@@ -2,9 +2,7 @@
 use Prim.Native.Nat.{◌+◌, ◌≤◌}
 use Rattle.writer_bytes.specs.Put.{stretch, byte_at}
 use lib.ListN.{length}
-use Rattle.writer_bytes.proofs.Padding.{Putting, putting_start, putting_step, putting_end, has_room, stretch_more, stretch_none}
-use borrow.Author.Rules.{rules}
-use native.Mathlib.Omega.{arith}
+use Rattle.writer_bytes.proofs.Padding.{Putting}
 use Rattle.writer_bytes.proofs.put_code.Given as goal
 
 abbrev pub invariant-loop-left : goal.invariant-loop-left

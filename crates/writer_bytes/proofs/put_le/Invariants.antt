@@ -1,9 +1,7 @@
 -- `put_le`: of the bytes of the number, those of what is left of it are still to be put.
 use Prim.Native.Nat.{◌+◌, ◌≤◌}
 use Rattle.rules.specs.Base.{le}
-use Rattle.writer_bytes.proofs.Padding.{Putting, putting_start, putting_step, putting_end, le_more, le_none}
-use borrow.Author.Rules.{rules}
-use native.Mathlib.Omega.{arith}
+use Rattle.writer_bytes.proofs.Padding.{Putting}
 use Rattle.writer_bytes.proofs.put_le.Given as goal
 
 abbrev pub invariant-loop-left : goal.invariant-loop-left

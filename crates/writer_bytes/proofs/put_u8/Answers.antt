@@ -1,6 +1,5 @@
 -- `put_u8`: the byte is set where there is room.
 use mathlib.Core.Path.{refl}
-use borrow.Author.Rules.{rules}
 use native.Mathlib.Omega.{arith}
 use Rattle.writer_bytes.proofs.Padding.{put_byte, put_none}
 use Rattle.writer_bytes.proofs.put_u8.Goals as goal

@@ -1,8 +1,6 @@
 -- `set_code`: of the stretch, what is left is still to be put, and there is room for it.
-use Prim.Native.Nat.{◌+◌, ◌≤◌}
-use Rattle.writer_bytes.specs.Put.{stretch, byte_at}
-use lib.ListN.{length}
-use Rattle.writer_bytes.proofs.Padding.{Putting, putting_start, putting_step, putting_end, stretch_more, stretch_none}
+use Rattle.writer_bytes.specs.Put.{byte_at}
+use Rattle.writer_bytes.proofs.Padding.{putting_start, putting_step, putting_end, stretch_more, stretch_none}
 use borrow.Author.Rules.{rules}
 use native.Mathlib.Omega.{arith}
 use Rattle.writer_bytes.proofs.set_code.Goals as goal

@@ -1,8 +1,5 @@
 -- `set_le`: of the bytes of the number, those of what is left of it are still to be put, and there is room for them.
-use Prim.Native.Nat.{◌+◌, ◌≤◌}
-use lib.ListN.{length}
-use Rattle.rules.specs.Base.{le}
-use Rattle.writer_bytes.proofs.Padding.{Putting, putting_start, putting_step, putting_end, le_more, le_none}
+use Rattle.writer_bytes.proofs.Padding.{putting_start, putting_step, putting_end, le_more, le_none}
 use borrow.Author.Rules.{rules}
 use native.Mathlib.Omega.{arith}
 use Rattle.writer_bytes.proofs.set_le.Goals as goal

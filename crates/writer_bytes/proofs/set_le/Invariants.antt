@@ -2,9 +2,7 @@
 use Prim.Native.Nat.{◌+◌, ◌≤◌}
 use lib.ListN.{length}
 use Rattle.rules.specs.Base.{le}
-use Rattle.writer_bytes.proofs.Padding.{Putting, putting_start, putting_step, putting_end, le_more, le_none}
-use borrow.Author.Rules.{rules}
-use native.Mathlib.Omega.{arith}
+use Rattle.writer_bytes.proofs.Padding.{Putting}
 use Rattle.writer_bytes.proofs.set_le.Given as goal
 
 abbrev pub invariant-loop-left : goal.invariant-loop-left

@@ -1,6 +1,5 @@
 -- `set_mark`: two bytes, the mark by 256 and what is left of it.
 use Rattle.writer_bytes.proofs.Padding.{put_then}
-use borrow.Author.Rules.{rules}
 use Rattle.writer_bytes.proofs.set_mark.Goals as goal
 
 pub returns : goal.returns

@@ -1,6 +1,5 @@
 -- `set_u8`: the byte is set, since there is room.
 use mathlib.Core.Path.{refl}
-use borrow.Author.Rules.{rules}
 use native.Mathlib.Omega.{arith}
 use Rattle.writer_bytes.proofs.Padding.{put_byte}
 use Rattle.writer_bytes.proofs.set_u8.Goals as goal

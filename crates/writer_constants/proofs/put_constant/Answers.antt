@@ -1,7 +1,6 @@
 -- `put_constant`: a word is a number, a name or a function, by its size.
 use Rattle.writer_constants.proofs.Rows.{as_constant}
 use native.Mathlib.Omega.{arith}
-use borrow.Author.Rules.{rules}
 use Rattle.state.proofs.Words.{number_word, string_word, function_word}
 use Rattle.writer_constants.proofs.put_constant.Goals as goal
 

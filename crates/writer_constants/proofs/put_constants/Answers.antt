@@ -1,10 +1,7 @@
 -- `put_constants`: of the constants, what is left is still to be put.
-use Prim.Native.Nat.{◌+◌, ◌*◌, ◌≤◌}
-use Rattle.rules.specs.Image.{join, constant_bytes}
-use Rattle.writer_bytes.specs.Put.{stretch}
+use Rattle.rules.specs.Image.{constant_bytes}
 use Rattle.writer_constants.specs.Constants.{constant_at}
-use lib.ListN.{length}
-use Rattle.writer_bytes.proofs.Padding.{Putting, putting_start, putting_step, putting_end, join_more, join_none}
+use Rattle.writer_bytes.proofs.Padding.{putting_start, putting_step, putting_end, join_more, join_none}
 use Rattle.writer_constants.proofs.Rows.{constant_short}
 use borrow.Author.Rules.{rules}
 use native.Mathlib.Omega.{arith}

@@ -4,10 +4,7 @@ use Rattle.rules.specs.Image.{join, constant_bytes}
 use Rattle.writer_bytes.specs.Put.{stretch}
 use Rattle.writer_constants.specs.Constants.{constant_at}
 use lib.ListN.{length}
-use Rattle.writer_bytes.proofs.Padding.{Putting, putting_start, putting_step, putting_end, join_more, join_none}
-use Rattle.writer_constants.proofs.Rows.{constant_short}
-use borrow.Author.Rules.{rules}
-use native.Mathlib.Omega.{arith}
+use Rattle.writer_bytes.proofs.Padding.{Putting}
 use Rattle.writer_constants.proofs.put_constants.Given as goal
 
 abbrev pub invariant-loop-left : goal.invariant-loop-left

@@ -4,7 +4,6 @@ use lib.ListN.{length}
 use Rattle.rules.specs.Image.{constant_bytes}
 use Rattle.writer_bytes.proofs.Padding.{put_then, has_room}
 use native.Mathlib.Omega.{arith}
-use borrow.Author.Rules.{rules}
 use Rattle.writer_constants.proofs.put_function_number.Goals as goal
 use Rattle.writer_constants.proofs.put_function_number.Lts as lts
 use Rattle.writer_constants.proofs.put_function_number.Reads as reads

@@ -4,7 +4,6 @@ use Rattle.rules.specs.Base.{le}
 use Rattle.writer_bytes.proofs.Padding.{put_then, has_room}
 use Rattle.rules.proofs.Numbers.{le_length}
 use native.Mathlib.Omega.{arith}
-use borrow.Author.Rules.{rules}
 use Rattle.writer_runs.proofs.put_run.Goals as goal
 
 pub set_run-requires : goal.set_run-requires

@@ -1,10 +1,7 @@
 -- `put_runs`: of the runs, what is left is still to be put.
-use Prim.Native.Nat.{◌+◌, ◌*◌, ◌≤◌}
-use Rattle.rules.specs.Image.{join, run_bytes}
+use Rattle.rules.specs.Image.{run_bytes}
 use Rattle.state.specs.Layout.{run_at}
-use Rattle.writer_bytes.specs.Put.{stretch}
-use lib.ListN.{length}
-use Rattle.writer_bytes.proofs.Padding.{Putting, putting_start, putting_step, putting_end, join_more, join_none}
+use Rattle.writer_bytes.proofs.Padding.{putting_start, putting_step, putting_end, join_more, join_none}
 use Rattle.writer_runs.proofs.Rows.{length_run}
 use borrow.Author.Rules.{rules}
 use native.Mathlib.Omega.{arith}

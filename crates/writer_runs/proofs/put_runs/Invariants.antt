@@ -4,10 +4,7 @@ use Rattle.rules.specs.Image.{join, run_bytes}
 use Rattle.state.specs.Layout.{run_at}
 use Rattle.writer_bytes.specs.Put.{stretch}
 use lib.ListN.{length}
-use Rattle.writer_bytes.proofs.Padding.{Putting, putting_start, putting_step, putting_end, join_more, join_none}
-use Rattle.writer_runs.proofs.Rows.{length_run}
-use borrow.Author.Rules.{rules}
-use native.Mathlib.Omega.{arith}
+use Rattle.writer_bytes.proofs.Padding.{Putting}
 use Rattle.writer_runs.proofs.put_runs.Given as goal
 
 abbrev pub invariant-loop-left : goal.invariant-loop-left

@@ -1,6 +1,5 @@
 -- `Op::width` is the rules' width of every byte: what the table has, and of the mark the width of a CLOSURE.
 use native.Mathlib.Omega.{arith}
-use borrow.Author.Rules.{rules}
 use Rattle.op.proofs.Widths.{fixed, marked}
 use Rattle.op.proofs.Op.width.Goals as goal
 

@@ -3,8 +3,6 @@ use native.Mathlib.Omega.{arith}
 use Rattle.io.proofs.Counting.{prefix_len_of_le}
 use Rattle.vectors.proofs.input.least.Statement.{statement}
 use Rattle.vectors.proofs.input.least.Tie as tie
-use Rattle.vectors.proofs.input.least.Reads as reads
-use Rattle.vectors.proofs.input.least.Lts as lts
 
 returns : tie.Need-returns
 returns c = prefix_len_of_le _ _ (omega arith)

@@ -3,11 +3,6 @@ use Prim.Native.Nat.{◌-◌, ◌≤◌}
 use borrow.Author.Rules.{rules}
 use Rattle.vectors.proofs.replay.replay_all.Statement.{statement}
 use Rattle.vectors.proofs.replay.replay_all.Tie as tie
-use Rattle.vectors.proofs.replay.replay_all.Reads as reads
-use Rattle.vectors.proofs.replay.replay_all.Lts as lts
-use Rattle.vectors.proofs.replay.one_if.Reads as one-if-reads
-use Rattle.vectors.proofs.replay.replay.Reads as replay-reads
-use Rattle.vectors.proofs.replay.report.Reads as report-reads
 
 abbrev invariant-loop : tie.invariant-loop
 invariant-loop kind packed₀ space₀ same₀ other₀ k₀ packed space same other k = (k ≤ 100000) × (same ≤ k) × (other ≤ k)

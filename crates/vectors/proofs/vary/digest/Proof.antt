@@ -3,14 +3,8 @@ use mathlib.Core.Path.{◌≡◌}
 use Prim.Native.Nat.{◌-◌, ◌≤◌}
 use lib.ListN.{length}
 use borrow.Author.Rules.{rules}
-use native.Mathlib.Omega.{arith}
 use Rattle.vectors.proofs.vary.digest.Statement.{statement}
 use Rattle.vectors.proofs.vary.digest.Tie as tie
-use Rattle.vectors.proofs.vary.digest.Reads as reads
-use Rattle.vectors.proofs.vary.digest.Lts as lts
-use Rattle.vectors.proofs.vary.fold_answer.Reads as fold-answer-reads
-use Rattle.vectors.proofs.vary.step.Reads as step-reads
-use Rattle.vectors.proofs.vary.variants.Reads as variants-reads
 
 abbrev invariant-loop : tie.invariant-loop
 invariant-loop kind bytes₀ most sum₀ k₀ bytes sum k = (k ≤ most) × (length bytes ≡ length bytes₀)

@@ -4,10 +4,6 @@ use borrow.Author.Rules.{rules}
 use Rattle.io.proofs.Counting.{prefix_len_of_le}
 use Rattle.vectors.proofs.vary.step.Statement.{statement}
 use Rattle.vectors.proofs.vary.step.Tie as tie
-use Rattle.vectors.proofs.vary.step.Reads as reads
-use Rattle.vectors.proofs.vary.step.Lts as lts
-use Rattle.vectors.proofs.vary.add_one.Reads as add-one-reads
-use Rattle.vectors.proofs.vary.restore.Reads as restore-reads
 
 returns : tie.Need-returns
 returns c = prefix_len_of_le _ _ (omega (arith, c.if1.true))

@@ -3,9 +3,6 @@ use Prim.Native.Nat.{◌-◌, ◌≤◌}
 use borrow.Author.Rules.{rules}
 use Rattle.vectors.proofs.vary.vary_all.Statement.{statement}
 use Rattle.vectors.proofs.vary.vary_all.Tie as tie
-use Rattle.vectors.proofs.vary.vary_all.Reads as reads
-use Rattle.vectors.proofs.vary.vary_all.Lts as lts
-use Rattle.vectors.proofs.vary.vary.Reads as vary-reads
 
 abbrev invariant-loop : tie.invariant-loop
 invariant-loop kind space₀ k₀ space k = k ≤ 100
