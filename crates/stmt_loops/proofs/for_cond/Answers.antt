@@ -1,23 +1,15 @@
--- The condition, and the jump past the loop. The places first, each over the one before: of a call `-asked` is the place where it is made, `-left` the call
--- from where its areas have come back, `-went` and `-halted` the call once its answer is known.
-use Rattle.expr_laws.specs.Exprs.{Somewhere}
+-- The condition, and the jump past the loop.
 use Rattle.expressions.proofs.Arms.{ran_fit}
 use Rattle.stmt_loops.proofs.Loops.{cond_expr, cond_none, cond_stop, cond_stop_2, cond_done}
 use Rattle.stmt_loops.proofs.for_cond.Goals as goal
-use Rattle.stmt_loops.proofs.for_cond.Lts as lts
-use Rattle.stmt_loops.proofs.for_cond.Reads as reads
-use Rattle.stmt_loops.proofs.for_cond.Tie as tie
 
-value_there : (c : lts.Else1 tie.the-claims reads.Pre reads.Post) → Somewhere c.args.tree.now c.args.at
-value_there c = cond_expr c.requires.0 c.if-parts-ne1.false
-
--- ## The needs
 pub returns-then-parts-ne1 : goal.returns-then-parts-ne1
 returns-then-parts-ne1 c = λ d. cond_none _ c.args.parts d _ c.if-parts-ne1.true c.requires.1
 
 pub compile_expr-a-requires : goal.compile_expr-a-requires
 compile_expr-a-requires c =
-    (value_there c.before.before.before, c.requires.1)
+    let value_there = cond_expr c.requires.0 c.if-parts-ne1.false in
+    (value_there, c.requires.1)
 
 pub returns-in_default : goal.returns-in_default
 returns-in_default c =
@@ -25,7 +17,8 @@ returns-in_default c =
 
 pub open_jump-b-requires : goal.open_jump-b-requires
 open_jump-b-requires c =
-    ran_fit (value_there c.before.before.before.before.before.before.before.before.before.before.before.before.before.before.before.before) c.compile_expr-a.ensures c.in-Next.is
+    let value_there = cond_expr c.requires.0 c.if-parts-ne1.false in
+    ran_fit value_there c.compile_expr-a.ensures c.in-Next.is
 
 pub returns-in_default-b : goal.returns-in_default-b
 returns-in_default-b c =

@@ -1,11 +1,9 @@
--- By the mark. The places first, each over the one before: of a call `-asked` is the place where it is made,
--- `-left` the call from where its areas have come back.
+-- By the mark.
 use mathlib.Core.Path.{sym, ◌∙◌}
 use native.Mathlib.Omega.{arith}
 use Rattle.stmt_plain_laws.proofs.Values.{bound, last_return}
 use Rattle.stmt_plain.proofs.compile_plain.Goals as goal
 
--- ## The needs
 pub mark_at-mark-requires : goal.mark_at-mark-requires
 mark_at-mark-requires c = let b = bound c.requires.0 in omega (arith, b)
 

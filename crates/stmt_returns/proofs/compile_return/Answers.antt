@@ -1,44 +1,42 @@
--- A `return` with no value, or the kind of function and then the value. The places first, each over the one before: of a call `-asked` is the place where it is made,
--- `-left` the call from where its areas have come back, `-went` and `-halted` the call once its answer is known.
-use Prim.Native.Nat.{◌+◌, ◌≤◌}
+-- A `return` with no value, or the kind of function and then the value.
 use native.Mathlib.Omega.{arith}
-use lib.ListN.{length}
-use Rattle.expr_laws.specs.Exprs.{Somewhere}
 use Rattle.expressions.proofs.Arms.{ran_fit}
 use Rattle.stmt_returns.proofs.Returns as ways
 use Rattle.stmt_returns.proofs.compile_return.Goals as goal
-use Rattle.stmt_returns.proofs.compile_return.Lts as lts
-use Rattle.stmt_returns.proofs.compile_return.Reads as reads
-use Rattle.stmt_returns.proofs.compile_return.Tie as tie
 
-bound : (c : lts.Start tie.the-claims reads.Pre reads.Post) → c.args.at + 11 ≤ length c.args.tree.now
-bound c = ways.return_bound c.requires.1 c.requires.0
-
-value_there : (c : lts.Else1 tie.the-claims reads.Pre reads.Post) → Somewhere c.args.tree.now (c.args.at + 11)
-value_there c = ways.return_there c.requires.1 _ c.u8_at.ensures c.if-u8_at-eq0.false c.requires.0
-
--- ## The needs
 pub overflow_add-at : goal.overflow_add-at
-overflow_add-at c = let b = bound c.before.before.before.before in omega (arith, b)
+overflow_add-at c =
+    let bound = ways.return_bound c.requires.1 c.requires.0 in
+    let b = bound in omega (arith, b)
 
 pub span_at-span-requires : goal.span_at-span-requires
-span_at-span-requires c = let b = bound c.before.before.before.before in omega (arith, b)
+span_at-span-requires c =
+    let bound = ways.return_bound c.requires.1 c.requires.0 in
+    let b = bound in omega (arith, b)
 
 pub overflow_add-at-2 : goal.overflow_add-at-2
-overflow_add-at-2 c = let b = bound c.before.before.before.before.before in omega (arith, b)
+overflow_add-at-2 c =
+    let bound = ways.return_bound c.requires.1 c.requires.0 in
+    let b = bound in omega (arith, b)
 
 pub u8_at-requires : goal.u8_at-requires
-u8_at-requires c = let b = bound c.before.before.before.before.before in omega (arith, b)
+u8_at-requires c =
+    let bound = ways.return_bound c.requires.1 c.requires.0 in
+    let b = bound in omega (arith, b)
 
 pub overflow_add-at-then-u8_at-eq0 : goal.overflow_add-at-then-u8_at-eq0
-overflow_add-at-then-u8_at-eq0 c = let b = bound c.before.before.before.before.before.before.before.before.before.before in omega (arith, b)
+overflow_add-at-then-u8_at-eq0 c =
+    let bound = ways.return_bound c.requires.1 c.requires.0 in
+    let b = bound in omega (arith, b)
 
 pub returns-then-u8_at-eq0 : goal.returns-then-u8_at-eq0
 returns-then-u8_at-eq0 c =
     λ d. ways.return_none _ d _ _ c.requires.1 _ c.u8_at.ensures _ c.span_at-span.ensures c.if-u8_at-eq0.true (c.return_nothing.ensures _)
 
 pub overflow_add-at-3 : goal.overflow_add-at-3
-overflow_add-at-3 c = let b = bound c.before.before.before.before.before.before.before in omega (arith, b)
+overflow_add-at-3 c =
+    let bound = ways.return_bound c.requires.1 c.requires.0 in
+    let b = bound in omega (arith, b)
 
 pub returns-in_default : goal.returns-in_default
 returns-in_default c =
@@ -46,11 +44,14 @@ returns-in_default c =
     (c.return_kind-a.ensures.gives c.args.code.now c.args.spans.now c.requires.2) c.in_default.is
 
 pub overflow_add-at-4 : goal.overflow_add-at-4
-overflow_add-at-4 c = let b = bound c.before.before.before.before.before.before.before.before.before.before in omega (arith, b)
+overflow_add-at-4 c =
+    let bound = ways.return_bound c.requires.1 c.requires.0 in
+    let b = bound in omega (arith, b)
 
 pub compile_expr-b-requires : goal.compile_expr-b-requires
 compile_expr-b-requires c =
-    (value_there c.before.before.before.before.before.before, c.requires.2)
+    let value_there = ways.return_there c.requires.1 _ c.u8_at.ensures c.if-u8_at-eq0.false c.requires.0 in
+    (value_there, c.requires.2)
 
 pub returns-in_default-b : goal.returns-in_default-b
 returns-in_default-b c =
@@ -59,7 +60,8 @@ returns-in_default-b c =
 
 pub emit_op-requires : goal.emit_op-requires
 emit_op-requires c =
-    ran_fit (value_there c.before.before.before.before.before.before.before.before.before.before.before.before.before.before.before.before.before.before.before) c.compile_expr-b.ensures c.in-Next-b.is
+    let value_there = ways.return_there c.requires.1 _ c.u8_at.ensures c.if-u8_at-eq0.false c.requires.0 in
+    ran_fit value_there c.compile_expr-b.ensures c.in-Next-b.is
 
 pub returns : goal.returns
 returns c =

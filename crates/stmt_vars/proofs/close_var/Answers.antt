@@ -1,5 +1,4 @@
--- A global is defined by an instruction, a local by its mark. The places first, each over the one before: of a call `-asked` is the place where it is made,
--- `-left` the call from where its areas have come back.
+-- A global is defined by an instruction, a local by its mark.
 use Rattle.stmt_vars.proofs.Vars as ways
 use Rattle.stmt_vars.proofs.close_var.Goals as goal
 

@@ -1,5 +1,4 @@
--- The value, or NIL. The places first, each over the one before: of a call `-asked` is the place where it is made,
--- `-left` the call from where its areas have come back, `-went` and `-halted` the call once its answer is known.
+-- The value, or NIL.
 use Rattle.stmt_plain_laws.proofs.Values as ways
 use Rattle.stmt_vars.proofs.compile_value.Goals as goal
 

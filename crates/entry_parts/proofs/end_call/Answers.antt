@@ -1,0 +1,17 @@
+-- `end_call` leaves what the rules' `leaves` says.
+use Rattle.std.proofs.Common.{sym, ap, ◌∙◌}
+use Rattle.entry_parts.specs.Ends.{lent_of, answer_of, output_of}
+use Rattle.entry_parts.proofs.Ends.{left}
+use Rattle.entry_parts.proofs.end_call.Goals as goal
+
+pub returns-in-Image : goal.returns-in-Image
+returns-in-Image c =
+    let a = c.args in
+    left (lent_of 0 a.table.now a.code.now a.spans.now a.out.now) (c.accepted.ensures ∙ ap answer_of (sym c.in-Image.is))
+    (ap (output_of _) (sym c.in-Image.is)) c.clear64.ensures c.clear8.ensures c.clear32.ensures
+
+pub returns-in-Refused : goal.returns-in-Refused
+returns-in-Refused c =
+    let a = c.args in
+    left (lent_of 0 a.table.now a.code.now a.spans.now a.out.now) (c.refused_in.ensures ∙ ap answer_of (sym c.in-Refused.is))
+    (c.clear8-in-Refused.ensures ∙ ap (output_of _) (sym c.in-Refused.is)) c.clear64.ensures c.clear8.ensures c.clear32.ensures
