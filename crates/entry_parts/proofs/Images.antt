@@ -1,7 +1,7 @@
 -- An image with its header, and with its directory where that is asked for: how long it is, and what the output holds.
 use mathlib.Core.Path.{◌≡◌, refl, sym, ap, subst, ◌∙◌}
 use mathlib.Core.Bool.{Bool, true, false}
-use mathlib.Core.List.{List, ◌∷◌, ◌++◌, append-nil}
+use mathlib.Core.List.{List, ◌∷◌, ◌++◌, append-nil, []}
 use Prim.Native.Nat.{ℕ, ◌+◌, ◌-◌, ◌*◌, ◌≤◌, ◌<◌}
 use native.Mathlib.Omega.{arith}
 use lib.ListN.{length, replicate, length-append}

@@ -11,7 +11,7 @@ use Rattle.rules.specs.Reader.{Read, got}
 use Rattle.rules.specs.TreeFile.{infix_ops, prefix_ops, read_expr}
 use Rattle.rules.specs.Op as op
 use Rattle.rules.specs.Chunk.{CS}
-use Rattle.rules.specs.Compiler.{Compile, return, done, need, emit_op, emit_op_u8, emit_invoke, emit_jump, patch_jump, prefix_op, need_super, get_variable, compile_expr}
+use Rattle.rules.specs.Compiler.{Compile, return, done, need, emit_op, emit_op_u8, emit_invoke, emit_jump, patch_jump, prefix_op, need_super, get_variable, compile_expr, ◌>>=◌, ◌>>◌}
 use Rattle.fields.specs.Words.{word16}
 use Rattle.steps.specs.Why.{told}
 use Rattle.steps.specs.View.{Mem, t_of, code_len, steady, Gave, Refused, Did}

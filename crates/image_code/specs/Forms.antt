@@ -1,6 +1,6 @@
 -- What follows an opcode as one number, its form, and the width that the rules give an instruction of that form.
 use Rattle.std.proofs.Math.Option.{Option, none, some}
-use Rattle.std.specs.Prelude.{List, ◌∷◌, ℕ, suc, get_or}
+use Rattle.std.specs.Prelude.{List, ◌∷◌, ℕ, suc, get_or, []}
 use Rattle.rules.specs.Op.{Operands, Plain, Byte, Captured, Value, Text, Invoke, Ahead, Back, Closure, operands_of}
 use Rattle.rules.specs.Division.{Kind, size_with}
 

@@ -1,5 +1,5 @@
 -- What is said of a code whose constants are those of a table: its division, and whether it is right.
-use Rattle.std.specs.Prelude.{Bool, true, false, ◌&&◌, List, ℕ, zero, suc, ◌+◌, ◌-◌, ◌%◌, ◌<◌, length, get_or, take, drop, eqb, if◌then◌else◌}
+use Rattle.std.specs.Prelude.{Bool, true, false, ◌&&◌, List, ℕ, zero, suc, ◌+◌, ◌-◌, ◌%◌, ◌<◌, length, get_or, take, drop, eqb, if◌then◌else◌, []}
 use Rattle.std.proofs.Math.Option.{Option, none, some}
 use Rattle.rules.specs.Base.{all, all_below}
 use Rattle.rules.specs.Division.{Kind, missing, number, text, function, Instruction, divide, is_function, operands_fit, lands}

@@ -1,5 +1,5 @@
 -- What a walk over some of an image's instructions finds, and what it is asked of.
-use Rattle.std.specs.Prelude.{◌≡◌, Bool, true, false, List, ◌∷◌, ℕ, ◌+◌, ◌<◌, ◌≤◌, length, take, if◌then◌else◌}
+use Rattle.std.specs.Prelude.{◌≡◌, Bool, true, false, List, ◌∷◌, ℕ, ◌+◌, ◌<◌, ◌≤◌, length, take, if◌then◌else◌, []}
 use Rattle.std.proofs.Math.Option.{some}
 use Rattle.rules.specs.Reader.{Read, got, bad, many}
 use Rattle.rules.specs.Chunk.{Constant, ObjectFunction}

@@ -2,7 +2,7 @@
 use mathlib.Core.Path.{◌≡◌, refl, subst, subst⁻¹}
 use mathlib.Core.Bool.{Bool, true, false, not}
 use mathlib.Core.Option.{Option, none, some}
-use mathlib.Core.List.{List, ◌∷◌, ◌++◌}
+use mathlib.Core.List.{List, ◌∷◌, ◌++◌, []}
 use Prim.Native.Nat.{ℕ, zero, suc, ◌+◌, ◌-◌, ◌*◌, ◌≤◌}
 use native.Mathlib.Omega.{arith}
 use lib.ListN.{length, length-append, replicate, get_elem?}

@@ -3,7 +3,7 @@
 use mathlib.Core.Path.{◌≡◌, refl, sym, ap, ◌∙◌, subst⁻¹}
 use mathlib.Core.Bool.{Bool, true, false, ◌&&◌, ◌||◌}
 use mathlib.Core.Option.{Option, none, some}
-use mathlib.Core.List.{List, ◌∷◌, ◌++◌, append_assoc, append-nil}
+use mathlib.Core.List.{List, ◌∷◌, ◌++◌, append_assoc, append-nil, []}
 use Prim.Native.Nat.{ℕ, ◌+◌, ◌-◌, ◌*◌, ◌/◌, ◌%◌, ◌≤◌, ◌<◌}
 use native.Mathlib.Omega.{arith}
 use lib.ListN.{length, length-append, get_elem?, get_or}

@@ -1,6 +1,6 @@
 -- What the peak counts is all code: where the compiler comes to functions, it looks at as many moments as there are bytes in their code.
 use mathlib.Core.Path.{◌≡◌, subst, ◌∙◌}
-use mathlib.Core.List.{List, ◌∷◌, ◌++◌}
+use mathlib.Core.List.{List, ◌∷◌, ◌++◌, []}
 use Prim.Native.Nat.{ℕ, ◌+◌}
 use native.Mathlib.Omega.{arith}
 use lib.ListN.{length}

@@ -1,6 +1,6 @@
 -- Tests put together: what `&&`, `||`, `all` and `all_below` say of their parts.
 use mathlib.Core.Bool.{Bool, true, false, ◌&&◌, ◌||◌}
-use mathlib.Core.List.{List, ◌∷◌, ◌++◌}
+use mathlib.Core.List.{List, ◌∷◌, ◌++◌, []}
 use Prim.Native.Nat.{ℕ, zero, suc, ◌<◌}
 use native.Mathlib.Omega.{arith}
 use lib.Dec.{T}

@@ -11,7 +11,7 @@ use Rattle.rules.specs.declared.Refusal.TheVariants.{TooManyParams}
 use Rattle.rules.specs.Tree.{Expr, Stmts, Methods, Superclass}
 use Rattle.rules.specs.Op as op
 use Rattle.rules.specs.Chunk.{CS}
-use Rattle.rules.specs.Compiler.{Compile, FunctionType, need, the, done, new_ctx, begin_ctx, slot_zero, declare_local, define_local, declare_params, compile_stmts, implicit_return}
+use Rattle.rules.specs.Compiler.{Compile, FunctionType, need, the, done, new_ctx, begin_ctx, slot_zero, declare_local, define_local, declare_params, compile_stmts, implicit_return, ◌>>=◌, ◌>>◌}
 use Rattle.rules.specs.Compiler.{emit_op, emit_op_constant, define_name, push_class_ctx, is_some, compile_superclass, some_methods, get_variable, compile_methods, end_superclass, compile_value}
 
 module _ (limit : ℕ) where

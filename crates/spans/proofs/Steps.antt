@@ -1,6 +1,6 @@
 -- The rules' lookup of a span, from the words that are left: at their end, at a run that holds the byte, and past a run that does not.
 use mathlib.Core.Path.{◌≡◌, refl, sym}
-use mathlib.Core.List.{List, ◌∷◌}
+use mathlib.Core.List.{List, ◌∷◌, []}
 use Prim.Native.Nat.{ℕ, suc, ◌+◌, ◌-◌, ◌<◌, ◌≤◌}
 use native.Mathlib.Numerals.{add-one}
 use native.Mathlib.Omega.{arith}

@@ -1,5 +1,5 @@
 -- The rules' runs of a lent slice of runs.
-use Rattle.std.specs.Prelude.{List, ◌∷◌}
+use Rattle.std.specs.Prelude.{List, ◌∷◌, []}
 use Rattle.rules.specs.Chunk as Chunk
 use Rattle.spans.specs.declared.Run.{Run}
 

@@ -1,5 +1,5 @@
 -- The runs that words stand for: start, end and count of each in turn. One or two words that are left over are no run.
-use Rattle.std.specs.Prelude.{List, ◌∷◌, ℕ}
+use Rattle.std.specs.Prelude.{List, ◌∷◌, ℕ, []}
 use Rattle.rules.specs.Chunk.{Run}
 
 unfoldable pub runs_of : (words : List ℕ) → List Run

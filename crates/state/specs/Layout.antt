@@ -1,7 +1,7 @@
 -- How the compiler's state lies in the lent areas: a table of words, code bytes, and three words for each run of a span.
 -- The table has a level for each open function, the script's being level 0: its locals, upvalues and constants, a word each and their count behind
 -- them, and a few words more. After the levels come the ends of code and runs, and two words of the image writer, which nothing here reads or changes.
-use Rattle.std.specs.Prelude.{◌≡◌, List, ◌∷◌, ℕ, zero, suc, ◌+◌, ◌*◌, ◌-◌, ◌/◌, ◌%◌, ◌^◌, ◌≤◌, ◌<◌, length, get_or, eqb, ltb, if◌then◌else◌}
+use Rattle.std.specs.Prelude.{◌≡◌, List, ◌∷◌, ℕ, zero, suc, ◌+◌, ◌*◌, ◌-◌, ◌/◌, ◌%◌, ◌^◌, ◌≤◌, ◌<◌, length, get_or, eqb, ltb, if◌then◌else◌, []}
 use Rattle.rules.specs.Chunk.{Chunk, Run, Constant, CN, CS, CF}
 use Rattle.rules.specs.Compiler.{Local, Upvalue, CompilerCtx, FunctionType, Function, Initializer, Method, Script}
 

@@ -3,7 +3,7 @@
 pub use Rattle.stmt_opening.specs.Opening.{FunHead, Inside, FunctionOpenedAs, FunctionOpened}
 unfoldable pub use Rattle.stmt_records.specs.Filed.{function_at}
 pub use Rattle.stmt_records.specs.Filed.{Filed}
-use Rattle.std.specs.Prelude.{◌≡◌, List, ◌∷◌, ◌++◌, ℕ, suc, ◌+◌, ◌*◌, ◌≤◌, get_or}
+use Rattle.std.specs.Prelude.{◌≡◌, List, ◌∷◌, ◌++◌, ℕ, suc, ◌+◌, ◌*◌, ◌≤◌, get_or, []}
 use Rattle.rules.specs.declared.Span.{Span}
 use Rattle.rules.specs.Chunk.{ObjectFunction}
 use Rattle.rules.specs.Compiler.{ok, err}

@@ -4,7 +4,7 @@ use Rattle.std.proofs.Math.Option.{Option}
 use Rattle.std.specs.Prelude.{ℕ}
 use Rattle.rules.specs.declared.Span.{Span}
 use Rattle.rules.specs.Op as op
-use Rattle.rules.specs.Compiler.{Compile, return, emit_op, emit_jump, patch_jump, emit_loop, for_end}
+use Rattle.rules.specs.Compiler.{Compile, return, emit_op, emit_jump, patch_jump, emit_loop, for_end, ◌>>=◌, ◌>>◌}
 
 module _ (limit : ℕ) where
   -- a jump past what follows, and the value that it tests is dropped

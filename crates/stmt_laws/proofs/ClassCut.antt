@@ -9,7 +9,7 @@ use lib.ListN.{length}
 use lib.Dec.{ltb}
 use borrow.Author.Tests.{lt-ltb}
 use Rattle.rules.specs.declared.Span.{Span}
-use Rattle.rules.specs.Tree.{Superclass, StmtClass, Fun, Methods, method}
+use Rattle.rules.specs.Tree.{Superclass, StmtClass, Fun, Methods, method, []ᵐ}
 use Rattle.rules.specs.Reader.{got, Reader}
 use Rattle.rules.specs.TreeFile.{read_methods}
 use Rattle.rules.specs.Op as op

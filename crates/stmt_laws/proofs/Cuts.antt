@@ -3,7 +3,7 @@ use mathlib.Core.Path.{◌≡◌, refl, sym, ◌∙◌}
 use mathlib.Core.Option.{Option, some}
 use Prim.Native.Nat.{ℕ}
 use Rattle.rules.specs.declared.Span.{Span}
-use Rattle.rules.specs.Tree.{Expr, Stmt, Stmts, StmtBlock, StmtFor, StmtFun, StmtIf, StmtWhile, ◌∷ˢ◌, Fun, Methods, method}
+use Rattle.rules.specs.Tree.{Expr, Stmt, Stmts, StmtBlock, StmtFor, StmtFun, StmtIf, StmtWhile, ◌∷ˢ◌, Fun, Methods, method, []ˢ, []ᵐ}
 use Rattle.rules.specs.Op as op
 use Rattle.rules.specs.Chunk.{CS}
 use Rattle.rules.specs.Compiler.{Compiler, ok, Compile, ◌>>=◌, ◌>>◌, return, done, Function, begin_scope, start_loop, end_scope}

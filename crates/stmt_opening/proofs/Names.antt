@@ -1,6 +1,6 @@
 -- A function's own locals: the one of slot zero, and the parameters, one after the other.
 use mathlib.Core.Path.{◌≡◌, refl, sym, ap, subst, ◌∙◌}
-use mathlib.Core.List.{List, ◌∷◌}
+use mathlib.Core.List.{List, ◌∷◌, []}
 use Prim.Native.Nat.{ℕ, zero, suc, ◌+◌, ◌*◌, ◌-◌, ◌≤◌, ◌<◌}
 use native.Mathlib.Omega.{arith}
 use lib.ListN.{length}

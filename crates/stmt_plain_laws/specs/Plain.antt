@@ -8,7 +8,7 @@ use Rattle.rules.specs.declared.Refusal.TheVariants.{ReturnInInitializer, Return
 use Rattle.rules.specs.Tree.{Expr, Stmt}
 use Rattle.rules.specs.Reader.{Read, got}
 use Rattle.rules.specs.TreeFile.{flags, maybe, read_expr}
-use Rattle.rules.specs.Compiler.{Compile, done, refuse, the, FunctionType, Function, Initializer, Method, Script, declare_local, define_local, define_global, compile_value, compile_stmt}
+use Rattle.rules.specs.Compiler.{Compile, done, refuse, the, FunctionType, Function, Initializer, Method, Script, declare_local, define_local, define_global, compile_value, compile_stmt, ◌>>=◌}
 use Rattle.fields.specs.Words.{word16, letters}
 use Rattle.steps.specs.View.{Mem, steady, Did}
 use Rattle.steps.specs.declared.Step.{Step}

@@ -7,7 +7,7 @@ use Rattle.rules.specs.declared.Span.{Span}
 use Rattle.rules.specs.declared.Refusal.{Refusal}
 use Rattle.rules.specs.declared.Refusal.TheVariants.{TreeForm}
 use Rattle.rules.specs.Tree.{Expr}
-use Rattle.rules.specs.Reader.{Read, got, bad, Reader, return, need, u64}
+use Rattle.rules.specs.Reader.{Read, got, bad, Reader, return, need, u64, ◌>>=◌, ◌>>◌}
 use Rattle.rules.specs.TreeFile.{ExprMark, expr_marks, expr_fields, read_expr}
 use Rattle.tree_small.specs.Places.{place, row}
 use Rattle.tree_small.specs.declared.Step.{Step}

@@ -1,8 +1,8 @@
 -- The names that a tree file writes, in order: behind the header, each a mark, a count and so many bytes. Where they do not stand there, none.
-use mathlib.Core.List.{List}
+use mathlib.Core.List.{List, []}
 use Prim.Native.Nat.{ℕ}
 use Rattle.rules.specs.declared.Refusal.TheVariants.{TreeForm}
-use Rattle.rules.specs.Reader.{Read, Reader, got, bad, u8, u16, mark_is, many}
+use Rattle.rules.specs.Reader.{Read, Reader, got, bad, u8, u16, mark_is, many, ◌>>=◌, ◌>>◌}
 
 module _ (tree : List ℕ) where
   unfoldable pub read_text : Reader (List ℕ)

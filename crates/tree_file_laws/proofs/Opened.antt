@@ -2,7 +2,7 @@
 -- how many `SF` records it stands in, itself among them. A record's own fields come before its children, so what is still to be read is a list.
 use mathlib.Core.Bool.{Bool, true, false}
 use mathlib.Core.Option.{Option, none, some}
-use mathlib.Core.List.{List, ◌∷◌, ◌++◌, map}
+use mathlib.Core.List.{List, ◌∷◌, ◌++◌, map, []}
 use Prim.Native.Nat.{ℕ, zero, suc, ◌/◌, ◌%◌}
 use lib.ListN.{length, replicate}
 use lib.Dec.{ltb, leb, eqb}

@@ -4,7 +4,7 @@ use mathlib.Core.Path.{◌≡◌, refl, sym, ap, ◌∙◌, subst, subst⁻¹}
 use mathlib.Core.Logic.{◌↔◌}
 use mathlib.Core.Bool.{Bool, true, false}
 use mathlib.Core.Option.{Option, none, some}
-use mathlib.Core.List.{List, ◌∷◌, ◌++◌, append_assoc, append-nil, map, map-append}
+use mathlib.Core.List.{List, ◌∷◌, ◌++◌, append_assoc, append-nil, map, map-append, []}
 use Prim.Native.Nat.{ℕ, zero, suc, ◌+◌, ◌-◌, ◌/◌, ◌%◌, ◌≤◌, ◌<◌}
 use native.Mathlib.Omega.{arith}
 use lib.ListN.{length, get_or, replicate}
@@ -17,7 +17,7 @@ use Rattle.rules.specs.declared.Span.{Span}
 use Rattle.rules.specs.declared.Refusal.TheVariants.{TreeForm, TreeTooDeep, TooManyOpen}
 use Rattle.rules.specs.Reader as r
 use Rattle.rules.specs.Reader.{Read, Reader, got, bad}
-use Rattle.rules.specs.Tree.{Expr}
+use Rattle.rules.specs.Tree.{Expr, []ᵉ, []ˢ, []ᵐ}
 use Rattle.rules.specs.Tree.{Stmt, Stmts}
 use Rattle.rules.specs.Tree.{Fun}
 use Rattle.rules.specs.TreeFile as t

@@ -1,10 +1,10 @@
 -- What `opened` and the two counts on the tree give: P12, whose inner function stands in another, whole and cut short.
 use mathlib.Core.Path.{◌≡◌, refl}
 use mathlib.Core.Option.{some}
-use mathlib.Core.List.{◌∷◌}
+use mathlib.Core.List.{◌∷◌, []}
 use Prim.Native.Nat.{ℕ}
 use lib.ListN.{take}
-use Rattle.rules.specs.Tree.{Stmts, StmtFun, StmtReturn, ExprVar, ◌∷ˢ◌, fun}
+use Rattle.rules.specs.Tree.{Stmts, StmtFun, StmtReturn, ExprVar, ◌∷ˢ◌, fun, []ˢ}
 use Rattle.rules.specs.Reader.{got}
 use Rattle.rules.specs.TreeFile as t
 use Rattle.rules.proofs.Examples.{hex, P12_tree, from_to}

@@ -14,7 +14,7 @@ use Rattle.rules.specs.Base.{lookup}
 use Rattle.rules.specs.Limits.{max_bits}
 use Rattle.rules.specs.declared.Refusal.{Refusal}
 use Rattle.rules.specs.declared.Refusal.TheVariants.{TreeForm, TreeTooDeep}
-use Rattle.rules.specs.Tree.{Expr, Exprs, ExprAssign, ExprCall, ExprGet, ExprInfix, Literal, ExprPrefix, ExprSet, ExprSuper, ExprVar, ◌∷ᵉ◌, count_exprs, OpInfix, OpPrefix, ExprLiteral, LitBool, LitNil, LitNumber, LitString}
+use Rattle.rules.specs.Tree.{Expr, Exprs, ExprAssign, ExprCall, ExprGet, ExprInfix, Literal, ExprPrefix, ExprSet, ExprSuper, ExprVar, ◌∷ᵉ◌, count_exprs, OpInfix, OpPrefix, ExprLiteral, LitBool, LitNil, LitNumber, LitString, []ᵉ}
 use Rattle.rules.specs.Reader.{Read, got, Reader, go_on, ◌>>=◌, ◌>>◌, return, refuse, here, need, one_of, u8, u16, u64, span}
 use Rattle.rules.specs.TreeFile.{ExprMark, EA, EC, EG, EI, EL, EP, ES, EU, EV, expr_marks, infix_ops, prefix_ops, literal_kinds, LiteralKind, a_false, a_true, a_nil, a_number, a_string, name, read_exprs, assign_fields, call_fields, get_fields, infix_fields, literal_of, literal_fields, prefix_fields, set_fields, super_fields, var_fields, expr_fields, expr_mark, expr_record, read_expr}
 use Rattle.fields.specs.Words.{word8, word16, word64, letters, span_of}

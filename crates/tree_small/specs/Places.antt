@@ -3,7 +3,7 @@ use Rattle.std.proofs.Math.Option.{Option, none, some}
 use Rattle.std.specs.Prelude.{List, ◌≡◌, ℕ, zero, suc, ◌+◌, ◌≤◌, ◌<◌, ltb, leb, length, if◌then◌else◌}
 use Rattle.rules.specs.Base.{lookup}
 use Rattle.rules.specs.declared.Refusal.{Refusal}
-use Rattle.rules.specs.Reader.{Read, got, bad, Reader, return, need, u8}
+use Rattle.rules.specs.Reader.{Read, got, bad, Reader, return, need, u8, ◌>>=◌, ◌>>◌}
 use Rattle.fields.specs.Words.{letters}
 use Rattle.tree_small.specs.declared.Step.{Step}
 use Rattle.tree_small.specs.declared.Step.TheVariants.{At, Bad}

@@ -1,5 +1,5 @@
 -- Statements and methods: what a record's own fields announce, and where the record ends.
-use Rattle.std.specs.Prelude.{Bool, true, false, List, ◌∷◌, ◌≡◌, ℕ, ◌+◌, ◌-◌, ◌<◌, if◌then◌else◌}
+use Rattle.std.specs.Prelude.{Bool, true, false, List, ◌∷◌, ◌≡◌, ℕ, ◌+◌, ◌-◌, ◌<◌, if◌then◌else◌, []}
 use Rattle.std.proofs.Math.Option.{some}
 use Rattle.rules.specs.Base.{lookup}
 use Rattle.rules.specs.declared.Span.{Span}

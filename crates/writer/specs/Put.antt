@@ -2,7 +2,7 @@
 unfoldable pub use Rattle.writer_bytes.specs.Put.{padded}
 pub use Rattle.writer_bytes.specs.Put.{Put}
 pub use Rattle.writer_header.specs.Header.{Headed}
-use Rattle.std.specs.Prelude.{◌≡◌, List, ◌∷◌, ◌++◌, ℕ, ◌+◌, ◌*◌, ◌≤◌, ◌<◌, length, replicate}
+use Rattle.std.specs.Prelude.{◌≡◌, List, ◌∷◌, ◌++◌, ℕ, ◌+◌, ◌*◌, ◌≤◌, ◌<◌, length, replicate, []}
 use Rattle.rules.specs.Base.{le}
 use Rattle.rules.specs.Chunk.{ObjectFunction}
 use Rattle.rules.specs.Image.{join, function_bytes}

@@ -1,5 +1,5 @@
 -- What the output holds while the image is written: its bytes as far as there is room, then zeros.
-use Rattle.std.specs.Prelude.{◌≡◌, List, ◌∷◌, ◌++◌, ℕ, zero, suc, ◌+◌, length, get_or}
+use Rattle.std.specs.Prelude.{◌≡◌, List, ◌∷◌, ◌++◌, ℕ, zero, suc, ◌+◌, length, get_or, []}
 
 unfoldable pub padded : (room : ℕ) → List ℕ → List ℕ
 padded zero bs = []

@@ -1,4 +1,5 @@
 -- `emit_jump` meets its contract.
+use mathlib.Core.List.{[]}
 use native.Mathlib.Omega.{arith}
 use Rattle.rules.specs.Compiler.{emit_op, emit_jump}
 use Rattle.steps.proofs.Steps.{went, halt_to, then_to}

@@ -3,7 +3,7 @@ use Rattle.std.proofs.Common.{rules}
 use mathlib.Core.Path.{ap}
 use mathlib.Core.Bool.{not}
 use mathlib.Core.Path.{refl, sym}
-use mathlib.Core.List.{◌∷◌}
+use mathlib.Core.List.{◌∷◌, []}
 use Rattle.rules.specs.Base.{lookup, all}
 use Rattle.rules.specs.TreeFile.{expr_marks}
 use Rattle.tree_small.proofs.Places.{cut, there}

@@ -2,7 +2,7 @@
 use mathlib.Core.Path.{ap}
 use mathlib.Core.Bool.{not}
 use mathlib.Core.Path.{refl, sym, ◌∙◌}
-use mathlib.Core.List.{◌∷◌}
+use mathlib.Core.List.{◌∷◌, []}
 use mathlib.Core.Logic.{⊎_elim}
 use Rattle.rules.specs.Base.{lookup, all}
 use Rattle.std.specs.Prelude.{if◌then◌else◌}
