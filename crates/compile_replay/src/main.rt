@@ -3,14 +3,16 @@
 // expected.
 #![tactic(auto)]
 
-ghost use Rattle.io.specs.Counts.{IsPrefixLen};
+ghost use Rattle.std.specs.Prelude.{◌≡◌, length, min};
 
 use rules::Answer;
 use state::Table;
+use std::io;
+use std::io::Read;
 use vectors::Found;
 
 // What a vector asks for, and what it lends: more than there is here means plenty, and all that is here.
-#[derive(Drop)]
+#[derive(Clone, Copy)]
 struct Lent {
     options: u32,
     code: u32,
@@ -18,13 +20,13 @@ struct Lent {
     output: u32,
 }
 
-#[derive(Drop)]
+#[derive(Clone, Copy)]
 enum Next {
     Is(Lent),
     End,
 }
 
-#[derive(Drop)]
+#[derive(Clone, Copy)]
 struct Told {
     number: u32,
     at: u32,
@@ -35,30 +37,30 @@ struct Told {
     around: u32,
 }
 
-fn lent_next() -> Next {
-    let Found::Is(options) = vectors::next() else {
-        return Next::End;
+fn lent_next<R: Read>(input: &mut R) -> io::Result<Next> {
+    let Found::Is(options) = vectors::next(input)? else {
+        return Ok(Next::End);
     };
-    let code = vectors::next_u32();
-    let spans = vectors::next_u32();
-    let output = vectors::next_u32();
-    Next::Is(Lent {
+    let code = vectors::next_u32(input)?;
+    let spans = vectors::next_u32(input)?;
+    let output = vectors::next_u32(input)?;
+    Ok(Next::Is(Lent {
         options,
         code,
         spans,
         output,
-    })
+    }))
 }
 
-fn told_next() -> Told {
-    let number = vectors::next_u32();
-    let at = vectors::next_u32();
-    let end = vectors::next_u32();
-    let name = vectors::next_u32();
-    let length = vectors::next_u32();
-    let function = vectors::next_u32();
-    let around = vectors::next_u32();
-    Told {
+fn told_next<R: Read>(input: &mut R) -> io::Result<Told> {
+    let number = vectors::next_u32(input)?;
+    let at = vectors::next_u32(input)?;
+    let end = vectors::next_u32(input)?;
+    let name = vectors::next_u32(input)?;
+    let length = vectors::next_u32(input)?;
+    let function = vectors::next_u32(input)?;
+    let around = vectors::next_u32(input)?;
+    Ok(Told {
         number,
         at,
         end,
@@ -66,26 +68,26 @@ fn told_next() -> Told {
         length,
         function,
         around,
-    }
+    })
 }
 
 // A tree or an image, unpacked into the front of a space, and how long it is; no number where it is not whole.
-fn file_next(packed: &mut [u8], space: &mut [u8]) -> Found {
-    let length = vectors::next_u32();
+fn file_next<R: Read>(input: &mut R, packed: &mut [u8], space: &mut [u8]) -> io::Result<Found> {
+    let length = vectors::next_u32(input)?;
     let n = vectors::least(length, space);
-    let size = vectors::bytes_next(packed);
+    let size = vectors::bytes_next(input, packed)?;
     let m = vectors::least(size, packed);
     if !vectors::unpack(&packed[..m], &mut space[..n]) {
-        return Found::End;
+        return Ok(Found::End);
     }
     if space.len() < length as usize {
-        return Found::End;
+        return Ok(Found::End);
     }
-    Found::Is(length)
+    Ok(Found::Is(length))
 }
 
 fn least_words(n: u32, words: &[u32]) -> usize
-    ensures { IsPrefixLen result words.now }
+    ensures { result ≡ min n (length words.now) }
 {
     let n = n as usize;
     if n < words.len() {
@@ -132,12 +134,10 @@ fn same_output(out: &[u8], image: &[u8]) -> bool {
     if out.len() < image.len() {
         return false;
     }
-    let mut i: usize = 0;
-    while i < out.len() {
-        if out[i] != byte_or_zero(image, i) {
+    for (i, b) in out.iter().enumerate() {
+        if *b != byte_or_zero(image, i) {
             return false;
         }
-        i += 1;
     }
     true
 }
@@ -241,7 +241,8 @@ fn compared(
 }
 
 // One vector: 0 where there is none, 1 where it agrees, 2 where it differs.
-fn replay(
+fn replay<R: Read>(
+    input: &mut R,
     packed: &mut [u8],
     tree: &mut [u8],
     image: &mut [u8],
@@ -249,17 +250,19 @@ fn replay(
     table: &mut [u64],
     code: &mut [u8],
     spans: &mut [u32],
-) -> u8 {
-    let Next::Is(lent) = lent_next() else {
-        return 0;
+) -> io::Result<u8> {
+    let Next::Is(lent) = lent_next(input)? else {
+        return Ok(0);
     };
-    let read = file_next(packed, tree);
-    let told = told_next();
-    let made = file_next(packed, image);
-    compared(lent, told, read, made, tree, image, out, table, code, spans)
+    let read = file_next(input, packed, tree)?;
+    let told = told_next(input)?;
+    let made = file_next(input, packed, image)?;
+    Ok(compared(lent, told, read, made, tree, image, out, table, code, spans))
 }
 
-fn replay_all(
+fn replay_all<R: Read>(
+    rt: &impl Print,
+    input: &mut R,
     packed: &mut [u8; 524288],
     tree: &mut [u8; 1048577],
     image: &mut [u8; 524288],
@@ -267,23 +270,21 @@ fn replay_all(
     table: &mut [u64; Table::WORDS],
     code: &mut [u8; 262144],
     spans: &mut [u32; 786432],
-) {
+) -> io::Result<()> {
     let mut same: u64 = 0;
     let mut other: u64 = 0;
-    let mut k: usize = 0;
-    while k < 100000 {
-        let r = replay(packed, tree, image, out, table, code, spans);
+    for k in 0..100000u64 {
+        let r = replay(input, packed, tree, image, out, table, code, spans)?;
         if r == 0 {
             break;
         }
         same += vectors::one_if(r, 1);
         other += vectors::one_if(r, 2);
-        k += 1;
     }
-    vectors::report(same, other);
+    vectors::report(rt, same, other)
 }
 
-fn main() {
+fn main(rt: HostRuntime) -> io::Result<()> {
     let mut packed = [0u8; 524288];
     let mut tree = [0u8; 1048577];
     let mut image = [0u8; 524288];
@@ -292,6 +293,8 @@ fn main() {
     let mut code = [0u8; 262144];
     let mut spans = [0u32; 786432];
     replay_all(
+        &rt,
+        &mut rt.reader(),
         &mut packed,
         &mut tree,
         &mut image,
@@ -299,5 +302,5 @@ fn main() {
         &mut table,
         &mut code,
         &mut spans,
-    );
+    )
 }

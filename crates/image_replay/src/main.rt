@@ -1,8 +1,9 @@
 // Replays the vectors for the image checker, and every truncation and every change of one byte of a few small images.
 #![tactic(auto)]
 
+use std::io;
 use vectors::Kind;
 
-fn main() {
-    vectors::run(Kind::Images);
+fn main(rt: HostRuntime) -> io::Result<()> {
+    vectors::run(&rt, Kind::Images)
 }

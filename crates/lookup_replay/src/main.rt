@@ -3,6 +3,8 @@
 #![tactic(auto)]
 
 use rules::Answer;
+use std::io;
+use std::io::Read;
 use vectors::Found;
 
 fn wide(n: u32) -> usize {
@@ -29,47 +31,39 @@ fn fold_answer(sum: u64, bytes: &[u8], directory: usize, k: usize) -> u64 {
 
 fn digest(bytes: &[u8], directory: usize, count: usize) -> u64 {
     let mut sum: u64 = 0;
-    let mut k: usize = 0;
-    while k < count {
+    for k in 0..count {
         sum = fold_answer(sum, bytes, directory, k);
-        k += 1;
     }
     sum
 }
 
-fn line(size: u32, count: u32, sum: u64) {
-    io::print_decimal(1, size as u64);
-    io::write_all(1, b" bytes, ");
-    io::print_decimal(1, count as u64);
-    io::write_all(1, b" lookups, digest ");
-    io::print_decimal(1, sum);
-    io::write_all(1, b"\n");
+fn line(rt: &impl Print, size: u32, count: u32, sum: u64) -> io::Result<()> {
+    println!(rt; "{size} bytes, {count} lookups, digest {sum}")
 }
 
 // One image and its line; false where there is none.
-fn replay(space: &mut [u8]) -> bool {
-    let Found::Is(count) = vectors::next() else {
-        return false;
+fn replay<R: Read>(rt: &impl Print, input: &mut R, space: &mut [u8]) -> io::Result<bool> {
+    let Found::Is(count) = vectors::next(input)? else {
+        return Ok(false);
     };
-    let size = vectors::bytes_next(space);
+    let size = vectors::bytes_next(input, space)?;
     let n = vectors::least(size, space);
     let bytes = &space[..n];
     let directory = directory_at(bytes);
-    line(size, count, digest(bytes, directory, wide(count)));
-    true
+    line(rt, size, count, digest(bytes, directory, wide(count)))?;
+    Ok(true)
 }
 
-fn replay_all(space: &mut [u8; 1024]) {
-    let mut k: usize = 0;
-    while k < 1000 {
-        if !replay(space) {
-            return;
+fn replay_all<R: Read>(rt: &impl Print, input: &mut R, space: &mut [u8; 1024]) -> io::Result<()> {
+    for _ in 0..1000 {
+        if !replay(rt, input, space)? {
+            break;
         }
-        k += 1;
     }
+    Ok(())
 }
 
-fn main() {
+fn main(rt: HostRuntime) -> io::Result<()> {
     let mut space = [0u8; 1024];
-    replay_all(&mut space);
+    replay_all(&rt, &mut rt.reader(), &mut space)
 }

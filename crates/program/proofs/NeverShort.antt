@@ -11,14 +11,10 @@ use Rattle.std.specs.Prelude.{if◌then◌else◌}
 use Rattle.rules.specs.declared.Answer.{Answer}
 use Rattle.rules.specs.declared.Refusal.TheVariants.{TreeTooLong}
 use Rattle.rules.specs.Answer.{refusal}
-use Rattle.rules.specs.Entry.{Lent, compile}
+use Rattle.rules.specs.Entry.{compile}
 use Rattle.rules_laws.proofs.Facts.{Bytes}
 use Rattle.rules_laws.proofs.Bounds.{room_that_suffices}
-use Rattle.program.specs.Program.{most, program_answer}
-
--- the sizes in src/main.rt, and nothing asked for
-abbrev pub areas : Lent
-areas = record { options = 0; table_words = 17_412; code_bytes = 65_536; span_words = 196_608; output_bytes = 1_114_112 }
+use Rattle.program.specs.Program.{most, areas, program_answer}
 
 abbrev pub NeverShort : Answer → Type 0
 NeverShort a = (a.number ≢ 1) × (a.number ≢ 30) × (a.number ≢ 31)

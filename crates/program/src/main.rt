@@ -1,15 +1,19 @@
 // The program: a tree file from standard input, its image to standard output; a refusal is its number and a line end. A tree of more than 65,536
-// bytes is answered 2. The areas are room enough for every tree that is not longer (crates/rules, Bounds `room_that_suffices`): 1, 30 and 31 never
-// come. No contract can say what is read or written; `answer` says the rest.
+// bytes is answered 2. The areas are room enough for every tree that is not longer (crates/rules_laws, Bounds `room_that_suffices`): 1, 30 and 31
+// never come. No contract can say what standard input has and standard output gets: `lend` says, of every reader and writer that tell, what is
+// written of what is read.
 #![tactic(auto)]
 
-ghost use Rattle.std.specs.Prelude.{length};
-ghost use Rattle.io.specs.Counts.{IsPrefixLen};
-ghost use Rattle.program.specs.Program.{Answered};
+ghost use Rattle.std.specs.Prelude.{◌≡◌, ◌<◌, length, min, OnOk};
+ghost use Rattle.std.specs.Io.KnownBytes.{Appends};
+ghost use Rattle.program.specs.Program.{most, areas, Answered, shown, Wrote};
 
 use answers::refused;
+use reading::read_full;
 use rules::{Answer, Refusal};
 use state::Table;
+use std::io;
+use std::io::{Read, Write};
 
 // No longer tree is compiled.
 const MOST: usize = 65536;
@@ -30,7 +34,7 @@ fn answer(
 }
 
 fn least(n: u64, out: &[u8]) -> usize
-    ensures { IsPrefixLen result out.now }
+    ensures { result ≡ min n (length out.now) }
 {
     let n = n as usize;
     if n < out.len() {
@@ -39,38 +43,63 @@ fn least(n: u64, out: &[u8]) -> usize
     out.len()
 }
 
-fn show(a: Answer, out: &[u8]) {
+// A refusal's number and a line end, or the image, which is the front of the output.
+fn show<W: Write>(output: &mut W, a: Answer, out: &[u8]) -> io::Result<()>
+    ensures { OnOk result (Appends (W.contents output.old) (W.contents output.new) (shown a out.now)) }
+{
     if a.number != 0 {
-        io::print_decimal(1, a.number);
-        io::write_all(1, b"\n");
-        return;
+        let number = a.number;
+        return writeln!(output, "{number}");
     }
     let n = least(a.length, out);
-    io::write_all(1, &out[..n]);
+    output.write_all(&out[..n])
 }
 
-fn run(tree: &mut [u8], out: &mut [u8], table: &mut [u64], code: &mut [u8], spans: &mut [u32]) {
-    let n = io::read_full(0, tree);
+// Into more room than the longest tree takes, so that a longer one is seen to be.
+fn run<R: Read, W: Write>(
+    input: &mut R,
+    output: &mut W,
+    tree: &mut [u8],
+    out: &mut [u8],
+    table: &mut [u64],
+    code: &mut [u8],
+    spans: &mut [u32],
+) -> io::Result<()>
+    ensures { most < length tree.old → OnOk result (Wrote (R.remaining input.old) (record { options = 0; table_words = length table.old; code_bytes = length code.old; span_words = length spans.old; output_bytes = length out.old }) (W.contents output.old) (W.contents output.new)) }
+{
+    let n = read_full(input, tree)?;
     let a = answer(&tree[..n], out, table, code, spans);
-    show(a, out);
+    show(output, a, out)
 }
 
 // One byte more than the longest tree; for each byte of that tree 17 of output, one of code and three words of spans.
-fn lend(
+fn lend<R: Read, W: Write>(
+    input: &mut R,
+    output: &mut W,
     tree: &mut [u8; 65537],
     out: &mut [u8; 1114112],
     table: &mut [u64; Table::WORDS],
     code: &mut [u8; 65536],
     spans: &mut [u32; 196608],
-) {
-    run(tree, out, table, code, spans);
+) -> io::Result<()>
+    ensures { OnOk result (Wrote (R.remaining input.old) areas (W.contents output.old) (W.contents output.new)) }
+{
+    run(input, output, tree, out, table, code, spans)
 }
 
-fn main() {
+fn main(rt: HostRuntime) -> io::Result<()> {
     let mut tree = [0u8; 65537];
     let mut out = [0u8; 1114112];
     let mut table = [0u64; Table::WORDS];
     let mut code = [0u8; 65536];
     let mut spans = [0u32; 196608];
-    lend(&mut tree, &mut out, &mut table, &mut code, &mut spans);
+    lend(
+        &mut rt.reader(),
+        &mut io::writer(&rt),
+        &mut tree,
+        &mut out,
+        &mut table,
+        &mut code,
+        &mut spans,
+    )
 }

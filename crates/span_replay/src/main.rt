@@ -2,7 +2,10 @@
 // in turn). Written is for each list a digest of the answers to that many offsets from 0 on; tests/rust has made what is expected.
 #![tactic(auto)]
 
-ghost use Rattle.io.specs.Counts.{IsPrefixLen};
+ghost use Rattle.std.specs.Prelude.{◌≡◌, length, min};
+
+use std::io;
+use std::io::Read;
 
 fn wide(n: u32) -> usize {
     n as usize
@@ -10,7 +13,7 @@ fn wide(n: u32) -> usize {
 
 // How many words of the next list there is room for.
 fn least(n: u32, words: &[u32]) -> usize
-    ensures { IsPrefixLen result words.now }
+    ensures { result ≡ min n (length words.now) }
 {
     let n = n as usize;
     if n < words.len() {
@@ -19,12 +22,11 @@ fn least(n: u32, words: &[u32]) -> usize
     words.len()
 }
 
-fn fill(words: &mut [u32]) {
-    let mut i: usize = 0;
-    while i < words.len() {
-        words[i] = vectors::next_u32();
-        i += 1;
+fn fill<R: Read>(input: &mut R, words: &mut [u32]) -> io::Result<()> {
+    for word in words.iter_mut() {
+        *word = vectors::next_u32(input)?;
     }
+    Ok(())
 }
 
 fn fold_answer(sum: u64, words: &[u32], offset: usize) -> u64 {
@@ -34,48 +36,40 @@ fn fold_answer(sum: u64, words: &[u32], offset: usize) -> u64 {
 
 fn digest(words: &[u32], offsets: usize) -> u64 {
     let mut sum: u64 = 0;
-    let mut offset: usize = 0;
-    while offset < offsets {
+    for offset in 0..offsets {
         sum = fold_answer(sum, words, offset);
-        offset += 1;
     }
     sum
 }
 
-fn line(size: u32, offsets: u32, sum: u64) {
-    io::print_decimal(1, size as u64);
-    io::write_all(1, b" words, ");
-    io::print_decimal(1, offsets as u64);
-    io::write_all(1, b" offsets, digest ");
-    io::print_decimal(1, sum);
-    io::write_all(1, b"\n");
+fn line(rt: &impl Print, size: u32, offsets: u32, sum: u64) -> io::Result<()> {
+    println!(rt; "{size} words, {offsets} offsets, digest {sum}")
 }
 
 // One list and its line; false where there is none.
-fn replay(words: &mut [u32]) -> bool {
-    let size = vectors::next_u32();
-    let offsets = vectors::next_u32();
+fn replay<R: Read>(rt: &impl Print, input: &mut R, words: &mut [u32]) -> io::Result<bool> {
+    let size = vectors::next_u32(input)?;
+    let offsets = vectors::next_u32(input)?;
     if offsets == 0 {
-        return false;
+        return Ok(false);
     }
     let n = least(size, words);
     let part = &mut words[..n];
-    fill(part);
-    line(size, offsets, digest(part, wide(offsets)));
-    true
+    fill(input, part)?;
+    line(rt, size, offsets, digest(part, wide(offsets)))?;
+    Ok(true)
 }
 
-fn replay_all(words: &mut [u32; 3072]) {
-    let mut k: usize = 0;
-    while k < 1000 {
-        if !replay(words) {
-            return;
+fn replay_all<R: Read>(rt: &impl Print, input: &mut R, words: &mut [u32; 3072]) -> io::Result<()> {
+    for _ in 0..1000 {
+        if !replay(rt, input, words)? {
+            break;
         }
-        k += 1;
     }
+    Ok(())
 }
 
-fn main() {
+fn main(rt: HostRuntime) -> io::Result<()> {
     let mut words = [0u32; 3072];
-    replay_all(&mut words);
+    replay_all(&rt, &mut rt.reader(), &mut words)
 }

@@ -2,6 +2,8 @@
 // answers to that many name numbers from 0 on; tests/rust has made what is expected.
 #![tactic(auto)]
 
+use std::io;
+use std::io::Read;
 use vectors::Found;
 
 // No image is asked for more names.
@@ -15,49 +17,41 @@ fn fold_answer(sum: u64, bytes: &[u8], name: u16) -> u64 {
 
 fn digest(bytes: &[u8], count: u16) -> u64 {
     let mut sum: u64 = 0;
-    let mut name: u16 = 0;
-    while name < count {
+    for name in 0..count {
         sum = fold_answer(sum, bytes, name);
-        name += 1;
     }
     sum
 }
 
-fn line(size: u32, count: u32, sum: u64) {
-    io::print_decimal(1, size as u64);
-    io::write_all(1, b" bytes, ");
-    io::print_decimal(1, count as u64);
-    io::write_all(1, b" names, digest ");
-    io::print_decimal(1, sum);
-    io::write_all(1, b"\n");
+fn line(rt: &impl Print, size: u32, count: u32, sum: u64) -> io::Result<()> {
+    println!(rt; "{size} bytes, {count} names, digest {sum}")
 }
 
 // One image and its line; false where there is none.
-fn replay(space: &mut [u8]) -> bool {
-    let Found::Is(count) = vectors::next() else {
-        return false;
+fn replay<R: Read>(rt: &impl Print, input: &mut R, space: &mut [u8]) -> io::Result<bool> {
+    let Found::Is(count) = vectors::next(input)? else {
+        return Ok(false);
     };
     if count > MOST {
-        return false;
+        return Ok(false);
     }
-    let size = vectors::bytes_next(space);
+    let size = vectors::bytes_next(input, space)?;
     let n = vectors::least(size, space);
     let bytes = &space[..n];
-    line(size, count, digest(bytes, count as u16));
-    true
+    line(rt, size, count, digest(bytes, count as u16))?;
+    Ok(true)
 }
 
-fn replay_all(space: &mut [u8; 1024]) {
-    let mut k: usize = 0;
-    while k < 1000 {
-        if !replay(space) {
-            return;
+fn replay_all<R: Read>(rt: &impl Print, input: &mut R, space: &mut [u8; 1024]) -> io::Result<()> {
+    for _ in 0..1000 {
+        if !replay(rt, input, space)? {
+            break;
         }
-        k += 1;
     }
+    Ok(())
 }
 
-fn main() {
+fn main(rt: HostRuntime) -> io::Result<()> {
     let mut space = [0u8; 1024];
-    replay_all(&mut space);
+    replay_all(&rt, &mut rt.reader(), &mut space)
 }

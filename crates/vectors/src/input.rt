@@ -1,31 +1,35 @@
-// Numbers and bytes from standard input.
-ghost use Rattle.io.specs.Counts.{IsPrefixLen};
+// Numbers and bytes from a reader.
+ghost use Rattle.std.specs.Prelude.{◌≡◌, length, min};
+
+use reading::read_full;
+use std::io;
+use std::io::Read;
 
 // A number, or that there is none.
-#[derive(Drop)]
+#[derive(Clone, Copy)]
 pub enum Found {
     Is(u32),
     End,
 }
 
-pub fn next() -> Found {
+pub fn next<R: Read>(input: &mut R) -> io::Result<Found> {
     let mut b = [0u8; 4];
-    if io::read_full(0, &mut b) < 4 {
-        return Found::End;
+    if read_full(input, &mut b)? < 4 {
+        return Ok(Found::End);
     }
-    Found::Is(fields::u32_at(&b, 0))
+    Ok(Found::Is(fields::u32_at(&b, 0)))
 }
 
 // 0 at the end of the input.
-pub fn next_u32() -> u32 {
-    let Found::Is(n) = next() else {
-        return 0;
-    };
-    n
+pub fn next_u32<R: Read>(input: &mut R) -> io::Result<u32> {
+    match next(input)? {
+        Found::Is(n) => Ok(n),
+        Found::End => Ok(0),
+    }
 }
 
 pub fn least(n: u32, b: &[u8]) -> usize
-    ensures { IsPrefixLen result b.now }
+    ensures { result ≡ min n (length b.now) }
 {
     let n = n as usize;
     if n < b.len() {
@@ -35,9 +39,9 @@ pub fn least(n: u32, b: &[u8]) -> usize
 }
 
 // A length and that many bytes, into the front of a space; how many they are said to be.
-pub fn bytes_next(space: &mut [u8]) -> u32 {
-    let size = next_u32();
+pub fn bytes_next<R: Read>(input: &mut R, space: &mut [u8]) -> io::Result<u32> {
+    let size = next_u32(input)?;
     let n = least(size, space);
-    io::read_full(0, &mut space[..n]);
-    size
+    read_full(input, &mut space[..n])?;
+    Ok(size)
 }

@@ -1,8 +1,9 @@
 // Every truncation and every change of one byte of a small file, and a digest of the answers.
-ghost use Rattle.std.specs.Prelude.{◌≤◌};
-ghost use Rattle.io.specs.Counts.{IsPrefixLen};
+ghost use Rattle.std.specs.Prelude.{◌≤◌, length};
 
 use crate::Kind;
+use std::io;
+use std::io::Read;
 
 // What a digest has: numbers folded one after the other.
 pub fn fold(sum: u64, value: u64) -> u64 {
@@ -39,7 +40,7 @@ fn restore(bytes: &mut [u8], at: usize, more: usize) {
 // From variant `k` - 1 to variant `k`, and how long it is. First come the truncations, the shortest first; then at each place, the first one
 // first, the byte plus 1 to 255.
 fn step(bytes: &mut [u8], k: usize) -> usize
-    ensures { IsPrefixLen result bytes.new }
+    ensures { result ≤ length bytes.new }
 {
     let size = bytes.len();
     if k < size {
@@ -64,41 +65,39 @@ fn variants(size: usize) -> usize
 fn digest(kind: Kind, bytes: &mut [u8]) -> u64 {
     let most = variants(bytes.len());
     let mut sum: u64 = 0;
-    let mut k: usize = 0;
-    while k < most {
+    for k in 0..most {
         let size = step(bytes, k);
         sum = fold_answer(kind, sum, &bytes[..size]);
-        k += 1;
     }
     sum
 }
 
-fn line(size: u32, sum: u64) {
-    io::print_decimal(1, size as u64);
-    io::write_all(1, b" bytes, ");
-    io::print_decimal(1, (size as u64) * 256);
-    io::write_all(1, b" variants, digest ");
-    io::print_decimal(1, sum);
-    io::write_all(1, b"\n");
+fn line(rt: &impl Print, size: u32, sum: u64) -> io::Result<()> {
+    let variants = (size as u64) * 256;
+    println!(rt; "{size} bytes, {variants} variants, digest {sum}")
 }
 
 // One file and its line; false where there is none.
-fn vary(kind: Kind, space: &mut [u8]) -> bool {
-    let size = crate::input::bytes_next(space);
+fn vary<R: Read>(rt: &impl Print, input: &mut R, kind: Kind, space: &mut [u8]) -> io::Result<bool> {
+    let size = crate::input::bytes_next(input, space)?;
     if size == 0 {
-        return false;
+        return Ok(false);
     }
     let n = crate::input::least(size, space);
-    line(size, digest(kind, &mut space[..n]));
-    true
+    line(rt, size, digest(kind, &mut space[..n]))?;
+    Ok(true)
 }
 
-pub fn vary_all(kind: Kind, space: &mut [u8; 1024]) {
-    let mut k: usize = 0;
-    while k < 100 {
-        if !vary(kind, space) {
-            return;
+pub fn vary_all<R: Read>(
+    rt: &impl Print,
+    input: &mut R,
+    kind: Kind,
+    space: &mut [u8; 1024],
+) -> io::Result<()> {
+    for _ in 0..100 {
+        if !vary(rt, input, kind, space)? {
+            break;
         }
-        k += 1;
     }
+    Ok(())
 }
