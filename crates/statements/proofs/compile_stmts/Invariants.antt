@@ -1,8 +1,4 @@
 -- A row of statements. The loop's invariant: those that are left come to the same, from the areas as they are, as all of them from where the loop began.
--- The places first, each over the one before: of the call `-asked` is the place where it is made, `-left` the call from where its areas have come back,
--- `-went` and `-halted` the call once its answer is known.
-use mathlib.Core.Path.{◌≡◌}
-use lib.ListN.{length}
 use Rattle.steps.specs.View.{mem}
 use Rattle.statements.proofs.Walks.{RowOf}
 use Rattle.statements.proofs.compile_stmts.Given as goal
@@ -10,7 +6,6 @@ use Rattle.statements.proofs.compile_stmts.Given as goal
 abbrev pub invariant-loop-more : goal.invariant-loop-more
 invariant-loop-more l =
     RowOf l.class l.limit l.level l.tree l.count l.at (mem l.initial.t l.initial.code l.initial.spans) l.initial.out (mem l.t l.code l.spans) l.out l.next l.more
-    × (length l.t ≡ length l.initial.t) × (length l.code ≡ length l.initial.code) × (length l.spans ≡ length l.initial.spans) × (length l.out ≡ length l.initial.out)
 
 abbrev pub decreases-loop-more : goal.decreases-loop-more
 decreases-loop-more l = l.more
