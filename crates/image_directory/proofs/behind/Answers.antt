@@ -2,6 +2,7 @@
 -- nothing.
 use native.Mathlib.Omega.{arith}
 use mathlib.Core.Path.{sym, ◌∙◌}
+use borrow.Author.Rules.{rules}
 use borrow.Author.Tests.{leb-true, leb-false}
 use Rattle.image_directory.proofs.Directory.{nothing, no_room, no_mark, no_count, no_end, by_offsets}
 use Rattle.image_directory.proofs.behind.Goals as goal
@@ -43,13 +44,13 @@ overflow_sub-image c = omega (arith, leb-true _ _ (sym c.has.ensures ∙ c.if-no
 pub returns-then-image-first : goal.returns-then-image-first
 returns-then-image-first c =
     no_end c.args.image.now c.args.count c.args.at c.requires c.if-at-image.false (leb-true _ _ (sym c.has.ensures ∙ c.if-not-has.false))
-    (sym c.mark_at.ensures ∙ c.if-mark_at-ne-DIRECTORY.false) c.wide32-said.result (c.wide32-said.ensures.0 ∙ c.u32_at.ensures) c.if-said-count.false
+    (sym c.mark_at.ensures ∙ c.if-mark_at-ne-DIRECTORY.false) c.wide32-said.result (c.wide32-said.ensures.0 ∙ c.u32_at.ensures) (search rules)
     (λ q. c.if-image-first.true (omega arith))
 
 pub offsets-requires : goal.offsets-requires
-offsets-requires c = omega (arith, leb-true _ _ (sym c.has.ensures ∙ c.if-not-has.false), c.if-image-first.false, c.if-said-count.false)
+offsets-requires c = omega (arith, leb-true _ _ (sym c.has.ensures ∙ c.if-not-has.false), c.if-image-first.false)
 
 pub returns : goal.returns
 returns c =
     c.offsets.ensures ∙ by_offsets c.args.image.now c.args.count c.args.at c.requires c.if-at-image.false (leb-true _ _ (sym c.has.ensures ∙ c.if-not-has.false))
-    (sym c.mark_at.ensures ∙ c.if-mark_at-ne-DIRECTORY.false) c.wide32-said.result (c.wide32-said.ensures.0 ∙ c.u32_at.ensures) c.if-said-count.false
+    (sym c.mark_at.ensures ∙ c.if-mark_at-ne-DIRECTORY.false) c.wide32-said.result (c.wide32-said.ensures.0 ∙ c.u32_at.ensures) (search rules)

@@ -110,7 +110,7 @@ loop-i-preserved c = (
       (sym c.has.ensures ∙ not-false c.has.result (ap not c.if-not-has.false)))
       (sym c.mark_at.ensures ∙ c.if-mark_at-ne-RUN.false) c.u32_at-a.ensures
       c.u32_at-e.ensures (c.long8-c.ensures.0 ∙ c.u8_at.ensures)
-      (let z = c.if-c-eq0.false in omega (arith, z)) c.long8-c.ensures.1
+      (omega arith) c.long8-c.ensures.1
       (sym (not-false c.follows.result (ap not c.if-not-follows.false)) ∙ c.follows.ensures),
 )
 
