@@ -19,7 +19,8 @@ use Rattle.rules.specs.Compiler.{Upvalue, CompilerCtx, captured, with_upvalues, 
 use Rattle.state.specs.Layout.{levels, upvalue_of, upvalues_of, ctx_at, Wf, upvalues_place, upvalue_count_place, constants_place, depth_place, level_words}
 use Rattle.state.specs.Meaning.{Kept, First, Added}
 use Rattle.state.specs.declared.Up.TheVariants as up
-use Rattle.state.proofs.Laws.{length_row, position_at, position_none, push_vec, kept_set, kept_same, kept_off, kept_then, if_true, if_false, locals_same, chunk_same, ctx_paths, lt_or_le, few_set, wf_upvalues, wf_entry}
+use Rattle.state.proofs.Laws.{length_row, position_at, position_none, push_vec, kept_set, kept_same, kept_off, kept_then, if_true, if_false, locals_same, chunk_same, ctx_paths, lt_or_le}
+use Rattle.state.proofs.Laws.{few_set, wf_upvalues, wf_entry}
 
 abbrev alike : Bool → Bool → Bool
 alike x y = if x then y else if y then false else true

@@ -9,7 +9,8 @@ use mathlib.Core.Logic.{⊎_elim}
 use lib.ListN.{get_or}
 use Rattle.rules.specs.declared.Span.{Span}
 use Rattle.rules.specs.Compiler.{Local, Upvalue, CompilerCtx, with_locals, Found, no_local, find_local, capture, Resolved, add_upvalue, through, further_out, resolve_upvalue}
-use Rattle.state.specs.Layout.{levels, locals_of, start_of_code, start_of_runs, ctx_at, parents_of, Wf, upvalues_place, constants_place, depth_place, code_from_place, runs_from_place, level_words, local_count_place, level_used}
+use Rattle.state.specs.Layout.{levels, locals_of, start_of_code, start_of_runs, ctx_at, parents_of, Wf, upvalues_place, constants_place, depth_place, code_from_place, runs_from_place}
+use Rattle.state.specs.Layout.{level_words, local_count_place, level_used}
 use Rattle.state.specs.Meaning.{Kept, found, Looked, up_of, Added, Captured}
 use Rattle.state.specs.declared.Slot.{Slot}
 use Rattle.state.specs.declared.Slot.TheVariants as slot

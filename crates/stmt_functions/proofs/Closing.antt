@@ -32,7 +32,8 @@ module _ (limit : ℕ) (span : Span) (x : Compiler) where
   unfolding close_function
   close_first e = seq_err (implicit_return limit) x _ e
 
-  close_then : {y z : Compiler} {number : ℕ} {us : List Upvalue} → implicit_return limit x ≡ ok tt y → end_ctx y ≡ ok (number, us) z → close_function limit span x ≡ emit_closure limit number us span z
+  close_then : {y z : Compiler} {number : ℕ} {us : List Upvalue} → implicit_return limit x ≡ ok tt y → end_ctx y ≡ ok (number, us) z → close_function limit span x
+      ≡ emit_closure limit number us span z
   unfolding close_function end_function
   close_then {y} e f = seq_ok (implicit_return limit) x _ e ∙ bind_ok end_ctx y _ f
 

@@ -7,7 +7,8 @@ use lib.Dec.{leb}
 use Rattle.rules.specs.declared.Span.{Span}
 use Rattle.rules.specs.declared.Refusal.TheVariants.{TooManyParams}
 use Rattle.rules.specs.Tree.{Stmts, fun}
-use Rattle.rules.specs.Compiler.{FunctionType, Compiler, Outcome, ok, err, Compile, go_on, ◌>>=◌, ◌>>◌, need, the, new_ctx, slot_zero, begin_ctx, declare_local, define_local, declare_params, implicit_return, end_function, compile_function_with, compile_function, compile_stmts}
+use Rattle.rules.specs.Compiler.{FunctionType, Compiler, Outcome, ok, err, Compile, go_on, ◌>>=◌, ◌>>◌, need, the, new_ctx, slot_zero, begin_ctx, declare_local, define_local, declare_params}
+use Rattle.rules.specs.Compiler.{implicit_return, end_function, compile_function_with, compile_function, compile_stmts}
 use Rattle.steps.proofs.Monad.{regroup}
 use Rattle.stmt_output_laws.specs.Parts.{open_function, close_function}
 

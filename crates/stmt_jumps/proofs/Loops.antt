@@ -1,6 +1,6 @@
 -- The end of a loop: a law for each way out.
-use mathlib.Core.Path.{◌≡◌, refl, sym, subst}
-use mathlib.Core.Bool.{Bool, true, false, not}
+use mathlib.Core.Path.{◌≡◌, sym, subst}
+use mathlib.Core.Bool.{Bool, true, false}
 use mathlib.Core.Option.{some, none}
 use Prim.Native.Nat.{ℕ}
 use Rattle.std.specs.Prelude.{if◌then◌else◌}
@@ -14,14 +14,6 @@ use Rattle.steps.specs.declared.Step.TheVariants.{Next, Stop}
 use Rattle.steps.proofs.Monad.{nothing}
 use Rattle.stmt_jumps.specs.Jumps.{close_loop}
 use Rattle.steps.specs.declared.Why.{Why}
-
-pub there_is : (b : Bool) → not b ≡ false → b ≡ true
-there_is true e = refl
-there_is false e = sym e
-
-pub there_is_none : (b : Bool) → not b ≡ true → b ≡ false
-there_is_none true e = sym e
-there_is_none false e = refl
 
 module _ {class limit l n : ℕ} (start place : ℕ) (span : Span) {before : Mem} where
   -- by whether there is a condition

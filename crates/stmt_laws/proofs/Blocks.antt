@@ -52,7 +52,8 @@ module _ (tree : List ℕ) (l at left : ℕ) (mark : letters tree at ≡ marks.S
   pub block_row : There (stmt_at tree left l at) → There (stmts_at tree (word16 tree (at + 10)) (left - 1) l (at + 12))
   block_row h = let b = block_at tree (word16 tree 2) left (funs_left l) at mark h.is in record { thing = b.stmts; next = h.next; is = b.row_is }
 
-  module _ {class limit : ℕ} {span : Span} (sp : span ≡ span_of tree (at + 2)) {before open-mem mid : Mem} {out out' : List ℕ} {r : Step} (o : Gave class limit l deeper begin_scope tt before open-mem)
+  module _ {class limit : ℕ} {span : Span} (sp : span ≡ span_of tree (at + 2)) {before open-mem mid : Mem} {out out' : List ℕ} {r : Step} (o : Gave class limit l deeper begin_scope tt
+      before open-mem)
       (w : Walked class limit l (at + 12) (stmts_at tree (word16 tree (at + 10)) (left - 1) l (at + 12)) (compile_stmts limit) open-mem out mid out' r) where
     pub block_stop : {x : Why} → r ≡ Stop x → Walked class limit l at (stmt_at tree left l at) (compile_stmt limit) before out mid out' r
     block_stop q = record {

@@ -14,7 +14,8 @@ use Rattle.rules.specs.Reader.{got, Reader}
 use Rattle.rules.specs.TreeFile.{read_methods}
 use Rattle.rules.specs.Op as op
 use Rattle.rules.specs.Chunk.{ObjectFunction, CS}
-use Rattle.rules.specs.Compiler.{Compiler, ok, Compile, go_on, ◌>>◌, return, done, is_some, some_methods, push_class_ctx, pop_class_ctx, emit_op, emit_op_constant, get_variable, define_name, compile_superclass, end_superclass, compile_stmt, compile_methods}
+use Rattle.rules.specs.Compiler.{Compiler, ok, Compile, go_on, ◌>>◌, return, done, is_some, some_methods, push_class_ctx, pop_class_ctx, emit_op, emit_op_constant, get_variable, define_name}
+use Rattle.rules.specs.Compiler.{compile_superclass, end_superclass, compile_stmt, compile_methods}
 use Rattle.steps.specs.View.{Mem, mem, Rest, view, Turn, Gave}
 use Rattle.steps.proofs.Steps.{seq_ok}
 use Rattle.tree_laws.proofs.Statements.{no_methods, more_methods}

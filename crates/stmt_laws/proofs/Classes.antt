@@ -75,7 +75,8 @@ module _ {class limit l count left from : ℕ} {tree : List ℕ} {before : Mem} 
   like_refused r h f = let g = refused_seq f (compile_methods limit (head_of r h).others) in record { refuses = λ rest q. cut_here r h _ ∙ g.refuses rest q }
 
   module _ {now' : Mem} {out'' : List ℕ} {a : Step} (b : Walked class limit l next (method_at tree left l next) (compile_method limit) now out' now' out'' a) where
-    pub row_stop : 0 < more → {x : Why} → a ≡ Stop x → (methods : Methods) (n : ℕ) → methods_at tree count left l from ≡ got methods n → Refused class l (compile_methods limit methods) before (told (t_of now') x)
+    pub row_stop : 0 < more → {x : Why} → a ≡ Stop x → (methods : Methods) (n : ℕ) → methods_at tree count left l from ≡ got methods n
+        → Refused class l (compile_methods limit methods) before (told (t_of now') x)
     row_stop h q methods n r = let i = head_of r h in onward_refused (w.to methods n r).onward (like_refused r h (refused (b.did i.thing i.mid i.head) q))
 
     module _ {v : ℕ} (h : 0 < more) (q : a ≡ Next v) where
@@ -104,7 +105,8 @@ module _ {class limit l count left from : ℕ} {tree : List ℕ} {before : Mem} 
             to = λ methods n r. step_on r;
           }
 
-  pub row_done : more ≤ 0 → (methods : Methods) (n : ℕ) → methods_at tree count left l from ≡ got methods n → Grew class limit l from n (compile_methods limit methods) before out now out' × (next ≡ n)
+  pub row_done : more ≤ 0 → (methods : Methods) (n : ℕ) → methods_at tree count left l from ≡ got methods n → Grew class limit l from n (compile_methods limit methods) before out now out'
+      × (next ≡ n)
   row_done h methods n r =
       let o = w.to methods n r in
       let p : more ≡ 0 = omega arith in

@@ -78,7 +78,8 @@ code_up : (t code spans : List ℕ) (now : Mem) (l : ℕ) → end_of_code t ≤ 
 unfolding code_len
 code_up t code spans (mem t' code' spans') l h q = omega arith
 
-deep_same : (t code spans : List ℕ) (now : Mem) (l : ℕ) → get_or (t_of now) (l * level_words + depth_place) 0 ≡ get_or t (l * level_words + depth_place) 0 → depth_at now l ≡ depth_at (mem t code spans) l
+deep_same : (t code spans : List ℕ) (now : Mem) (l : ℕ) → get_or (t_of now) (l * level_words + depth_place) 0 ≡ get_or t (l * level_words + depth_place) 0 → depth_at now l
+    ≡ depth_at (mem t code spans) l
 unfolding depth_at
 deep_same t code spans (mem t' code' spans') l q = q
 

@@ -22,7 +22,8 @@ use Rattle.stmt_jumps.specs.Jumps.{open_jump}
 use Rattle.steps.proofs.Monad.{on_to}
 use Rattle.stmt_output_laws.specs.Output.{funs_left, stmt_at, Worked, Walked, Ready}
 use Rattle.stmt_jumps.specs.Jumps.{close_loop}
-use Rattle.stmt_output_laws.proofs.Growing.{Run, free_steady, of_gave, of_grew, to_grew, told_run, run_seq, run_bind, run_refused, run_refused_seq, grown, reached, refused, stopped, conclude, ready_after}
+use Rattle.stmt_output_laws.proofs.Growing.{Run, free_steady, of_gave, of_grew, to_grew, told_run, run_seq, run_bind, run_refused, run_refused_seq, grown, reached, refused, stopped}
+use Rattle.stmt_output_laws.proofs.Growing.{conclude, ready_after}
 use Rattle.stmt_laws.proofs.Cuts.{while_cut}
 use Rattle.stmt_laws.proofs.Blocks.{by_parts}
 use Rattle.stmt_laws.proofs.Calls.{ten_on}

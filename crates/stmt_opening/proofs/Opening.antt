@@ -10,9 +10,11 @@ use borrow.Author.Tests.{le-leb, lt-leb}
 use Rattle.rules.specs.declared.Span.{Span}
 use Rattle.rules.specs.declared.Refusal.TheVariants.{TreeForm, TooManyParams}
 use Rattle.rules.specs.Reader.{got}
-use Rattle.rules.specs.Compiler.{FunctionType, Compiler, CompilerCtx, new_ctx, ok, err, stopped, Compile, ◌>>=◌, ◌>>◌, go_on, need, the, slot_zero, begin_ctx, declare_local, define_local, declare_params}
+use Rattle.rules.specs.Compiler.{FunctionType, Compiler, CompilerCtx, new_ctx, ok, err, stopped, Compile, ◌>>=◌, ◌>>◌, go_on, need, the, slot_zero, begin_ctx, declare_local, define_local}
+use Rattle.rules.specs.Compiler.{declare_params}
 use Rattle.fields.specs.Words.{word16}
-use Rattle.state.specs.Layout.{levels, code_end_at, runs_end_at, start_of_code, start_of_runs, end_of_code, end_of_runs, chunk_at, ctx_at, type_of, Wf, upvalues_place, depth_place, code_from_place, runs_from_place, level_words}
+use Rattle.state.specs.Layout.{levels, code_end_at, runs_end_at, start_of_code, start_of_runs, end_of_code, end_of_runs, chunk_at, ctx_at, type_of, Wf, upvalues_place, depth_place}
+use Rattle.state.specs.Layout.{code_from_place, runs_from_place, level_words}
 use Rattle.state.specs.Meaning.{Kept, Began}
 use Rattle.state.proofs.Laws.{length_row}
 use Rattle.tree_laws.proofs.Statements.{names_length}
@@ -107,7 +109,8 @@ module _ (l kind name : ℕ) (params : List ℕ) (span : Span) (t t₁ : List �
     last_as n t₃ (Next v) d = (inside d.0, d.1)
     last_as n t₃ (Stop x) d = λ code spans rest. then_is code spans rest ∙ d code spans rest
 
-  pub opened_last : {n k v : ℕ} {t₂ t₃ : List ℕ} {r r' : Step} → Named (suc l) k first t₁ t₂ r → r ≡ Next v → Named (suc l) n (declare_params params span) t₂ t₃ r' → FunctionOpenedAs l n whole t t₃ r'
+  pub opened_last : {n k v : ℕ} {t₂ t₃ : List ℕ} {r r' : Step} → Named (suc l) k first t₁ t₂ r → r ≡ Next v → Named (suc l) n (declare_params params span) t₂ t₃ r'
+      → FunctionOpenedAs l n whole t t₃ r'
   opened_last {n} {t₃ = t₃} {r' = r'} d q e = last_as (named_on d q) n t₃ r' e.does
 
 -- ## From the record's fields

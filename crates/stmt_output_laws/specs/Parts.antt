@@ -7,7 +7,9 @@ use Rattle.rules.specs.declared.Refusal.TheVariants.{TooManyParams}
 use Rattle.rules.specs.Tree.{Superclass, Fun}
 use Rattle.rules.specs.Op as op
 use Rattle.rules.specs.Chunk.{CS}
-use Rattle.rules.specs.Compiler.{Compile, done, need, the, is_some, FunctionType, new_ctx, slot_zero, begin_ctx, declare_local, define_local, declare_params, push_class_ctx, emit_op, emit_op_constant, get_variable, define_name, compile_superclass, end_superclass, implicit_return, end_function, fun_name, method_type, compile_function, ◌>>=◌, ◌>>◌}
+use Rattle.rules.specs.Compiler.{Compile, done, need, the, is_some, FunctionType, new_ctx, slot_zero, begin_ctx, declare_local, define_local, declare_params, push_class_ctx, emit_op}
+use Rattle.rules.specs.Compiler.{emit_op_constant, get_variable, define_name, compile_superclass, end_superclass, implicit_return, end_function, fun_name, method_type, compile_function}
+use Rattle.rules.specs.Compiler.{◌>>=◌, ◌>>◌}
 
 module _ (limit : ℕ) where
   -- a class up to its methods, and after them; `pop_class_ctx` comes last

@@ -37,7 +37,8 @@ module _ {limit l : ℕ} {t t₁ : List ℕ} (code spans : List ℕ) (fit : Fit 
   pub declared_fit : {t₂ : List ℕ} {n v : ℕ} {r : Step} → Tried l n steady (declare_local super_name NO_SPAN) t₁ t₂ r → r ≡ Next v → Fit (mem t₂ code spans) l limit
   declared_fit d q = (went (d.gives {class = 2} code spans begun_fit) q).ahead.fit
 
-  pub defined_fit : {t₂ t₃ : List ℕ} {n v : ℕ} {r : Step} → Tried l n steady (declare_local super_name NO_SPAN) t₁ t₂ r → r ≡ Next v → Changed l steady define_local t₂ t₃ → Fit (mem t₃ code spans) l limit
+  pub defined_fit : {t₂ t₃ : List ℕ} {n v : ℕ} {r : Step} → Tried l n steady (declare_local super_name NO_SPAN) t₁ t₂ r → r ≡ Next v → Changed l steady define_local t₂ t₃
+      → Fit (mem t₃ code spans) l limit
   defined_fit d q g = (g.gives {class = 2} code spans (declared_fit d q)).ahead.fit
 
 module _ {limit l : ℕ} (tree : List ℕ) (at name : ℕ) (span : Span) where

@@ -7,7 +7,8 @@ use Rattle.state.specs.Layout.{stack, local_of}
 use Rattle.state_names.proofs.clashing.Given as goal
 
 abbrev pub invariant-loop-i : goal.invariant-loop-i
-invariant-loop-i l = (l.i ≤ l.n) × (declared_here l.depth l.name (stack (λ j. local_of (get_or l.t (l.base + j) 0)) l.i) ≡ declared_here l.depth l.name (stack (λ j. local_of (get_or l.t (l.base + j) 0)) l.n))
+invariant-loop-i l = (l.i ≤ l.n) × (declared_here l.depth l.name (stack (λ j. local_of (get_or l.t (l.base + j) 0)) l.i)
+    ≡ declared_here l.depth l.name (stack (λ j. local_of (get_or l.t (l.base + j) 0)) l.n))
 
 abbrev pub decreases-loop-i : goal.decreases-loop-i
 decreases-loop-i l = l.i

@@ -406,14 +406,11 @@ compile_stmt-code_length-start-requires-then-mark-eq-FOR t c =
     let p = c.requires in
     let e = c.u8_at-parts.ensures in
     let o = c.begin_scope-then-mark-eq-FOR.ensures.gives _ _ p.ready.fit in
-    let init : fors.Init c.args.class c.args.limit c.args.level c.args.tree.now p.left c.args.at (mem c.begin_scope-then-mark-eq-FOR.new.t c.args.code.now c.args.spans.now) c.args.out.now
-    (mem c.if-parts-eq1.t c.if-parts-eq1.code c.if-parts-eq1.spans) c.if-parts-eq1.out c.if-parts-eq1.next = elim c.if-parts-eq1.branch [
+    let f = fors.fit p mark e o c.span_at-span.ensures (elim c.if-parts-eq1.branch [
       | compile_stmt-then-parts-eq1+in-Next-a-3 w ↦ fors.came p w.t-is w.code-is w.spans-is w.out-is w.next-is
           (fors.init_one p mark e o w.if-parts-eq1.true w.compile_stmt-a-then-parts-eq1.ensures w.in-Next-a-3.is)
       | compile_stmt-else-parts-eq1 w ↦ fors.came p w.t-is w.code-is w.spans-is w.out-is w.next-is (fors.init_none p mark e o w.if-parts-eq1.false _)
-    ] in
-    let f = fors.fit p mark e o c.span_at-span.ensures
-    init in
+    ]) in
     (f.low, f.wf.size, f.coded.top)
 
 pub compile_stmt-for_cond-b-requires : goal.compile_stmt-for_cond-b-requires
@@ -428,10 +425,8 @@ compile_stmt-for_cond-b-requires t c =
           (fors.init_one p mark e o w.if-parts-eq1.true w.compile_stmt-a-then-parts-eq1.ensures w.in-Next-a-3.is)
       | compile_stmt-else-parts-eq1 w ↦ fors.came p w.t-is w.code-is w.spans-is w.out-is w.next-is (fors.init_none p mark e o w.if-parts-eq1.false _)
     ] in (
-      fors.cond_there p mark e o c.span_at-span.ensures
-          init,
-      fors.fit p mark e o c.span_at-span.ensures
-          init,
+      fors.cond_there p mark e o c.span_at-span.ensures init,
+      fors.fit p mark e o c.span_at-span.ensures init,
     )
 
 pub compile_stmt-returns-in_default-test : goal.compile_stmt-returns-in_default-test
@@ -440,14 +435,11 @@ compile_stmt-returns-in_default-test t c =
     let p = c.requires in
     let e = c.u8_at-parts.ensures in
     let o = c.begin_scope-then-mark-eq-FOR.ensures.gives _ _ p.ready.fit in
-    let init : fors.Init c.args.class c.args.limit c.args.level c.args.tree.now p.left c.args.at (mem c.begin_scope-then-mark-eq-FOR.new.t c.args.code.now c.args.spans.now) c.args.out.now
-    (mem c.if-parts-eq1.t c.if-parts-eq1.code c.if-parts-eq1.spans) c.if-parts-eq1.out c.if-parts-eq1.next = elim c.if-parts-eq1.branch [
+    fors.stop_2 p mark e o c.span_at-span.ensures (elim c.if-parts-eq1.branch [
       | compile_stmt-then-parts-eq1+in-Next-a-3 w ↦ fors.came p w.t-is w.code-is w.spans-is w.out-is w.next-is
           (fors.init_one p mark e o w.if-parts-eq1.true w.compile_stmt-a-then-parts-eq1.ensures w.in-Next-a-3.is)
       | compile_stmt-else-parts-eq1 w ↦ fors.came p w.t-is w.code-is w.spans-is w.out-is w.next-is (fors.init_none p mark e o w.if-parts-eq1.false _)
-    ] in
-    fors.stop_2 p mark e o c.span_at-span.ensures
-    init c.code_length-start-then-mark-eq-FOR.ensures c.for_cond-b.ensures c.in_default-test.is
+    ]) c.code_length-start-then-mark-eq-FOR.ensures c.for_cond-b.ensures c.in_default-test.is
 
 pub compile_stmt-compile_stmt-d-requires-then-mark-eq-FOR : goal.compile_stmt-compile_stmt-d-requires-then-mark-eq-FOR
 compile_stmt-compile_stmt-d-requires-then-mark-eq-FOR t c =
@@ -455,14 +447,11 @@ compile_stmt-compile_stmt-d-requires-then-mark-eq-FOR t c =
     let p = c.requires in
     let e = c.u8_at-parts.ensures in
     let o = c.begin_scope-then-mark-eq-FOR.ensures.gives _ _ p.ready.fit in
-    let init : fors.Init c.args.class c.args.limit c.args.level c.args.tree.now p.left c.args.at (mem c.begin_scope-then-mark-eq-FOR.new.t c.args.code.now c.args.spans.now) c.args.out.now
-    (mem c.if-parts-eq1.t c.if-parts-eq1.code c.if-parts-eq1.spans) c.if-parts-eq1.out c.if-parts-eq1.next = elim c.if-parts-eq1.branch [
+    fors.body p mark e o c.span_at-span.ensures (elim c.if-parts-eq1.branch [
       | compile_stmt-then-parts-eq1+in-Next-a-3 w ↦ fors.came p w.t-is w.code-is w.spans-is w.out-is w.next-is
           (fors.init_one p mark e o w.if-parts-eq1.true w.compile_stmt-a-then-parts-eq1.ensures w.in-Next-a-3.is)
       | compile_stmt-else-parts-eq1 w ↦ fors.came p w.t-is w.code-is w.spans-is w.out-is w.next-is (fors.init_none p mark e o w.if-parts-eq1.false _)
-    ] in
-    fors.body p mark e o c.span_at-span.ensures
-    init c.code_length-start-then-mark-eq-FOR.ensures c.for_cond-b.ensures c.in-Next-test.is c.decreases
+    ]) c.code_length-start-then-mark-eq-FOR.ensures c.for_cond-b.ensures c.in-Next-test.is c.decreases
 
 pub compile_stmt-returns-in_default-d-3 : goal.compile_stmt-returns-in_default-d-3
 compile_stmt-returns-in_default-d-3 t c =
@@ -470,14 +459,11 @@ compile_stmt-returns-in_default-d-3 t c =
     let p = c.requires in
     let e = c.u8_at-parts.ensures in
     let o = c.begin_scope-then-mark-eq-FOR.ensures.gives _ _ p.ready.fit in
-    let init : fors.Init c.args.class c.args.limit c.args.level c.args.tree.now p.left c.args.at (mem c.begin_scope-then-mark-eq-FOR.new.t c.args.code.now c.args.spans.now) c.args.out.now
-    (mem c.if-parts-eq1.t c.if-parts-eq1.code c.if-parts-eq1.spans) c.if-parts-eq1.out c.if-parts-eq1.next = elim c.if-parts-eq1.branch [
+    fors.stop_3 p mark e o c.span_at-span.ensures (elim c.if-parts-eq1.branch [
       | compile_stmt-then-parts-eq1+in-Next-a-3 w ↦ fors.came p w.t-is w.code-is w.spans-is w.out-is w.next-is
           (fors.init_one p mark e o w.if-parts-eq1.true w.compile_stmt-a-then-parts-eq1.ensures w.in-Next-a-3.is)
       | compile_stmt-else-parts-eq1 w ↦ fors.came p w.t-is w.code-is w.spans-is w.out-is w.next-is (fors.init_none p mark e o w.if-parts-eq1.false _)
-    ] in
-    fors.stop_3 p mark e o c.span_at-span.ensures
-    init c.code_length-start-then-mark-eq-FOR.ensures c.for_cond-b.ensures c.in-Next-test.is c.compile_stmt-d-then-mark-eq-FOR.ensures c.in_default-d-3.is
+    ]) c.code_length-start-then-mark-eq-FOR.ensures c.for_cond-b.ensures c.in-Next-test.is c.compile_stmt-d-then-mark-eq-FOR.ensures c.in_default-d-3.is
 
 pub compile_stmt-for_incr-e-requires : goal.compile_stmt-for_incr-e-requires
 compile_stmt-for_incr-e-requires t c =
@@ -491,11 +477,9 @@ compile_stmt-for_incr-e-requires t c =
           (fors.init_one p mark e o w.if-parts-eq1.true w.compile_stmt-a-then-parts-eq1.ensures w.in-Next-a-3.is)
       | compile_stmt-else-parts-eq1 w ↦ fors.came p w.t-is w.code-is w.spans-is w.out-is w.next-is (fors.init_none p mark e o w.if-parts-eq1.false _)
     ] in (
-      fors.incr_there p mark e o c.span_at-span.ensures
-          init c.code_length-start-then-mark-eq-FOR.ensures c.for_cond-b.ensures c.in-Next-test.is c.compile_stmt-d-then-mark-eq-FOR.ensures
+      fors.incr_there p mark e o c.span_at-span.ensures init c.code_length-start-then-mark-eq-FOR.ensures c.for_cond-b.ensures c.in-Next-test.is c.compile_stmt-d-then-mark-eq-FOR.ensures
           c.in-Next-d-3.is,
-      fors.fit_2 p mark e o c.span_at-span.ensures
-          init c.code_length-start-then-mark-eq-FOR.ensures c.for_cond-b.ensures c.in-Next-test.is c.compile_stmt-d-then-mark-eq-FOR.ensures
+      fors.fit_2 p mark e o c.span_at-span.ensures init c.code_length-start-then-mark-eq-FOR.ensures c.for_cond-b.ensures c.in-Next-test.is c.compile_stmt-d-then-mark-eq-FOR.ensures
           c.in-Next-d-3.is,
     )
 
@@ -505,14 +489,11 @@ compile_stmt-returns-in_default-e-2 t c =
     let p = c.requires in
     let e = c.u8_at-parts.ensures in
     let o = c.begin_scope-then-mark-eq-FOR.ensures.gives _ _ p.ready.fit in
-    let init : fors.Init c.args.class c.args.limit c.args.level c.args.tree.now p.left c.args.at (mem c.begin_scope-then-mark-eq-FOR.new.t c.args.code.now c.args.spans.now) c.args.out.now
-    (mem c.if-parts-eq1.t c.if-parts-eq1.code c.if-parts-eq1.spans) c.if-parts-eq1.out c.if-parts-eq1.next = elim c.if-parts-eq1.branch [
+    fors.stop_4 p mark e o c.span_at-span.ensures (elim c.if-parts-eq1.branch [
       | compile_stmt-then-parts-eq1+in-Next-a-3 w ↦ fors.came p w.t-is w.code-is w.spans-is w.out-is w.next-is
           (fors.init_one p mark e o w.if-parts-eq1.true w.compile_stmt-a-then-parts-eq1.ensures w.in-Next-a-3.is)
       | compile_stmt-else-parts-eq1 w ↦ fors.came p w.t-is w.code-is w.spans-is w.out-is w.next-is (fors.init_none p mark e o w.if-parts-eq1.false _)
-    ] in
-    fors.stop_4 p mark e o c.span_at-span.ensures
-    init c.code_length-start-then-mark-eq-FOR.ensures c.for_cond-b.ensures c.in-Next-test.is c.compile_stmt-d-then-mark-eq-FOR.ensures c.in-Next-d-3.is
+    ]) c.code_length-start-then-mark-eq-FOR.ensures c.for_cond-b.ensures c.in-Next-test.is c.compile_stmt-d-then-mark-eq-FOR.ensures c.in-Next-d-3.is
     c.for_incr-e.ensures c.in_default-e-2.is
 
 pub compile_stmt-close_loop-f-requires : goal.compile_stmt-close_loop-f-requires
@@ -521,14 +502,11 @@ compile_stmt-close_loop-f-requires t c =
     let p = c.requires in
     let e = c.u8_at-parts.ensures in
     let o = c.begin_scope-then-mark-eq-FOR.ensures.gives _ _ p.ready.fit in
-    let init : fors.Init c.args.class c.args.limit c.args.level c.args.tree.now p.left c.args.at (mem c.begin_scope-then-mark-eq-FOR.new.t c.args.code.now c.args.spans.now) c.args.out.now
-    (mem c.if-parts-eq1.t c.if-parts-eq1.code c.if-parts-eq1.spans) c.if-parts-eq1.out c.if-parts-eq1.next = elim c.if-parts-eq1.branch [
+    fors.close p mark e o c.span_at-span.ensures (elim c.if-parts-eq1.branch [
       | compile_stmt-then-parts-eq1+in-Next-a-3 w ↦ fors.came p w.t-is w.code-is w.spans-is w.out-is w.next-is
           (fors.init_one p mark e o w.if-parts-eq1.true w.compile_stmt-a-then-parts-eq1.ensures w.in-Next-a-3.is)
       | compile_stmt-else-parts-eq1 w ↦ fors.came p w.t-is w.code-is w.spans-is w.out-is w.next-is (fors.init_none p mark e o w.if-parts-eq1.false _)
-    ] in
-    fors.close p mark e o c.span_at-span.ensures
-    init c.code_length-start-then-mark-eq-FOR.ensures c.for_cond-b.ensures c.in-Next-test.is c.compile_stmt-d-then-mark-eq-FOR.ensures c.in-Next-d-3.is
+    ]) c.code_length-start-then-mark-eq-FOR.ensures c.for_cond-b.ensures c.in-Next-test.is c.compile_stmt-d-then-mark-eq-FOR.ensures c.in-Next-d-3.is
     c.for_incr-e.ensures c.in-Next-e-2.is
 
 pub compile_stmt-returns-in_default-f-2 : goal.compile_stmt-returns-in_default-f-2
@@ -537,14 +515,11 @@ compile_stmt-returns-in_default-f-2 t c =
     let p = c.requires in
     let e = c.u8_at-parts.ensures in
     let o = c.begin_scope-then-mark-eq-FOR.ensures.gives _ _ p.ready.fit in
-    let init : fors.Init c.args.class c.args.limit c.args.level c.args.tree.now p.left c.args.at (mem c.begin_scope-then-mark-eq-FOR.new.t c.args.code.now c.args.spans.now) c.args.out.now
-    (mem c.if-parts-eq1.t c.if-parts-eq1.code c.if-parts-eq1.spans) c.if-parts-eq1.out c.if-parts-eq1.next = elim c.if-parts-eq1.branch [
+    fors.stop_5 p mark e o c.span_at-span.ensures (elim c.if-parts-eq1.branch [
       | compile_stmt-then-parts-eq1+in-Next-a-3 w ↦ fors.came p w.t-is w.code-is w.spans-is w.out-is w.next-is
           (fors.init_one p mark e o w.if-parts-eq1.true w.compile_stmt-a-then-parts-eq1.ensures w.in-Next-a-3.is)
       | compile_stmt-else-parts-eq1 w ↦ fors.came p w.t-is w.code-is w.spans-is w.out-is w.next-is (fors.init_none p mark e o w.if-parts-eq1.false _)
-    ] in
-    fors.stop_5 p mark e o c.span_at-span.ensures
-    init c.code_length-start-then-mark-eq-FOR.ensures c.for_cond-b.ensures c.in-Next-test.is c.compile_stmt-d-then-mark-eq-FOR.ensures c.in-Next-d-3.is
+    ]) c.code_length-start-then-mark-eq-FOR.ensures c.for_cond-b.ensures c.in-Next-test.is c.compile_stmt-d-then-mark-eq-FOR.ensures c.in-Next-d-3.is
     c.for_incr-e.ensures c.in-Next-e-2.is c.close_loop-f.ensures c.in_default-f-2.is
 
 pub compile_stmt-end_scope-requires-then-mark-eq-FOR : goal.compile_stmt-end_scope-requires-then-mark-eq-FOR
@@ -553,14 +528,11 @@ compile_stmt-end_scope-requires-then-mark-eq-FOR t c =
     let p = c.requires in
     let e = c.u8_at-parts.ensures in
     let o = c.begin_scope-then-mark-eq-FOR.ensures.gives _ _ p.ready.fit in
-    let init : fors.Init c.args.class c.args.limit c.args.level c.args.tree.now p.left c.args.at (mem c.begin_scope-then-mark-eq-FOR.new.t c.args.code.now c.args.spans.now) c.args.out.now
-    (mem c.if-parts-eq1.t c.if-parts-eq1.code c.if-parts-eq1.spans) c.if-parts-eq1.out c.if-parts-eq1.next = elim c.if-parts-eq1.branch [
+    fors.end p mark e o c.span_at-span.ensures (elim c.if-parts-eq1.branch [
       | compile_stmt-then-parts-eq1+in-Next-a-3 w ↦ fors.came p w.t-is w.code-is w.spans-is w.out-is w.next-is
           (fors.init_one p mark e o w.if-parts-eq1.true w.compile_stmt-a-then-parts-eq1.ensures w.in-Next-a-3.is)
       | compile_stmt-else-parts-eq1 w ↦ fors.came p w.t-is w.code-is w.spans-is w.out-is w.next-is (fors.init_none p mark e o w.if-parts-eq1.false _)
-    ] in
-    fors.end p mark e o c.span_at-span.ensures
-    init c.code_length-start-then-mark-eq-FOR.ensures c.for_cond-b.ensures c.in-Next-test.is c.compile_stmt-d-then-mark-eq-FOR.ensures c.in-Next-d-3.is
+    ]) c.code_length-start-then-mark-eq-FOR.ensures c.for_cond-b.ensures c.in-Next-test.is c.compile_stmt-d-then-mark-eq-FOR.ensures c.in-Next-d-3.is
     c.for_incr-e.ensures c.in-Next-e-2.is c.close_loop-f.ensures c.in-Next-f-2.is
 
 pub compile_stmt-returns-then-mark-eq-FOR : goal.compile_stmt-returns-then-mark-eq-FOR
@@ -569,14 +541,11 @@ compile_stmt-returns-then-mark-eq-FOR t c =
     let p = c.requires in
     let e = c.u8_at-parts.ensures in
     let o = c.begin_scope-then-mark-eq-FOR.ensures.gives _ _ p.ready.fit in
-    let init : fors.Init c.args.class c.args.limit c.args.level c.args.tree.now p.left c.args.at (mem c.begin_scope-then-mark-eq-FOR.new.t c.args.code.now c.args.spans.now) c.args.out.now
-    (mem c.if-parts-eq1.t c.if-parts-eq1.code c.if-parts-eq1.spans) c.if-parts-eq1.out c.if-parts-eq1.next = elim c.if-parts-eq1.branch [
+    fors.done p mark e o c.span_at-span.ensures (elim c.if-parts-eq1.branch [
       | compile_stmt-then-parts-eq1+in-Next-a-3 w ↦ fors.came p w.t-is w.code-is w.spans-is w.out-is w.next-is
           (fors.init_one p mark e o w.if-parts-eq1.true w.compile_stmt-a-then-parts-eq1.ensures w.in-Next-a-3.is)
       | compile_stmt-else-parts-eq1 w ↦ fors.came p w.t-is w.code-is w.spans-is w.out-is w.next-is (fors.init_none p mark e o w.if-parts-eq1.false _)
-    ] in
-    fors.done p mark e o c.span_at-span.ensures
-    init c.code_length-start-then-mark-eq-FOR.ensures c.for_cond-b.ensures c.in-Next-test.is c.compile_stmt-d-then-mark-eq-FOR.ensures c.in-Next-d-3.is
+    ]) c.code_length-start-then-mark-eq-FOR.ensures c.for_cond-b.ensures c.in-Next-test.is c.compile_stmt-d-then-mark-eq-FOR.ensures c.in-Next-d-3.is
     c.for_incr-e.ensures c.in-Next-e-2.is c.close_loop-f.ensures c.in-Next-f-2.is c.end_scope-then-mark-eq-FOR.ensures
 
 -- ## A function that is declared

@@ -20,7 +20,8 @@ decreases-compile_stmt l = 2 * (length l.tree.now - l.at) + 1
 
 abbrev pub invariant-compile_function-loop-more : goal.invariant-compile_function-loop-more
 invariant-compile_function-loop-more l =
-    walks.RowIn l.class l.limit (l.level + 1) l.tree l.at (word16 l.tree l.first) (l.first + 2) (mem l.initial.t l.initial.code l.initial.spans) l.initial.out (mem l.t l.code l.spans) l.out l.next l.more
+    walks.RowIn l.class l.limit (l.level + 1) l.tree l.at (word16 l.tree l.first) (l.first + 2) (mem l.initial.t l.initial.code l.initial.spans) l.initial.out (mem l.t l.code l.spans) l.out
+    l.next l.more
 
 abbrev pub decreases-compile_function-loop-more : goal.decreases-compile_function-loop-more
 decreases-compile_function-loop-more l = l.more

@@ -1,6 +1,4 @@
 -- A jump, and the value that it tests is dropped.
--- The places first, each over the one before: of a call `-asked` is the place where it is made, `-left` the call from where its areas have come back,
--- `-went` and `-halted` the call once its answer is known.
 use Rattle.steps.proofs.Steps.{went_to}
 use Rattle.stmt_jumps.proofs.Jumps.{open_stop, open_done}
 use Rattle.stmt_jumps.proofs.open_jump.Goals as goal

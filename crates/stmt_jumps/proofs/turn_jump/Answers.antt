@@ -1,6 +1,4 @@
 -- From an `if`'s first part to its second.
--- The places first, each over the one before: of a call `-asked` is the place where it is made, `-left` the call from where its areas have come back,
--- `-went` and `-halted` the call once its answer is known.
 use Rattle.steps.proofs.Steps.{went, went_to, still}
 use Rattle.stmt_jumps.proofs.Jumps.{turn_stop, turn_stop_2, turn_done}
 use Rattle.stmt_jumps.proofs.turn_jump.Goals as goal
