@@ -30,7 +30,7 @@ returns-in-Next c =
 
 pub shape_of-out-in-Stop : goal.shape_of-out-in-Stop
 shape_of-out-in-Stop c =
-    omega (arith, c.compile_script-r.auto.out, c.clear8.auto.out)
+    omega (arith, c.compile_script-r.auto.out, c.clear8.auto.area)
 
 pub returns-in-Stop : goal.returns-in-Stop
 returns-in-Stop c =
