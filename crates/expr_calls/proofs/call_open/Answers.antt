@@ -22,7 +22,7 @@ mark_at-mark-requires c = let b = (any_at _ _ _ _ c.requires.1.there.is).bound i
 
 pub returns-in_default : goal.returns-in_default
 returns-in_default c =
-    super_stop _ _ _ (omega (arith, c.u16_at.ensures, c.if-u16_at-gt-ARGS.false)) (sym c.mark_at-mark.ensures ∙ c.if-mark-eq-SUPER.true) (c.need_super-n.ensures.gives _ c.requires.0)
+    super_stop _ _ _ (omega (arith, c.u16_at.ensures)) (sym c.mark_at-mark.ensures ∙ c.if-mark-eq-SUPER.true) (c.need_super-n.ensures.gives _ c.requires.0)
     c.in_default.is
 
 pub overflow_add-at-then-mark-eq-SUPER : goal.overflow_add-at-then-mark-eq-SUPER

@@ -1,4 +1,5 @@
 -- Before the right side.
+use borrow.Author.Rules.{rules}
 use Rattle.steps.proofs.Steps.{went, went_to, placed, still}
 use Rattle.expr_laws.proofs.Operators.{begun_plain, begun_stop, begun_and, begun_or_stop, begun_or_stop_2, begun_or}
 use Rattle.expr_operators.proofs.before_right.Goals as goal
@@ -24,7 +25,7 @@ emit_jump-b-requires c =
 
 pub returns-in_default-b : goal.returns-in_default-b
 returns-in_default-b c =
-    λ class. begun_or_stop _ c.if-operator-lt10.false c.if-operator-eq10.false (c.emit_jump-a.ensures class) c.in-Next.is (c.emit_jump-b.ensures class) c.in_default-b.is
+    λ class. begun_or_stop _ c.if-operator-lt10.false (search rules) (c.emit_jump-a.ensures class) c.in-Next.is (c.emit_jump-b.ensures class) c.in_default-b.is
 
 pub patch_jump-d-requires : goal.patch_jump-d-requires
 patch_jump-d-requires c =

@@ -1,4 +1,5 @@
 -- `emit_loop` meets its contract.
+use borrow.Author.Rules.{rules}
 use mathlib.Core.List.{[]}
 use native.Mathlib.Omega.{arith}
 use mathlib.Core.Path.{refl}
@@ -27,7 +28,7 @@ pub returns-in_default : goal.returns-in_default
 unfolding emit_loop emit_op
 returns-in_default c =
     λ class. let a = c.args in ask (c.code_length.ensures.says class a.code.now a.spans.now) _
-    (ask_seq (passed _ _ (le-leb _ _ c.if-back-gt-JUMP.false)) _ (halt _ (c.emit_op-a.ensures class) c.in_default.is))
+    (ask_seq (passed _ _ (le-leb _ _ (search rules))) _ (halt _ (c.emit_op-a.ensures class) c.in_default.is))
 
 pub emit_op-b-requires : goal.emit_op-b-requires
 emit_op-b-requires c = (went (c.emit_op-a.ensures 0) c.in-Next.is).ahead.fit

@@ -1,4 +1,5 @@
 -- `patch_jump` meets its contract.
+use borrow.Author.Rules.{rules}
 use native.Mathlib.Omega.{arith}
 use mathlib.Core.Path.{refl}
 use lib.ListN.{length-set}
@@ -42,4 +43,4 @@ pub returns : goal.returns
 unfolding code_len
 returns c =
     λ class. next (ways.patched c.args.level c.args.place _ c.args.span _ _
-    _ c.requires.0 c.requires.1 refl c.if-distance-gt-JUMP.false)
+    _ c.requires.0 c.requires.1 refl (search rules))

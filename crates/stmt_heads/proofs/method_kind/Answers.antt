@@ -7,4 +7,4 @@ pub returns-then-name-eq-INIT : goal.returns-then-name-eq-INIT
 returns-then-name-eq-INIT c = (init_kind _ c.if-name-eq-INIT.true, search rules)
 
 pub returns : goal.returns
-returns c = (other_kind _ c.if-name-eq-INIT.false, search rules)
+returns c = (other_kind _ (search rules), search rules)

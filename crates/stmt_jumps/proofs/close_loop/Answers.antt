@@ -1,4 +1,5 @@
 -- The jump back, and where there is a condition the end that its jump lands on.
+use borrow.Author.Rules.{rules}
 use Rattle.steps.proofs.Steps.{went, still}
 use Rattle.stmt_jumps.proofs.Loops as ways
 use Rattle.stmt_jumps.proofs.close_loop.Goals as goal
@@ -14,7 +15,7 @@ returns-then-not-has_cond c =
 pub patch_jump-b-requires : goal.patch_jump-b-requires
 patch_jump-b-requires c =
     let g = went (c.emit_loop-a.ensures 0) c.in-Next.is in
-    (g.ahead.fit, still _ (c.requires.2 c.if-not-has_cond.false) g)
+    (g.ahead.fit, still _ (c.requires.2 (search rules)) g)
 
 pub returns-in_default-b : goal.returns-in_default-b
 returns-in_default-b c =
