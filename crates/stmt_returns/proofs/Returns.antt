@@ -62,8 +62,10 @@ module _ (l n : ℕ) (span : Span) (t : List ℕ) where
 
   pub kind_initializer : 3 ≤ kind → Tried l n steady (may_return span) t t (Stop (return_in_initializer l span))
   unfolding may_return refuse refusal_of
-  kind_initializer e = record { gives = λ code spans fit. stop _ (ask_refused (told_type t code spans l) _ (refuses_in (return_in_initializer l span) refl t refl (λ rest h. initializer span
-      _ kind e))) }
+  kind_initializer e = record {
+    gives = λ code spans fit. stop _ (ask_refused (told_type t code spans l) _ (refuses_in (return_in_initializer l span) refl t refl (λ rest h. initializer span
+        _ kind e)));
+  }
 
   pub kind_returns : (kind ≡ 0 → ⊥) → kind < 3 → Tried l n steady (may_return span) t t (Next n)
   unfolding may_return
