@@ -1,4 +1,5 @@
 -- `compile_lent` meets its contract.
+use borrow.Author.Rules.{rules}
 use mathlib.Core.Path.{sym, ◌∙◌}
 use lib.Seq.{length-take-le}
 use Rattle.tree.proofs.SoundFile.{refused_file}
@@ -12,7 +13,7 @@ returns-then-table-lt-WORDS c =
     refused_as c.outside.ensures (table_short a.tree.now a.options a.table.now a.code.now a.spans.now a.out.now c.if-table-lt-WORDS.true)
 
 pub slice_bounds-compile_sound-end-in-Sound : goal.slice_bounds-compile_sound-end-in-Sound
-slice_bounds-compile_sound-end-in-Sound c = sym (length-take-le table_words c.args.table.now c.if-table-lt-WORDS.false)
+slice_bounds-compile_sound-end-in-Sound c = sym (length-take-le table_words c.args.table.now (search rules))
 
 pub compile_sound-requires : goal.compile_sound-requires
 compile_sound-requires c = (
