@@ -7,7 +7,7 @@ pub constants_in-requires : goal.constants_in-requires
 constants_in-requires c = record {
   k_bound = c.requires.n_bound.1;
   n_in_bounds = (
-    omega (arith, c.if-n-le256.true, c.requires.words_len.0),
+    omega (arith, c.requires.words_len.0),
     c.requires.words_len.1,
   );
   kinds_len = c.requires.kinds_len;
