@@ -1,5 +1,5 @@
-// The fields of the files: what stands at a place, the marks of their records, and numbers in wider types. The tree reader, the compiler
-// and the image checker read by these.
+// The fields of the files: what stands at a place, and the marks of their records. The tree reader, the compiler and the image checker read by
+// these.
 #![tactic(auto)]
 
 ghost use Rattle.std.specs.Prelude.{◌≡◌, ℕ, ◌+◌, ◌<◌, ◌≤◌, length, leb};
@@ -147,63 +147,4 @@ impl Mark {
 
     // DX: `read_directory`
     pub const DIRECTORY: u16 = 0x4458;
-}
-
-// A number in a wider type. A call asks its caller for nothing, where a cast in place asks that the number fits.
-pub fn wide(n: u8) -> usize
-    ensures { (result ≡ n) × (result < 256) }
-{
-    n as usize
-}
-
-pub fn wide16(n: u16) -> usize
-    ensures { (result ≡ n) × (result < 65536) }
-{
-    n as usize
-}
-
-pub fn wide32(n: u32) -> usize
-    ensures { (result ≡ n) × (result < 4294967296) }
-{
-    n as usize
-}
-
-pub fn wide64(n: u64) -> usize
-    ensures { result ≡ n }
-{
-    n as usize
-}
-
-pub fn long8(n: u8) -> u64
-    ensures { (result ≡ n) × (result < 256) }
-{
-    n as u64
-}
-
-pub fn long16(n: u16) -> u64
-    ensures { (result ≡ n) × (result < 65536) }
-{
-    n as u64
-}
-
-pub fn long32(n: u32) -> u64
-    ensures { (result ≡ n) × (result < 4294967296) }
-{
-    n as u64
-}
-
-pub fn long(n: usize) -> u64
-    ensures { result ≡ n }
-{
-    n as u64
-}
-
-pub fn least(a: usize, b: usize) -> usize
-    ensures upper_bound { (result ≤ a) × (result ≤ b) }
-    ensures by_index { (p : ℕ) → p < a → p < b → p < result }
-{
-    if a < b {
-        return a;
-    }
-    b
 }
