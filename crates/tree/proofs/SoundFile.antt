@@ -22,7 +22,7 @@ use Rattle.fields.proofs.Reading.{bad_got}
 use Rattle.tree_small.specs.Places.{place}
 use Rattle.tree.specs.Checked.{place_or_0, script_of, checked, checked_file}
 use Rattle.tree.specs.declared.Script.{Script}
-use Rattle.tree.specs.declared.Checked.{Checked}
+use Rattle.std.specs.Prelude.{Result, Ok, Err}
 use Rattle.tree.proofs.Whole.{file_cut, mark_not, too_many, from_names, from_stmts}
 use Rattle.tree_laws.proofs.Taken.{first, got_thing, got_next}
 use Rattle.fields.specs.Marks as marks
@@ -82,44 +82,44 @@ module _ (tree : List ℕ) (depth funs : ℕ) where
         rest = q.rest;
       }
 
-  sound_from : (r : Read Stmts) → read_tree tree depth funs ≡ r → {script : Script} → checked tree r ≡ Checked.Sound script → SoundFile tree depth funs script
+  sound_from : (r : Read Stmts) → read_tree tree depth funs ≡ r → {script : Script} → checked tree r ≡ Ok script → SoundFile tree depth funs script
   unfolding checked
   sound_from (bad x) e q = let z : ◌≡◌ {A = ℕ} 0 1 = cc in absurd (omega arith)
   sound_from (got stmts n) e {script} q =
-      let y : Checked.Sound (script_of tree) ≡ Checked.Sound script = q in
+      let y : Ok (script_of tree) ≡ Ok script = q in
       let z : script_of tree ≡ script = cc in
       rw z at (sound_if _ _ _ refl refl refl e)
 
-  pub sound : {script : Script} → checked tree (read_tree tree depth funs) ≡ Checked.Sound script → SoundFile tree depth funs script
+  pub sound : {script : Script} → checked tree (read_tree tree depth funs) ≡ Ok script → SoundFile tree depth funs script
   sound q = sound_from (read_tree tree depth funs) refl q
 
-file_if : (tree : List ℕ) (t : Bool) → leb (length tree) max_tree ≡ t → {script : Script} → checked_file tree ≡ Checked.Sound script
+file_if : (tree : List ℕ) (t : Bool) → leb (length tree) max_tree ≡ t → {script : Script} → checked_file tree ≡ Ok script
     → (length tree ≤ max_tree) × SoundFile tree first_limits.depth first_limits.funs script
 unfolding checked_file
 file_if tree true e q = (leb-true (length tree) max_tree e, sound tree first_limits.depth first_limits.funs (rw e at q))
-file_if tree false e {script} q = let y : ◌≡◌ {A = Checked} (Checked.Bad _) (Checked.Sound script) = rw e at q in let z : ◌≡◌ {A = ℕ} 0 1 = cc in absurd (omega arith)
+file_if tree false e {script} q = let y : ◌≡◌ {A = Result Script Refusal} (Err _) (Ok script) = rw e at q in let z : ◌≡◌ {A = ℕ} 0 1 = cc in absurd (omega arith)
 
 -- within the rules' own limits
-pub sound_file : (tree : List ℕ) {script : Script} → checked_file tree ≡ Checked.Sound script → (length tree ≤ max_tree) × SoundFile tree first_limits.depth first_limits.funs script
+pub sound_file : (tree : List ℕ) {script : Script} → checked_file tree ≡ Ok script → (length tree ≤ max_tree) × SoundFile tree first_limits.depth first_limits.funs script
 sound_file tree q = file_if tree _ refl q
 
 -- ## What the whole comes to, by the answer
 
-refused_by : (tree : List ℕ) (r : Read Stmts) (limit : ℕ) {x : Refusal} → checked tree r ≡ Checked.Bad x → from_read r limit ≡ refused (outside x)
+refused_by : (tree : List ℕ) (r : Read Stmts) (limit : ℕ) {x : Refusal} → checked tree r ≡ Err x → from_read r limit ≡ refused (outside x)
 unfolding checked from_read
 refused_by tree (got s n) limit q = let z : ◌≡◌ {A = ℕ} 0 1 = cc in absurd (omega arith)
 refused_by tree (bad y) limit {x} q = let z : y ≡ x = cc in ap (λ (r : Refusal). refused (outside r)) z
 
-refused_if : (tree : List ℕ) (limit : ℕ) (t : Bool) → leb (length tree) max_tree ≡ t → {x : Refusal} → checked_file tree ≡ Checked.Bad x → compile_tree first_limits tree limit ≡ refused (outside x)
+refused_if : (tree : List ℕ) (limit : ℕ) (t : Bool) → leb (length tree) max_tree ≡ t → {x : Refusal} → checked_file tree ≡ Err x → compile_tree first_limits tree limit ≡ refused (outside x)
 unfolding checked_file compile_tree
 refused_if tree limit true e {x} q = rw e (refused_by tree (read_tree tree first_limits.depth first_limits.funs) limit (rw e at q))
 refused_if tree limit false e {x} q =
-    let y : Checked.Bad TreeTooLong ≡ Checked.Bad x = rw e at q in
+    let y : Err TreeTooLong ≡ Err x = rw e at q in
     let z : TreeTooLong ≡ x = cc in
     rw e (ap (λ (r : Refusal). refused (outside r)) z)
 
 -- a refusal of the reader is the compiler's
-pub refused_file : (tree : List ℕ) (limit : ℕ) {x : Refusal} → checked_file tree ≡ Checked.Bad x → compile_tree first_limits tree limit ≡ refused (outside x)
+pub refused_file : (tree : List ℕ) (limit : ℕ) {x : Refusal} → checked_file tree ≡ Err x → compile_tree first_limits tree limit ≡ refused (outside x)
 refused_file tree limit q = refused_if tree limit _ refl q
 
 compiled_if : (tree : List ℕ) (limit : ℕ) (t : Bool) → leb (length tree) max_tree ≡ t → length tree ≤ max_tree → {stmts : Stmts} {n : ℕ}
@@ -129,6 +129,6 @@ compiled_if tree limit true e h q = rw (e, q)
 compiled_if tree limit false e h q = let w = leb-false (length tree) max_tree e in absurd (omega arith)
 
 -- and of a sound file it is what its statements come to
-pub compiled_file : (tree : List ℕ) (limit : ℕ) {script : Script} (q : checked_file tree ≡ Checked.Sound script)
+pub compiled_file : (tree : List ℕ) (limit : ℕ) {script : Script} (q : checked_file tree ≡ Ok script)
     → compile_tree first_limits tree limit ≡ from_outcome (compile_functions limit (sound_file tree q).1.stmts)
 compiled_file tree limit q = compiled_if tree limit _ refl (sound_file tree q).0 (sound_file tree q).1.whole

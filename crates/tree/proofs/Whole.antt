@@ -8,7 +8,7 @@ use native.Mathlib.Omega.{arith}
 use lib.ListN.{length}
 use lib.Dec.{leb, eqb}
 use borrow.Author.Tests.{leb-true, leb-false, eqb-true, eqb-false, le-leb, lt-leb}
-use Rattle.std.specs.Prelude.{if◌then◌else◌}
+use Rattle.std.specs.Prelude.{if◌then◌else◌, Result, Ok, Err}
 use Rattle.rules.specs.Limits.{max_names}
 use Rattle.rules.specs.declared.Refusal.{Refusal}
 use Rattle.rules.specs.declared.Refusal.TheVariants.{TreeForm}
@@ -19,12 +19,16 @@ use Rattle.fields.specs.Words.{word16, letters}
 use Rattle.fields.proofs.Reading.{a_u16, then_on, then_bad, mark_is_it, mark_is_not, mark_is_cut}
 use Rattle.tree_small.specs.Places.{place, row}
 use Rattle.tree_stmts.specs.Stmts.{stmt_place}
-use Rattle.tree.specs.Checked.{place_or_0, script_of, ends, checked}
-use Rattle.tree_small.specs.declared.Step.{Step}
-use Rattle.tree.specs.declared.Checked.{Checked}
+use Rattle.tree.specs.Checked.{place_or_0, script_of, checked}
+use Rattle.tree.specs.declared.Script.{Script}
 use Rattle.tree_names.proofs.Texts.{was_bad, bad_at}
 use Rattle.tree_stmts.proofs.Statements.{stmts_place}
 use Rattle.fields.specs.Marks as marks
+
+-- the file ends where its last statement does
+unfoldable pub ends : (tree : List ℕ) → Result ℕ Refusal → Script → Result Script Refusal
+ends tree (Ok end) script = if eqb end (length tree) then Ok script else Err (TreeForm end)
+ends tree (Err r) script = Err r
 
 module _ (tree : List ℕ) (depth funs : ℕ) where
   -- what comes after the names
@@ -71,11 +75,12 @@ module _ (tree : List ℕ) (depth funs : ℕ) where
         then_on _ (mark_is_it tree (TreeForm 0) marks.TR 0 (omega arith) e) ∙ then_on _ ((a_u16 tree).whole (TreeForm 0) 2 (omega arith)) ∙
         then_on _ ((a_u16 tree).whole (TreeForm 0) 4 h) ∙ then_on _ (ap (λ (t : Bool). need t (TreeForm 0) 6) (le-leb (word16 tree 2) max_names l))
 
-    pub names_bad : word16 tree 2 ≤ max_names → {t : Step} {x : Refusal} → t ≡ place (read_names tree (word16 tree 2) none 6) → t ≡ Step.Bad x → read_tree tree depth funs ≡ bad x
-    names_bad l p q = from_names l ∙ then_bad _ (was_bad (read_names tree (word16 tree 2) none 6) p q)
+    pub names_bad : word16 tree 2 ≤ max_names → {names : ℕ} {x : Refusal} → names ≡ word16 tree 2 → Err x ≡ place (read_names tree names none 6) → read_tree tree depth funs ≡ bad x
+    names_bad l {names} a p =
+        from_names l ∙ then_bad _ (was_bad (read_names tree (word16 tree 2) none 6) (p ∙ ap (λ (k : ℕ). place (read_names tree k none 6)) a) refl)
 
     stmts_end : (at : ℕ) (stmts : Stmts) (t : Bool) → eqb at (length tree) ≡ t
-        → checked tree ((here >>= λ end. need (eqb end (length tree)) (TreeForm end) >> return stmts) at) ≡ (if t then Checked.Sound (script_of tree) else Checked.Bad (TreeForm at))
+        → checked tree ((here >>= λ end. need (eqb end (length tree)) (TreeForm end) >> return stmts) at) ≡ (if t then Ok (script_of tree) else Err (TreeForm at))
     unfolding here ◌>>=◌ ◌>>◌ go_on need return checked
     stmts_end at stmts true q = rw q
     stmts_end at stmts false q = rw q
@@ -86,7 +91,7 @@ module _ (tree : List ℕ) (depth funs : ℕ) where
     stmts_from (bad x) = refl
     stmts_from (got stmts at) = stmts_end at stmts _ refl
 
-    after_names : (r : Read Unit) {at : ℕ} → place r ≡ Step.At at
+    after_names : (r : Read Unit) {at : ℕ} → place r ≡ Ok at
         → checked tree (go_on r (λ _. from_stmts)) ≡ ends tree (row (stmt_place tree (word16 tree 2) depth funs false) (word16 tree 4) at) (script_of tree)
     unfolding go_on place ◌>>=◌
     after_names (bad x) p = absurd (bad_at p)
@@ -96,14 +101,15 @@ module _ (tree : List ℕ) (depth funs : ℕ) where
         ap (λ s. ends tree s (script_of tree)) (stmts_place tree (word16 tree 2) depth funs (word16 tree 4) n ∙ ap (row (stmt_place tree (word16 tree 2) depth funs false) (word16 tree 4)) z)
 
     -- the statements, from where the names end
-    pub to_the_end : word16 tree 2 ≤ max_names → {t : Step} {at : ℕ} → t ≡ place (read_names tree (word16 tree 2) none 6) → t ≡ Step.At at
-        → {names count : ℕ} → names ≡ word16 tree 2 → count ≡ word16 tree 4
-        → checked tree (read_tree tree depth funs) ≡ ends tree (row (stmt_place tree names depth funs false) count at) (record { names = names; count = count; at = at })
+    pub to_the_end : word16 tree 2 ≤ max_names → {names count at : ℕ} → names ≡ word16 tree 2 → count ≡ word16 tree 4 → Ok at ≡ place (read_names tree names none 6)
+        → {end : Result ℕ Refusal} → end ≡ row (stmt_place tree names depth funs false) count at
+        → ends tree end (record { names = names; count = count; at = at }) ≡ checked tree (read_tree tree depth funs)
     unfolding script_of place_or_0
-    to_the_end l {t} {at} p q {names} {count} a b =
-        ap (checked tree) (from_names l) ∙ after_names (read_names tree (word16 tree 2) none 6) (sym p ∙ q) ∙
-        rw (a, b, sym p ∙ q)
+    to_the_end l {names} {count} {at} a b p {end} q =
+        let w : place (read_names tree (word16 tree 2) none 6) ≡ Ok at = sym (p ∙ ap (λ (k : ℕ). place (read_names tree k none 6)) a) in
+        sym (ap (checked tree) (from_names l) ∙ after_names (read_names tree (word16 tree 2) none 6) w ∙
+        rw (q, a, b, w))
 
-pub checked_bad : (tree : List ℕ) {r : Read Stmts} {x : Refusal} → r ≡ bad x → Checked.Bad x ≡ checked tree r
+pub checked_bad : (tree : List ℕ) {r : Read Stmts} {x : Refusal} → r ≡ bad x → Err x ≡ checked tree r
 unfolding checked
 checked_bad tree e = sym (ap (checked tree) e)

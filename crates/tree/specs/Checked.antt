@@ -1,21 +1,20 @@
 -- What the file as a whole comes to.
-use Rattle.std.specs.Prelude.{List, ℕ, leb, eqb, length, if◌then◌else◌}
+use Rattle.std.specs.Prelude.{Result, Ok, Err, List, ℕ, leb, length, if◌then◌else◌}
 use Rattle.std.proofs.Math.Option.{none}
 use Rattle.rules.specs.Limits.{first_limits, max_tree}
-use Rattle.rules.specs.declared.Refusal.TheVariants.{TreeForm, TreeTooLong}
+use Rattle.rules.specs.declared.Refusal.{Refusal}
+use Rattle.rules.specs.declared.Refusal.TheVariants.{TreeTooLong}
 use Rattle.rules.specs.Tree.{Stmts}
 use Rattle.rules.specs.Reader.{Read, got, bad}
 use Rattle.rules.specs.TreeFile.{read_names, read_tree}
 use Rattle.fields.specs.Words.{word16}
 use Rattle.tree_small.specs.Places.{place}
-use Rattle.tree_small.specs.declared.Step.{Step}
 use Rattle.tree.specs.declared.Script.{Script}
-use Rattle.tree.specs.declared.Checked.{Checked}
 
 -- the place after the names
-unfoldable pub place_or_0 : Step → ℕ
-place_or_0 (Step.At next) = next
-place_or_0 (Step.Bad r) = 0
+unfoldable pub place_or_0 : Result ℕ Refusal → ℕ
+place_or_0 (Ok next) = next
+place_or_0 (Err r) = 0
 
 -- the header's two counts, and where the names end
 unfoldable pub script_of : (tree : List ℕ) → Script
@@ -26,19 +25,14 @@ script_of tree =
       at = place_or_0 (place (read_names tree (word16 tree 2) none 6));
     }
 
--- the file ends where its last statement does
-unfoldable pub ends : (tree : List ℕ) → Step → Script → Checked
-ends tree (Step.At end) script = if eqb end (length tree) then Checked.Sound script else Checked.Bad (TreeForm end)
-ends tree (Step.Bad r) script = Checked.Bad r
-
 -- a file that the rules read is sound, and any other has the rules' refusal
-unfoldable pub checked : (tree : List ℕ) → Read Stmts → Checked
-checked tree (got _ _) = Checked.Sound (script_of tree)
-checked tree (bad r) = Checked.Bad r
+unfoldable pub checked : (tree : List ℕ) → Read Stmts → Result Script Refusal
+checked tree (got _ _) = Ok (script_of tree)
+checked tree (bad r) = Err r
 
 -- 2 before all else, and then the file within the rules' own limits
-unfoldable pub checked_file : (tree : List ℕ) → Checked
+unfoldable pub checked_file : (tree : List ℕ) → Result Script Refusal
 checked_file tree =
     if leb (length tree) max_tree
     then checked tree (read_tree tree first_limits.depth first_limits.funs)
-    else Checked.Bad TreeTooLong
+    else Err TreeTooLong

@@ -4,14 +4,13 @@
 
 ghost use Rattle.std.specs.Prelude.{◌≡◌};
 ghost use Rattle.rules.specs.TreeFile.{read_tree};
-ghost use Rattle.tree.specs.Checked.{ends, checked, checked_file};
+ghost use Rattle.tree.specs.Checked.{checked, checked_file};
 ghost use Rattle.tree.specs.Read.{read_answer};
 
 use answers::{accepted, refused};
 use fields::Mark;
 use rules::{Answer, Limit, Refusal};
 use tree_names::check_names;
-use tree_small::Step;
 use tree_stmts::check_stmts;
 
 // Where a sound file's statements stand: how many names there are, how many statements, and the place of the first.
@@ -22,58 +21,36 @@ pub struct Script {
     pub at: usize,
 }
 
-#[derive(Drop)]
-pub enum Checked {
-    Sound(Script),
-    Bad(Refusal),
-}
-
 // The whole file, within limits that the caller sets: records inside one another, and `SF` records inside one another.
-pub fn read_within(tree: &[u8], depth: usize, funs: usize) -> Checked
+pub fn read_within(tree: &[u8], depth: usize, funs: usize) -> Result<Script, Refusal>
     ensures { result ≡ checked tree.now (read_tree tree.now depth funs) }
 {
     if !fields::has(tree, 0, 6) {
-        return Checked::Bad(Refusal::TreeForm(0));
+        return Err(Refusal::TreeForm(0));
     }
     if fields::mark_at(tree, 0) != Mark::TREE {
-        return Checked::Bad(Refusal::TreeForm(0));
+        return Err(Refusal::TreeForm(0));
     }
     let names = fields::u16_at(tree, 2);
     let count = fields::u16_at(tree, 4);
     if Limit::NAMES < names {
-        return Checked::Bad(Refusal::TreeForm(0));
+        return Err(Refusal::TreeForm(0));
     }
-    match check_names(tree, names, 6) {
-        Step::Bad(r) => Checked::Bad(r),
-        Step::At(at) => to_the_end(
-            tree,
-            check_stmts(tree, names, depth, funs, false, count as usize, at),
-            Script { names, count, at },
-        ),
+    let at = check_names(tree, names, 6)?;
+    let end = check_stmts(tree, names, depth, funs, false, count as usize, at)?;
+    // The file ends where its last statement does.
+    if end != tree.len() {
+        return Err(Refusal::TreeForm(end));
     }
-}
-
-// The file ends where its last statement does.
-fn to_the_end(tree: &[u8], step: Step, script: Script) -> Checked
-    ensures { result ≡ ends tree.now step script }
-{
-    match step {
-        Step::Bad(r) => Checked::Bad(r),
-        Step::At(end) => {
-            if end != tree.len() {
-                return Checked::Bad(Refusal::TreeForm(end));
-            }
-            Checked::Sound(script)
-        }
-    }
+    Ok(Script { names, count, at })
 }
 
 // The whole file, with 2 before all else.
-pub fn read(tree: &[u8]) -> Checked
+pub fn read(tree: &[u8]) -> Result<Script, Refusal>
     ensures { result ≡ checked_file tree.now }
 {
     if Limit::TREE_BYTES < tree.len() {
-        return Checked::Bad(Refusal::TreeTooLong);
+        return Err(Refusal::TreeTooLong);
     }
     read_within(tree, Limit::DEPTH, Limit::FUNS)
 }
@@ -83,7 +60,7 @@ pub fn answer(tree: &[u8]) -> Answer
     ensures { result ≡ read_answer tree.now }
 {
     match read(tree) {
-        Checked::Sound(_) => accepted(0),
-        Checked::Bad(r) => refused(r),
+        Ok(_) => accepted(0),
+        Err(r) => refused(r),
     }
 }

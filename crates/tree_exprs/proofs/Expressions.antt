@@ -23,10 +23,10 @@ use Rattle.rules.specs.TreeFile.{ExprMark, EA, EC, EG, EI, EL, EP, ES, EU, EV, e
 use Rattle.rules.specs.TreeFile.{infix_fields, literal_of, literal_fields, prefix_fields, set_fields, super_fields, var_fields, expr_fields, expr_mark, expr_record, read_expr, a_number, a_string}
 use Rattle.fields.specs.Words.{word64, span_of}
 use Rattle.fields.proofs.Reading.{a_u64, a_span, then_on, then_bad}
-use Rattle.tree_small.specs.Places.{place, and_then, row, below, known_mark}
+use Rattle.tree_small.specs.Places.{place, and_then, row, below, known_mark, Tells}
 use Rattle.tree_exprs.specs.Exprs.{number, announced, with_callee, follow, Announces, Opens}
-use Rattle.tree_small.specs.declared.Step.{Step}
-use Rattle.tree_exprs.specs.declared.Opened.{Opened}
+use Rattle.std.specs.Prelude as rust
+use Rattle.std.specs.Prelude.{Result, Ok, Err, None, Some, MatchOption}
 use Rattle.tree_small.proofs.Places.{chain, made, and_then_end, row_one, exprs_row}
 use Rattle.tree_small.proofs.Tables.{outside, Marked, known_none, alike, full_infix, full_prefix, full_kinds}
 use Rattle.fields.specs.Marks as marks
@@ -46,39 +46,38 @@ module _ (tree : List ℕ) where
   unfolding number ◌>>=◌ ◌>>◌ go_on need return
   number_is fault at h l = then_on (λ n. need (leb n max_bits) fault >> return n) ((a_u64 tree).whole fault at h) ∙ rw (le-leb (word64 tree at) max_bits l)
 
-pub step_moved : {s : Step} {n m : ℕ} → n ≡ m → s ≡ Step.At n → Step.At m ≡ s
-step_moved h e = ap Step.At (sym h) ∙ sym e
+pub step_moved : {s : Result ℕ Refusal} {n m : ℕ} → n ≡ m → s ≡ Ok n → Ok m ≡ s
+step_moved h e = ap Ok (sym h) ∙ sym e
 
 -- ## Fields and then expressions
 
-pub announced_bad : {A : Type 0} (kids : ℕ) {r : Read A} {x : Refusal} → r ≡ bad x → Opened.Bad x ≡ announced (place r) kids
+-- after a field that an answer tells
+pub after : {tree : List ℕ} {field : Refusal → Reader ℕ} {size most at m : ℕ} {f : rust.Option ℕ} {r : Result (ℕ × ℕ) Refusal} (kids start : ℕ)
+    → Tells tree field size most at f → MatchOption f (r ≡ Err (TreeForm start)) (λ _. r ≡ Ok (m, kids)) → at + size ≡ m → r ≡ announced (place (field (TreeForm start) at)) kids
 unfolding announced place
-announced_bad kids e = sym (ap (λ q. announced (place q) kids) e)
+after {f = None} kids start t q h = q ∙ sym (ap (λ x. announced (place x) kids) (t.no refl (TreeForm start)))
+after {f = Some n} kids start t q h = q ∙ ap (λ (k : ℕ). Ok (k, kids)) (sym h) ∙ sym (ap (λ x. announced (place x) kids) (t.is n refl (TreeForm start)))
 
-pub announced_at : {A : Type 0} (kids : ℕ) {r : Read A} {a : A} {n m : ℕ} → r ≡ got a n → n ≡ m → Opened.Exprs m kids ≡ announced (place r) kids
-unfolding announced place
-announced_at kids e h = ap (λ (k : ℕ). Opened.Exprs k kids) (sym h) ∙ sym (ap (λ q. announced (place q) kids) e)
-
-pub step_bad : (kids : ℕ) {s t : Step} {x : Refusal} → s ≡ t → s ≡ Step.Bad x → Opened.Bad x ≡ announced t kids
+pub step_bad : (kids : ℕ) {s t : Result ℕ Refusal} {x : Refusal} → s ≡ t → s ≡ Err x → Err x ≡ announced t kids
 unfolding announced
 step_bad kids p e = sym (ap (λ q. announced q kids) (sym p ∙ e))
 
-pub step_at : (kids : ℕ) {s t : Step} {n : ℕ} → s ≡ t → s ≡ Step.At n → Opened.Exprs n kids ≡ announced t kids
+pub step_at : (kids : ℕ) {s t : Result ℕ Refusal} {n : ℕ} → s ≡ t → s ≡ Ok n → Ok (n, kids) ≡ announced t kids
 unfolding announced
 step_at kids p e = sym (ap (λ q. announced q kids) (sym p ∙ e))
 
-pub callee_bad : {r : Read ℕ} {x : Refusal} → r ≡ bad x → Opened.Bad x ≡ with_callee r
+pub callee_bad : {r : Read ℕ} {x : Refusal} → r ≡ bad x → Err x ≡ with_callee r
 unfolding with_callee
 callee_bad e = sym (ap with_callee e)
 
-pub callee_at : {r : Read ℕ} {count n m : ℕ} → r ≡ got count n → n ≡ m → Opened.Exprs m (count + 1) ≡ with_callee r
+pub callee_at : {r : Read ℕ} {count n m : ℕ} → r ≡ got count n → n ≡ m → Ok (m, count + 1) ≡ with_callee r
 unfolding with_callee
-callee_at {count = count} e h = ap (λ (k : ℕ). Opened.Exprs k (count + 1)) (sym h) ∙ sym (ap with_callee e)
+callee_at {count = count} e h = ap (λ (k : ℕ). Ok (k, count + 1)) (sym h) ∙ sym (ap with_callee e)
 
-follow_announced : (one : ℕ → Step) (s : Step) (k : ℕ) → and_then s (row one k) ≡ follow one (announced s k)
+follow_announced : (one : ℕ → Result ℕ Refusal) (s : Result ℕ Refusal) (k : ℕ) → and_then s (row one k) ≡ follow one (announced s k)
 unfolding follow announced and_then
-follow_announced one (Step.At n) k = refl
-follow_announced one (Step.Bad r) k = refl
+follow_announced one (Ok n) k = refl
+follow_announced one (Err r) k = refl
 
 module _ (tree : List ℕ) (names : ℕ) (expr : Reader Expr) (fault : Refusal) (s : Span) (at : ℕ) where
   assign_place : place (assign_fields tree names expr fault s at) ≡ and_then (place (name tree names fault at)) (row (λ n. place (expr n)) 1)
@@ -131,10 +130,10 @@ module _ (tree : List ℕ) (names : ℕ) (expr : Reader Expr) (fault : Refusal) 
 
 -- ## By the mark
 
-by : {r : Opened} (one : ℕ → Step) (s : Step) (kids : ℕ) {x : Step} → x ≡ and_then s (row one kids) → r ≡ announced s kids → x ≡ follow one r
+by : {r : Result (ℕ × ℕ) Refusal} (one : ℕ → Result ℕ Refusal) (s : Result ℕ Refusal) (kids : ℕ) {x : Result ℕ Refusal} → x ≡ and_then s (row one kids) → r ≡ announced s kids → x ≡ follow one r
 by one s kids p e = p ∙ follow_announced one s kids ∙ ap (follow one) (sym e)
 
-module _ (tree : List ℕ) (names start : ℕ) {mark : ℕ} {r : Opened} where
+module _ (tree : List ℕ) (names start : ℕ) {mark : ℕ} {r : Result (ℕ × ℕ) Refusal} where
   announce : (code : ℕ) (kind : ExprMark) → lookup code expr_marks ≡ some kind → mark ≡ code
       → ((expr : Reader Expr) (s : Span) → place (expr_fields tree names expr (TreeForm start) kind s (start + 10)) ≡ follow (λ n. place (expr n)) r)
       → Announces tree names mark start r
@@ -205,14 +204,14 @@ module _ (tree : List ℕ) (names start : ℕ) {mark : ℕ} {r : Opened} where
 
 -- ## A record
 
-bad_opened : {x : Refusal} {from count : ℕ} → ◌≡◌ {A = Opened} (Opened.Bad x) (Opened.Exprs from count) → ⊥
+bad_opened : {x : Refusal} {from count : ℕ} → ◌≡◌ {A = Result (ℕ × ℕ) Refusal} (Err x) (Ok (from, count)) → ⊥
 bad_opened e = let z : ◌≡◌ {A = ℕ} 0 1 = cc in omega arith
 
 module _ (tree : List ℕ) (names : ℕ) where
-  pub no_expr : (depth at : ℕ) {m : ℕ} → m ≡ known_mark expr_marks tree at → m ≡ 0 → read_expr tree names depth at ≡ bad (TreeForm at)
+  pub no_expr : (depth at : ℕ) → known_mark expr_marks tree at ≡ None → read_expr tree names depth at ≡ bad (TreeForm at)
   unfolding read_expr expr_record expr_mark ◌>>=◌ here go_on lookup expr_marks
-  no_expr zero at e z = then_bad _ (known_none expr_marks tree at refl e z (TreeForm at))
-  no_expr (suc depth) at e z = then_bad _ (known_none expr_marks tree at refl e z (TreeForm at))
+  no_expr zero at e = then_bad _ (known_none expr_marks tree at e (TreeForm at))
+  no_expr (suc depth) at e = then_bad _ (known_none expr_marks tree at e (TreeForm at))
 
   pub deep_expr : (depth at : ℕ) {m : ℕ} → Marked expr_marks tree at m → depth ≡ 0 → read_expr tree names depth at ≡ bad (TreeTooDeep at)
   unfolding read_expr expr_mark ◌>>=◌ here go_on refuse
@@ -236,11 +235,11 @@ module _ (tree : List ℕ) (names : ℕ) where
       ap (expr_fields tree names (read_expr tree names depth) (TreeForm at) k.kind (span_of tree (at + 2))) q ∙
       sym (ap (λ (d : ℕ). expr_fields tree names (read_expr tree names d) (TreeForm at) k.kind (span_of tree (at + 2)) (at + 10)) p)
 
-  pub opens_bad : (depth at : ℕ) {x : Refusal} → read_expr tree names depth at ≡ bad x → Opens tree names depth at (Opened.Bad x)
+  pub opens_bad : (depth at : ℕ) {x : Refusal} → read_expr tree names depth at ≡ bad x → Opens tree names depth at (Err x)
   unfolding place follow
   opens_bad depth at e = record { whole = ap place e; room = λ from count q. absurd (bad_opened q) }
 
-  pub opens_kids : (depth at : ℕ) {m : ℕ} {r : Opened} → Marked expr_marks tree at m → (depth ≡ 0 → ⊥) → at + 10 ≤ length tree
+  pub opens_kids : (depth at : ℕ) {m : ℕ} {r : Result (ℕ × ℕ) Refusal} → Marked expr_marks tree at m → (depth ≡ 0 → ⊥) → at + 10 ≤ length tree
       → Announces tree names m at r → Opens tree names depth at r
   opens_kids depth at k z h a =
       record {
@@ -265,7 +264,7 @@ module _ (tree : List ℕ) (names : ℕ) (fault : Refusal) (s : Span) (at : ℕ)
   unfolding literal_fields ◌>>=◌
   literal_no e = then_bad _ ((alike tree full_kinds fault at).no e)
 
-  pub literal_plain : (kind : ℕ) → below tree 5 fault at ≡ got kind (at + 1) → kind < 3 → place (literal_fields tree names fault s at) ≡ Step.At (at + 1)
+  pub literal_plain : (kind : ℕ) → below tree 5 fault at ≡ got kind (at + 1) → kind < 3 → place (literal_fields tree names fault s at) ≡ Ok (at + 1)
   unfolding literal_fields ◌>>=◌ go_on lookup literal_kinds literal_of return place
   literal_plain zero e h = ap place (then_on _ ((alike tree full_kinds fault at).is e refl))
   literal_plain (suc zero) e h = ap place (then_on _ ((alike tree full_kinds fault at).is e refl))

@@ -1,17 +1,18 @@
 -- Names: the order of two texts as a walk over both, the bytes of a text, and one law for each way out of a name's record.
 use mathlib.Core.Path.{◌≡◌, refl, sym, ap, ◌∙◌}
-use mathlib.Core.Bool.{Bool, true, false}
-use mathlib.Core.Option.{Option, some}
+use mathlib.Core.Bool.{Bool, true, false, not}
+use mathlib.Core.Option.{Option, none, some}
 use mathlib.Core.List.{List, ◌∷◌, []}
 use Prim.Native.Nat.{ℕ, zero, suc, ◌+◌, ◌-◌, ◌≤◌, ◌<◌}
 use native.Mathlib.Omega.{arith}
 use native.Mathlib.Numerals.{add-one}
-use lib.ListN.{length, get_or, take, drop, drop_of_length-le}
+use lib.ListN.{length, get_or, take, drop}
 use lib.Seq.{drop-cons}
-use lib.Dec.{ltb, leb, eqb}
-use borrow.Author.Tests.{lt-ltb, le-ltb, ltb-true, ltb-false, leb-true, leb-false, eqb-true, eqb-false}
+use lib.Dec.{leb, eqb}
+use borrow.Author.Tests.{leb-true, leb-false, eqb-true, eqb-false}
 use Rattle.rules.specs.Base.{before, all}
-use Rattle.std.specs.Prelude.{if◌then◌else◌}
+use Rattle.std.specs.Prelude as rust
+use Rattle.std.specs.Prelude.{if◌then◌else◌, None, Some, Result, Ok, Err}
 use Rattle.rules.specs.declared.Refusal.{Refusal}
 use Rattle.rules.specs.declared.Refusal.TheVariants.{TreeForm}
 use Rattle.rules.specs.Reader.{Read, got, bad, Reader, go_on, ◌>>=◌, ◌>>◌, return, here, need, u8, many}
@@ -19,37 +20,28 @@ use Rattle.rules.specs.TreeFile.{fixed_names, rises, differs, read_name, read_na
 use Rattle.fields.specs.Words.{word16, letters}
 use Rattle.fields.proofs.Reading.{a_u8, a_u16, then_on, then_bad, mark_is_it, mark_is_not, mark_is_cut, moved}
 use Rattle.tree_small.specs.Places.{place}
-use Rattle.tree_names.specs.Names.{text, last_name, NameRead}
-use Rattle.tree_small.specs.declared.Step.{Step}
+use Rattle.tree_names.specs.Names.{text, last_name, LastFits, NameRead}
+use Rattle.std.specs.Cmp.Lexicographic.{pointwise, slice_partial_cmp}
+use Rattle.std.specs.Ordering.{is_some_and, is_lt, nat_cmp}
+use Rattle.std.specs.Prelude.{nat_eq}
+use Rattle.std.proofs.lemmas.Bool.Decides.{nat_tests}
+use Rattle.std.proofs.lemmas.Cmp.{same_from_slice_cmp_tested}
 use Rattle.fields.specs.Marks as marks
 
--- ## Two texts, from a place on
+-- ## Two texts
 
-module _ (a b : List ℕ) (i : ℕ) where
-  before_end_if : (t : Bool) → ltb i (length b) ≡ t → length a ≤ i → before (drop i a) (drop i b) ≡ t
-  unfolding before
-  before_end_if true e h = rw (drop_of_length-le a h, drop-cons b i 0 (ltb-true i (length b) e))
-  before_end_if false e h = rw (drop_of_length-le a h, drop_of_length-le b (ltb-false i (length b) e))
+-- the library's order of slices is the rules'
+pub before_is : (a b : List ℕ) (r : Bool) → r ≡ is_some_and is_lt (slice_partial_cmp (λ x y. Some (nat_cmp x y)) a b) → r ≡ before a b
+unfolding before
+before_is = same_from_slice_cmp_tested nat_cmp is_lt before refl (λ y ys. refl) (λ x xs. refl) (λ x y xs ys o e. grind (arith, nat_tests))
 
-  -- the first text has ended
-  pub before_end : length a ≤ i → before (drop i a) (drop i b) ≡ ltb i (length b)
-  before_end h = before_end_if _ refl h
-
-  pub before_out : i < length a → length b ≤ i → before (drop i a) (drop i b) ≡ false
-  unfolding before
-  before_out h g = rw (drop-cons a i 0 h, drop_of_length-le b g)
-
-  pub before_less : i < length a → i < length b → get_or a i 0 < get_or b i 0 → before (drop i a) (drop i b) ≡ true
-  unfolding before
-  before_less h g l = rw (drop-cons a i 0 h, drop-cons b i 0 g, lt-ltb (get_or a i 0) (get_or b i 0) l)
-
-  pub before_more : i < length a → i < length b → get_or b i 0 < get_or a i 0 → before (drop i a) (drop i b) ≡ false
-  unfolding before
-  before_more h g l = rw (drop-cons a i 0 h, drop-cons b i 0 g, le-ltb (get_or a i 0) (get_or b i 0) (omega arith), lt-ltb (get_or b i 0) (get_or a i 0) l)
-
-  pub before_same : i < length a → i < length b → get_or b i 0 ≤ get_or a i 0 → get_or a i 0 ≤ get_or b i 0 → before (drop (i + 1) a) (drop (i + 1) b) ≡ before (drop i a) (drop i b)
-  unfolding before
-  before_same h g l m = rw (drop-cons a i 0 h, drop-cons b i 0 g, le-ltb (get_or a i 0) (get_or b i 0) l, le-ltb (get_or b i 0) (get_or a i 0) m, add-one i)
+-- and its equality
+pub differs_is : (x a b : List ℕ) → not (pointwise nat_eq a b) ≡ differs x a b
+unfolding differs before
+differs_is x [] [] = refl
+differs_is x [] (c ∷ b) = refl
+differs_is x (c ∷ a) [] = refl
+differs_is x (c ∷ a) (d ∷ b) = grind (arith, nat_tests, differs_is x a b)
 
 -- ## The bytes of a text
 
@@ -114,16 +106,14 @@ fixed_in x y t = refl
 
 -- ## The name before
 
-module _ (tree : List ℕ) (end : ℕ) (t : List ℕ) where
-  pub above_none : (last : ℕ) → last ≡ 0 → rises tree (last_name tree last end) t ≡ true
+module _ (tree : List ℕ) (end : ℕ) (t : List ℕ) {last : rust.Option ℕ} where
+  pub above_none : last ≡ None → true ≡ rises tree (last_name tree last end) t
   unfolding rises last_name
-  above_none zero h = refl
-  above_none (suc last) h = absurd (omega arith)
+  above_none h = rw h
 
-  pub above_some : (last : ℕ) → (last ≡ 0 → ⊥) → rises tree (last_name tree last end) t ≡ before (take (end - (last + 4)) (drop (last + 4) tree)) t
+  pub above_some : {start : ℕ} → last ≡ Some start → before (take (end - (start + 4)) (drop (start + 4) tree)) t ≡ rises tree (last_name tree last end) t
   unfolding rises last_name text
-  above_some zero h = absurd (h refl)
-  above_some (suc last) h = refl
+  above_some h = rw h
 
 -- ## A name's record
 
@@ -188,10 +178,10 @@ module _ (tree : List ℕ) (last : Option (List ℕ)) (at : ℕ) where
     unfolding need ◌>>◌ go_on return
     name_is l r f = texted l ∙ rw (r, f)
 
-pub bad_at : {x : Refusal} {n : ℕ} → ◌≡◌ {A = Step} (Step.Bad x) (Step.At n) → ⊥
+pub bad_at : {x : Refusal} {n : ℕ} → ◌≡◌ {A = Result ℕ Refusal} (Err x) (Ok n) → ⊥
 bad_at e = let z : ◌≡◌ {A = ℕ} 0 1 = cc in omega arith
 
-pub read_bad : (tree : List ℕ) (last at : ℕ) {x : Refusal} → read_name tree (last_name tree last at) at ≡ bad x → NameRead tree last at (Step.Bad x)
+pub read_bad : (tree : List ℕ) (last : rust.Option ℕ) (at : ℕ) {x : Refusal} → read_name tree (last_name tree last at) at ≡ bad x → NameRead tree last at (Err x)
 unfolding place
 read_bad tree last at e =
     record {
@@ -201,8 +191,8 @@ read_bad tree last at e =
       bound = λ n q. absurd (bad_at q);
     }
 
-pub read_good : (tree : List ℕ) (last at next : ℕ) → read_name tree (last_name tree last at) at ≡ got (text tree (at + 4) next) next → at + 4 ≤ next → next ≤ length tree
-    → NameRead tree last at (Step.At next)
+pub read_good : (tree : List ℕ) (last : rust.Option ℕ) (at next : ℕ) → read_name tree (last_name tree last at) at ≡ got (text tree (at + 4) next) next → at + 4 ≤ next → next ≤ length tree
+    → NameRead tree last at (Ok next)
 unfolding place
 read_good tree last at next e s b =
     record {
@@ -214,31 +204,54 @@ read_good tree last at next e s b =
 
 -- ## Names in a row
 
-pub last_some : (tree : List ℕ) (last end : ℕ) → 0 < last → last_name tree last end ≡ some (text tree (last + 4) end)
-unfolding last_name
-last_some tree zero end h = absurd (omega arith)
-last_some tree (suc last) end h = refl
-
-module _ (tree : List ℕ) where
-  pub names_none : (left : ℕ) (last : Option (List ℕ)) (at : ℕ) → left ≤ 0 → place (read_names tree left last at) ≡ Step.At at
-  unfolding read_names return place
-  names_none zero last at h = refl
-  names_none (suc left) last at h = absurd (omega arith)
-
-  pub names_stop : (left : ℕ) (last : Option (List ℕ)) (at : ℕ) {x : Refusal} → 0 < left → read_name tree last at ≡ bad x → place (read_names tree left last at) ≡ Step.Bad x
-  unfolding read_names ◌>>=◌ place
-  names_stop zero last at h e = absurd (omega arith)
-  names_stop (suc left) last at h e = ap place (then_bad _ e)
-
-  pub names_go : (left : ℕ) (last : Option (List ℕ)) (at : ℕ) {t : List ℕ} {n : ℕ} → 0 < left → read_name tree last at ≡ got t n
-      → place (read_names tree (left - 1) (some t) n) ≡ place (read_names tree left last at)
-  unfolding read_names ◌>>=◌ place
-  names_go zero last at h e = absurd (omega arith)
-  names_go (suc left) last at {t} {n} h e =
-      let q : suc left - 1 ≡ left = omega arith in
-      ap (λ (k : ℕ). place (read_names tree k (some t) n)) q ∙ sym (ap place (then_on _ e))
-
-pub was_bad : {A : Type 0} (r : Read A) {s : Step} {x : Refusal} → s ≡ place r → s ≡ Step.Bad x → r ≡ bad x
+pub was_bad : {A : Type 0} (r : Read A) {s : Result ℕ Refusal} {x : Refusal} → s ≡ place r → s ≡ Err x → r ≡ bad x
 unfolding place
 was_bad (got a n) p q = absurd (bad_at (sym q ∙ p))
-was_bad (bad y) {s} {x} p q = let z : Step.Bad y ≡ Step.Bad x = sym p ∙ q in cc
+was_bad (bad y) {s} {x} p q = let z : Err y ≡ Err x = sym p ∙ q in cc
+
+-- a loop over names after `done` of its `count` turns: what is left from `next` on comes to the whole from `at` on
+pub record NamesLeft (tree : List ℕ) (count done : ℕ) (last : rust.Option ℕ) (next at : ℕ) : Type 0 where
+  pub is : place (read_names tree (count - done) (last_name tree last next) next) ≡ place (read_names tree count none at)
+  pub fits : LastFits tree last next
+
+names_some : (tree : List ℕ) (left : ℕ) (last : Option (List ℕ)) (at : ℕ) → 0 < left
+    → read_names tree left last at ≡ go_on (read_name tree last at) (λ text. read_names tree (left - 1) (some text))
+unfolding read_names ◌>>=◌
+names_some tree zero last at h = absurd (omega arith)
+names_some tree (suc left) last at h = let q : suc left - 1 ≡ left = omega arith in rw q
+
+names_none : (tree : List ℕ) (left : ℕ) (last : Option (List ℕ)) (at : ℕ) → left ≤ 0 → place (read_names tree left last at) ≡ Ok at
+unfolding read_names return place
+names_none tree zero last at h = refl
+names_none tree (suc left) last at h = absurd (omega arith)
+
+pub names_begin : {tree : List ℕ} {count at : ℕ} → at ≤ length tree → NamesLeft tree count 0 None at at
+unfolding last_name
+names_begin {tree} {count} {at} h =
+    let q : count - 0 ≡ count = omega arith in
+    record {
+      is = ap (λ (k : ℕ). place (read_names tree k none at)) q;
+      fits = record { start = λ n e. let z : ◌≡◌ {A = ℕ} 0 1 = cc in absurd (omega arith); bound = h };
+    }
+
+module _ {tree : List ℕ} {count done : ℕ} {last : rust.Option ℕ} {next at : ℕ} (left : NamesLeft tree count done last next at) where
+  pub names_stop : {x : Refusal} → done < count → NameRead tree last next (Err x) → Err x ≡ place (read_names tree count none at)
+  unfolding place
+  names_stop {x} h r =
+      let q : read_name tree (last_name tree last next) next ≡ bad x = was_bad _ r.whole refl in
+      sym (ap place (names_some tree (count - done) (last_name tree last next) next (omega arith) ∙ then_bad _ q)) ∙ left.is
+
+  pub names_go : {past : ℕ} → done < count → NameRead tree last next (Ok past) → NamesLeft tree count (done + 1) (Some next) past at
+  unfolding last_name
+  names_go {past} h r =
+      let q : count - done - 1 ≡ count - (done + 1) = omega arith in
+      let b : next + 4 ≤ past = r.start past refl in
+      record {
+        is =
+            sym (ap place (names_some tree (count - done) (last_name tree last next) next (omega arith) ∙ then_on _ (r.is past refl)) ∙
+            ap (λ (k : ℕ). place (read_names tree k (some (text tree (next + 4) past)) past)) q) ∙ left.is;
+        fits = record { start = λ n e. let y : next ≡ n = cc in omega arith; bound = r.bound past refl };
+      }
+
+  pub names_end : count ≤ done → Ok next ≡ place (read_names tree count none at)
+  names_end h = sym (names_none tree (count - done) (last_name tree last next) next (omega arith)) ∙ left.is

@@ -17,10 +17,7 @@ use Rattle.fields.specs.Words.{word8, word16}
 use Rattle.fields.proofs.Reading as Fields
 use Rattle.fields.proofs.Reading.{a_u8, a_u16, then_on, then_bad}
 use Rattle.tree_small.specs.Places.{place, and_then, row, below, Tells}
-use Rattle.tree_small.specs.declared.Step.{Step}
-use Rattle.tree_small.specs.declared.Step.TheVariants.{At, Bad}
-use Rattle.tree_small.specs.declared.Field.{Field}
-use Rattle.tree_small.specs.declared.Field.TheVariants.{Is, No}
+use Rattle.std.specs.Prelude.{Option, Some, None, Result, Ok, Err}
 
 -- a test of `has`
 pub cut : {t : Bool} {a b : ℕ} → t ≡ leb a b → not t ≡ true → b < a
@@ -31,16 +28,16 @@ there {t} {a} {b} e n = leb-true a b (sym e ∙ not-false t n)
 
 -- ## One step and then others
 
-pub goes : {s : Step} (f : ℕ → Step) {n : ℕ} → s ≡ At n → and_then s f ≡ f n
+pub goes : {s : Result ℕ Refusal} (f : ℕ → Result ℕ Refusal) {n : ℕ} → s ≡ Ok n → and_then s f ≡ f n
 unfolding and_then
 goes f e = ap (λ x. and_then x f) e
 
-pub stops : {s : Step} (f : ℕ → Step) {r : Refusal} → s ≡ Bad r → and_then s f ≡ Bad r
+pub stops : {s : Result ℕ Refusal} (f : ℕ → Result ℕ Refusal) {r : Refusal} → s ≡ Err r → and_then s f ≡ Err r
 unfolding and_then
 stops f e = ap (λ x. and_then x f) e
 
 -- where a reader that goes on gets to
-pub chain : {A B : Type 0} (r : Read A) (f : A → Reader B) (g : ℕ → Step) → ((a : A) (n : ℕ) → place (f a n) ≡ g n) → place (go_on r f) ≡ and_then (place r) g
+pub chain : {A B : Type 0} (r : Read A) (f : A → Reader B) (g : ℕ → Result ℕ Refusal) → ((a : A) (n : ℕ) → place (f a n) ≡ g n) → place (go_on r f) ≡ and_then (place r) g
 unfolding place and_then go_on
 chain (got a n) f g h = h a n
 chain (bad x) f g h = refl
@@ -51,35 +48,48 @@ unfolding place go_on return
 made (got a n) f = refl
 made (bad x) f = refl
 
-pub and_then_same : (s : Step) (f g : ℕ → Step) → ((n : ℕ) → f n ≡ g n) → and_then s f ≡ and_then s g
+pub and_then_same : (s : Result ℕ Refusal) (f g : ℕ → Result ℕ Refusal) → ((n : ℕ) → f n ≡ g n) → and_then s f ≡ and_then s g
 unfolding and_then
-and_then_same (At n) f g h = h n
-and_then_same (Bad r) f g h = refl
+and_then_same (Ok n) f g h = h n
+and_then_same (Err r) f g h = refl
 
-pub and_then_end : (s : Step) → and_then s At ≡ s
+pub and_then_end : (s : Result ℕ Refusal) → and_then s Ok ≡ s
 unfolding and_then
-and_then_end (At n) = refl
-and_then_end (Bad r) = refl
+and_then_end (Ok n) = refl
+and_then_end (Err r) = refl
 
 -- ## A row
 
-pub row_none : (one : ℕ → Step) (left at : ℕ) → left ≤ 0 → row one left at ≡ At at
+pub row_none : (one : ℕ → Result ℕ Refusal) (left at : ℕ) → left ≤ 0 → row one left at ≡ Ok at
 unfolding row
 row_none one zero at h = refl
 row_none one (suc left) at h = absurd (omega arith)
 
-pub row_some : (one : ℕ → Step) (left at : ℕ) → 0 < left → row one left at ≡ and_then (one at) (row one (left - 1))
+pub row_some : (one : ℕ → Result ℕ Refusal) (left at : ℕ) → 0 < left → row one left at ≡ and_then (one at) (row one (left - 1))
 unfolding row
 row_some one zero at h = absurd (omega arith)
 row_some one (suc left) at h = let e : suc left - 1 ≡ left = omega arith in rw e
 
-pub row_stops : (one : ℕ → Step) (left at : ℕ) {r : Refusal} → 0 < left → one at ≡ Bad r → row one left at ≡ Bad r
-row_stops one left at h e = row_some one left at h ∙ stops (row one (left - 1)) e
+-- a loop over a row after `done` of its `count` turns: what is left from `next` on comes to the whole from `at` on
+pub record RowLeft (one : ℕ → Result ℕ Refusal) (count done next at : ℕ) : Type 0 where
+  pub is : row one (count - done) next ≡ row one count at
 
-pub row_goes : (one : ℕ → Step) (left at : ℕ) {n : ℕ} → 0 < left → one at ≡ At n → row one left at ≡ row one (left - 1) n
-row_goes one left at h e = row_some one left at h ∙ goes (row one (left - 1)) e
+pub row_begins : {one : ℕ → Result ℕ Refusal} {count at : ℕ} → RowLeft one count 0 at at
+row_begins {one} {count} {at} = let q : count - 0 ≡ count = omega arith in record { is = ap (λ (k : ℕ). row one k at) q }
 
-pub row_one : (one : ℕ → Step) (at : ℕ) → row one 1 at ≡ one at
+module _ {one : ℕ → Result ℕ Refusal} {count done next at : ℕ} (left : RowLeft one count done next at) where
+  pub row_stops : {r : Refusal} → done < count → one next ≡ Err r → Err r ≡ row one count at
+  row_stops h e = sym (row_some one (count - done) next (omega arith) ∙ stops (row one (count - done - 1)) e) ∙ left.is
+
+  pub row_goes : {n : ℕ} → done < count → one next ≡ Ok n → RowLeft one count (done + 1) n at
+  row_goes {n} h e =
+      let q : count - done - 1 ≡ count - (done + 1) = omega arith in
+      record { is = sym (row_some one (count - done) next (omega arith) ∙ goes (row one (count - done - 1)) e ∙ ap (λ (k : ℕ). row one k n) q) ∙ left.is }
+
+  pub row_ends : count ≤ done → Ok next ≡ row one count at
+  row_ends h = sym (row_none one (count - done) next (omega arith)) ∙ left.is
+
+pub row_one : (one : ℕ → Result ℕ Refusal) (at : ℕ) → row one 1 at ≡ one at
 unfolding row
 row_one one at = and_then_end (one at)
 
@@ -111,7 +121,7 @@ pub many_row : {A : Type 0} (one : Reader A) (k at : ℕ) → place (many k one 
 unfolding many ◌>>=◌ return
 many_row one k at = in_a_row one (λ j. many j one) _ ◌∷◌ (λ n. refl) (λ j n. refl) k at
 
-pub maybe_no : {A : Type 0} (one : Reader A) (at : ℕ) → place (maybe false one at) ≡ At at
+pub maybe_no : {A : Type 0} (one : Reader A) (at : ℕ) → place (maybe false one at) ≡ Ok at
 unfolding maybe return place
 maybe_no one at = refl
 
@@ -121,7 +131,7 @@ maybe_yes one at = made (one at) some
 
 -- ## Fields
 
-pub tells_no : {tree : List ℕ} {field : Refusal → Reader ℕ} {size most at : ℕ} → ((fault : Refusal) → field fault at ≡ bad fault) → Tells tree field size most at No
+pub tells_no : {tree : List ℕ} {field : Refusal → Reader ℕ} {size most at : ℕ} → ((fault : Refusal) → field fault at ≡ bad fault) → Tells tree field size most at None
 tells_no h =
     record {
       no = λ e. h;
@@ -130,11 +140,11 @@ tells_no h =
       small = λ n e. let z : ◌≡◌ {A = ℕ} 0 1 = cc in absurd (omega arith);
     }
 
-same_is : {m n : ℕ} → ◌≡◌ {A = Field} (Is m) (Is n) → m ≡ n
+same_is : {m n : ℕ} → ◌≡◌ {A = Option ℕ} (Some m) (Some n) → m ≡ n
 same_is e = cc
 
 pub tells_is : {tree : List ℕ} {field : Refusal → Reader ℕ} {size most at n : ℕ} → ((fault : Refusal) → field fault at ≡ got n (at + size))
-    → at + size ≤ length tree → n < most → Tells tree field size most at (Is n)
+    → at + size ≤ length tree → n < most → Tells tree field size most at (Some n)
 tells_is {field = field} {size} {most} {at} {n} h b s =
     record {
       no = λ e. let z : ◌≡◌ {A = ℕ} 0 1 = cc in absurd (omega arith);
@@ -148,17 +158,17 @@ abbrev bounded : (Refusal → Reader ℕ) → (most : ℕ) → Refusal → Reade
 bounded field most fault = field fault >>= λ n. need (ltb n most) fault >> return n
 
 module _ (tree : List ℕ) {field : Refusal → Reader ℕ} {size : ℕ} {value : ℕ → ℕ} (one : Fields.Field tree field size value) (most at : ℕ) where
-  bounded_cut : length tree < at + size → Tells tree (bounded field most) size most at No
+  bounded_cut : length tree < at + size → Tells tree (bounded field most) size most at None
   unfolding ◌>>=◌
   bounded_cut h = tells_no λ fault. then_bad (λ n. need (ltb n most) fault >> return n) (one.short fault at h)
 
-  bounded_big : at + size ≤ length tree → most ≤ value at → Tells tree (bounded field most) size most at No
+  bounded_big : at + size ≤ length tree → most ≤ value at → Tells tree (bounded field most) size most at None
   unfolding ◌>>=◌ ◌>>◌ need go_on
   bounded_big h b =
       tells_no λ fault.
       then_on (λ n. need (ltb n most) fault >> return n) (one.whole fault at h) ∙ rw (le-ltb (value at) most b)
 
-  bounded_is : at + size ≤ length tree → value at < most → Tells tree (bounded field most) size most at (Is (value at))
+  bounded_is : at + size ≤ length tree → value at < most → Tells tree (bounded field most) size most at (Some (value at))
   unfolding ◌>>=◌ ◌>>◌ need go_on return
   bounded_is h b =
       tells_is
@@ -167,36 +177,36 @@ module _ (tree : List ℕ) {field : Refusal → Reader ℕ} {size : ℕ} {value 
       b
 
 module _ (tree : List ℕ) where
-  pub byte_cut : (most at : ℕ) → length tree < at + 1 → Tells tree (below tree most) 1 most at No
+  pub byte_cut : (most at : ℕ) → length tree < at + 1 → Tells tree (below tree most) 1 most at None
   unfolding below
   byte_cut = bounded_cut tree (a_u8 tree)
 
-  pub byte_big : (most at : ℕ) → at + 1 ≤ length tree → most ≤ word8 tree at → Tells tree (below tree most) 1 most at No
+  pub byte_big : (most at : ℕ) → at + 1 ≤ length tree → most ≤ word8 tree at → Tells tree (below tree most) 1 most at None
   unfolding below
   byte_big = bounded_big tree (a_u8 tree)
 
-  pub byte_is : (most at : ℕ) → at + 1 ≤ length tree → word8 tree at < most → Tells tree (below tree most) 1 most at (Is (word8 tree at))
+  pub byte_is : (most at : ℕ) → at + 1 ≤ length tree → word8 tree at < most → Tells tree (below tree most) 1 most at (Some (word8 tree at))
   unfolding below
   byte_is = bounded_is tree (a_u8 tree)
 
-  pub count_cut : (at : ℕ) → length tree < at + 2 → Tells tree (u16 tree) 2 65536 at No
+  pub count_cut : (at : ℕ) → length tree < at + 2 → Tells tree (u16 tree) 2 65536 at None
   count_cut at h = tells_no λ fault. (a_u16 tree).short fault at h
 
-  pub count_is : (at : ℕ) → at + 2 ≤ length tree → word16 tree at < 65536 → Tells tree (u16 tree) 2 65536 at (Is (word16 tree at))
+  pub count_is : (at : ℕ) → at + 2 ≤ length tree → word16 tree at < 65536 → Tells tree (u16 tree) 2 65536 at (Some (word16 tree at))
   count_is at h b = tells_is (λ fault. (a_u16 tree).whole fault at h) h b
 
-  pub name_cut : (names at : ℕ) → length tree < at + 2 → Tells tree (name tree names) 2 (4 + names) at No
+  pub name_cut : (names at : ℕ) → length tree < at + 2 → Tells tree (name tree names) 2 (4 + names) at None
   unfolding name
   name_cut names at h = bounded_cut tree (a_u16 tree) (4 + names) at h
 
-  pub name_big : (names at : ℕ) → at + 2 ≤ length tree → 4 + names ≤ word16 tree at → Tells tree (name tree names) 2 (4 + names) at No
+  pub name_big : (names at : ℕ) → at + 2 ≤ length tree → 4 + names ≤ word16 tree at → Tells tree (name tree names) 2 (4 + names) at None
   unfolding name
   name_big names at h b = bounded_big tree (a_u16 tree) (4 + names) at h b
 
-  pub name_is : (names at : ℕ) → at + 2 ≤ length tree → word16 tree at < 4 + names → Tells tree (name tree names) 2 (4 + names) at (Is (word16 tree at))
+  pub name_is : (names at : ℕ) → at + 2 ≤ length tree → word16 tree at < 4 + names → Tells tree (name tree names) 2 (4 + names) at (Some (word16 tree at))
   unfolding name
   name_is names at h b = bounded_is tree (a_u16 tree) (4 + names) at h b
 
 -- an answer that is known
-pub told : {tree : List ℕ} {field : Refusal → Reader ℕ} {size most at : ℕ} {r s : Field} → r ≡ s → Tells tree field size most at s → Tells tree field size most at r
+pub told : {tree : List ℕ} {field : Refusal → Reader ℕ} {size most at : ℕ} {r s : Option ℕ} → r ≡ s → Tells tree field size most at s → Tells tree field size most at r
 told {tree} {field} {size} {most} {at} e h = rw e h

@@ -12,7 +12,8 @@ use borrow.Author.Tests.{lt-ltb, le-ltb, lt-leb, le-leb, leb-true, leb-false, lt
 use types.Run.{OneOf, hit, miss}
 use mir.Val.{has_key}
 use Rattle.rules.specs.Base.{lookup, all, all_below}
-use Rattle.std.specs.Prelude.{if◌then◌else◌}
+use Rattle.std.specs.Prelude as rust
+use Rattle.std.specs.Prelude.{if◌then◌else◌, None, Some}
 use Rattle.rules.specs.declared.Refusal.{Refusal}
 use Rattle.rules.specs.Reader.{got, bad, go_on, ◌>>=◌, ◌>>◌, return, refuse, need, known, one_of, u8, mark}
 use Rattle.rules.specs.TreeFile.{flags, infix_ops, prefix_ops, literal_kinds}
@@ -214,16 +215,19 @@ module _ (tree : List ℕ) where
 
 -- ## The mark of a record
 
+pub none_some : {m : ℕ} → ◌≡◌ {A = rust.Option ℕ} None (Some m) → ⊥
+none_some e = let z : ◌≡◌ {A = ℕ} 0 1 = cc in omega arith
+
 module _ {A : Type 0} (table : List (ℕ × A)) (tree : List ℕ) (at : ℕ) where
-  pub known_cut : length tree < at + 2 → known_mark table tree at ≡ 0
+  pub known_cut : length tree < at + 2 → known_mark table tree at ≡ None
   unfolding known_mark
   known_cut h = rw (lt-leb (at + 2) (length tree) h)
 
-  pub known_is : {m : ℕ} → at + 2 ≤ length tree → m ≡ letters tree at → Row table m → known_mark table tree at ≡ m
+  pub known_is : {m : ℕ} → at + 2 ≤ length tree → m ≡ letters tree at → Row table m → known_mark table tree at ≡ Some m
   unfolding known_mark kept
   known_is {m} h e r = rw (le-leb (at + 2) (length tree) h, ← e, r.is)
 
-  pub known_not : {m : ℕ} → at + 2 ≤ length tree → m ≡ letters tree at → lookup m table ≡ none → known_mark table tree at ≡ 0
+  pub known_not : {m : ℕ} → at + 2 ≤ length tree → m ≡ letters tree at → lookup m table ≡ none → known_mark table tree at ≡ None
   unfolding known_mark kept
   known_not {m} h e r = rw (le-leb (at + 2) (length tree) h, ← e, r)
 
@@ -234,35 +238,32 @@ module _ {A : Type 0} (table : List (ℕ × A)) (tree : List ℕ) (at : ℕ) whe
     pub bound : at + 2 ≤ length tree
     pub letters_are : letters tree at ≡ m
 
-  known_some_if : (t : Bool) (o : Option A) → leb (at + 2) (length tree) ≡ t → lookup (letters tree at) table ≡ o → {m : ℕ} → m ≡ known_mark table tree at → (m ≡ 0 → ⊥) → Marked m
+  known_some_if : (t : Bool) (o : Option A) → leb (at + 2) (length tree) ≡ t → lookup (letters tree at) table ≡ o → {m : ℕ} → known_mark table tree at ≡ Some m → Marked m
   unfolding ◌>>=◌
-  known_some_if true (some a) h l {m} e n =
+  known_some_if true (some a) h l {m} e =
       let w = leb-true _ _ h in
-      let q : m ≡ letters tree at = e ∙ known_is w refl (record { value = a; is = l }) in
+      let p : Some (letters tree at) ≡ Some m = sym (known_is w refl (record { value = a; is = l })) ∙ e in
+      let q : letters tree at ≡ m = cc in
       record {
         kind = a;
-        look = ap (λ (k : ℕ). lookup k table) q ∙ l;
+        look = ap (λ (k : ℕ). lookup k table) (sym q) ∙ l;
         is = λ fault. then_on (one_of fault table) ((a_mark tree).whole fault at w) ∙ one_of_is table (letters tree at) fault (at + 2) l;
         bound = w;
-        letters_are = sym q;
+        letters_are = q;
       }
-  known_some_if true none h l e n = absurd (n (e ∙ known_not (leb-true _ _ h) refl l))
-  known_some_if false o h l e n = absurd (n (e ∙ known_cut (leb-false _ _ h)))
+  known_some_if true none h l e = absurd (none_some (sym (known_not (leb-true _ _ h) refl l) ∙ e))
+  known_some_if false o h l e = absurd (none_some (sym (known_cut (leb-false _ _ h)) ∙ e))
 
-  pub known_some : {m : ℕ} → m ≡ known_mark table tree at → (m ≡ 0 → ⊥) → Marked m
+  pub known_some : {m : ℕ} → known_mark table tree at ≡ Some m → Marked m
   known_some = known_some_if _ _ refl refl
 
-  known_none_if : (t : Bool) (o : Option A) → leb (at + 2) (length tree) ≡ t → lookup (letters tree at) table ≡ o → lookup 0 table ≡ none
-      → 0 ≡ known_mark table tree at → (fault : Refusal) → (mark tree fault >>= one_of fault table) at ≡ bad fault
+  known_none_if : (t : Bool) (o : Option A) → leb (at + 2) (length tree) ≡ t → lookup (letters tree at) table ≡ o
+      → known_mark table tree at ≡ None → (fault : Refusal) → (mark tree fault >>= one_of fault table) at ≡ bad fault
   unfolding ◌>>=◌
-  known_none_if true (some a) h l z e fault =
-      let w = leb-true _ _ h in
-      let q : letters tree at ≡ 0 = sym (known_is w refl (record { value = a; is = l })) ∙ sym e in
-      let y : ◌≡◌ {A = Option A} (some a) none = sym l ∙ ap (λ (k : ℕ). lookup k table) q ∙ z in
-      let x : ◌≡◌ {A = ℕ} 0 1 = cc in absurd (omega arith)
-  known_none_if true none h l z e fault =
+  known_none_if true (some a) h l e fault = absurd (none_some (sym e ∙ known_is (leb-true _ _ h) refl (record { value = a; is = l })))
+  known_none_if true none h l e fault =
       then_on (one_of fault table) ((a_mark tree).whole fault at (leb-true _ _ h)) ∙ one_of_no table (letters tree at) fault (at + 2) l
-  known_none_if false o h l z e fault = then_bad (one_of fault table) ((a_mark tree).short fault at (leb-false _ _ h))
+  known_none_if false o h l e fault = then_bad (one_of fault table) ((a_mark tree).short fault at (leb-false _ _ h))
 
-  pub known_none : {m : ℕ} → lookup 0 table ≡ none → m ≡ known_mark table tree at → m ≡ 0 → (fault : Refusal) → (mark tree fault >>= one_of fault table) at ≡ bad fault
-  known_none z e q = known_none_if _ _ refl refl z (sym q ∙ e)
+  pub known_none : known_mark table tree at ≡ None → (fault : Refusal) → (mark tree fault >>= one_of fault table) at ≡ bad fault
+  known_none = known_none_if _ _ refl refl

@@ -1,27 +1,24 @@
 -- Where a reader of the rules gets to: what it read is left out, and the place after it stays, or the refusal.
-use Rattle.std.proofs.Math.Option.{Option, none, some}
-use Rattle.std.specs.Prelude.{List, ◌≡◌, ℕ, zero, suc, ◌+◌, ◌≤◌, ◌<◌, ltb, leb, length, if◌then◌else◌}
+use Rattle.std.proofs.Math.Option as math
+use Rattle.std.proofs.Math.Option.{none, some}
+use Rattle.std.specs.Prelude.{Option, Some, None, Result, Ok, Err, List, ◌≡◌, ℕ, zero, suc, ◌+◌, ◌≤◌, ◌<◌, ltb, leb, length, if◌then◌else◌}
 use Rattle.rules.specs.Base.{lookup}
 use Rattle.rules.specs.declared.Refusal.{Refusal}
 use Rattle.rules.specs.Reader.{Read, got, bad, Reader, return, need, u8, ◌>>=◌, ◌>>◌}
 use Rattle.fields.specs.Words.{letters}
-use Rattle.tree_small.specs.declared.Step.{Step}
-use Rattle.tree_small.specs.declared.Step.TheVariants.{At, Bad}
-use Rattle.tree_small.specs.declared.Field.{Field}
-use Rattle.tree_small.specs.declared.Field.TheVariants.{Is, No}
 
-unfoldable pub place : {A : Type 0} → Read A → Step
-place (got _ next) = At next
-place (bad r) = Bad r
+unfoldable pub place : {A : Type 0} → Read A → Result ℕ Refusal
+place (got _ next) = Ok next
+place (bad r) = Err r
 
 -- one after the other
-unfoldable pub and_then : Step → (ℕ → Step) → Step
-and_then (At next) f = f next
-and_then (Bad r) f = Bad r
+unfoldable pub and_then : Result ℕ Refusal → (ℕ → Result ℕ Refusal) → Result ℕ Refusal
+and_then (Ok next) f = f next
+and_then (Err r) f = Err r
 
 -- `count` of a kind in a row
-unfoldable pub row : (ℕ → Step) → (count at : ℕ) → Step
-row one zero at = At at
+unfoldable pub row : (ℕ → Result ℕ Refusal) → (count at : ℕ) → Result ℕ Refusal
+row one zero at = Ok at
 row one (suc count) at = and_then (one at) (row one count)
 
 -- a byte below `most`
@@ -32,17 +29,17 @@ below tree most fault = do
   return n
 
 -- what an answer tells of the field at `at`, which the rules read by `field`, has `size` bytes and is below `most`
-pub record Tells (tree : List ℕ) (field : Refusal → Reader ℕ) (size most at : ℕ) (answer : Field) : Type 0 where
-  pub no : answer ≡ No → (fault : Refusal) → field fault at ≡ bad fault
-  pub is : (n : ℕ) → answer ≡ Is n → (fault : Refusal) → field fault at ≡ got n (at + size)
-  pub bound : (n : ℕ) → answer ≡ Is n → at + size ≤ length tree
-  pub small : (n : ℕ) → answer ≡ Is n → n < most
+pub record Tells (tree : List ℕ) (field : Refusal → Reader ℕ) (size most at : ℕ) (answer : Option ℕ) : Type 0 where
+  pub no : answer ≡ None → (fault : Refusal) → field fault at ≡ bad fault
+  pub is : (n : ℕ) → answer ≡ Some n → (fault : Refusal) → field fault at ≡ got n (at + size)
+  pub bound : (n : ℕ) → answer ≡ Some n → at + size ≤ length tree
+  pub small : (n : ℕ) → answer ≡ Some n → n < most
 
--- the letters of a mark that the table has, and 0 for any other
-unfoldable pub kept : {A : Type 0} → Option A → ℕ → ℕ
-kept none mark = 0
-kept (some _) mark = mark
+-- the letters of a mark that the table has, and none for any other
+unfoldable pub kept : {A : Type 0} → math.Option A → ℕ → Option ℕ
+kept none mark = None
+kept (some _) mark = Some mark
 
-unfoldable pub known_mark : {A : Type 0} → List (ℕ × A) → (tree : List ℕ) → (at : ℕ) → ℕ
+unfoldable pub known_mark : {A : Type 0} → List (ℕ × A) → (tree : List ℕ) → (at : ℕ) → Option ℕ
 known_mark table tree at =
-    if leb (at + 2) (length tree) then kept (lookup (letters tree at) table) (letters tree at) else 0
+    if leb (at + 2) (length tree) then kept (lookup (letters tree at) table) (letters tree at) else None

@@ -17,7 +17,7 @@ use Rattle.std.specs.Prelude.{if◌then◌else◌}
 use Rattle.rules.specs.declared.Span.{Span}
 use Rattle.rules.specs.declared.Refusal.{Refusal}
 use Rattle.rules.specs.declared.Refusal.TheVariants.{TreeForm, TreeTooDeep, TooManyOpen}
-use Rattle.rules.specs.Tree.{Expr, Stmt, Stmts, StmtFor, Fun, ◌∷ˢ◌, []ˢ}
+use Rattle.rules.specs.Tree.{Expr, Stmt, Stmts, StmtFor, ◌∷ˢ◌, []ˢ}
 use Rattle.rules.specs.Reader.{Read, got, bad, Reader, go_on, ◌>>=◌, ◌>>◌, return, refuse, here, need, u8, u16, mark_is, many}
 use Rattle.rules.specs.TreeFile.{StmtMark, SB, SC, SE, SF, SI, SO, SP, SR, SV, SW, stmt_marks, flags, flag, name, maybe, maybe_stmt, may_open, read_stmts, read_methods, block_fields}
 use Rattle.rules.specs.TreeFile.{class_fields, expression_fields, fun_fields, if_fields, for_fields, print_fields, return_fields, var_stmt_fields, while_fields, stmt_fields, stmt_mark}
@@ -25,12 +25,12 @@ use Rattle.rules.specs.TreeFile.{stmt_record, method_record, read_expr, read_sup
 use Rattle.fields.specs.Words.{word8, letters, span_of}
 use Rattle.fields.proofs.Reading.{a_u8, a_span, then_on, then_bad, bad_got, mark_is_it, mark_is_not, mark_is_cut}
 use Rattle.tree_small.specs.Places.{place, and_then, row, below, known_mark}
-use Rattle.tree_stmts.specs.Stmts.{method_marks, known_stmt, plain, body_from, stmt_place, kids_place, follow_head, announces, children, BlockKids, ClassKids, FunKids, IfKids, ForKids}
-use Rattle.tree_stmts.specs.Stmts.{ReturnKids, VarKids, StmtKids, StmtOpens}
-use Rattle.tree_small.specs.declared.Step.{Step}
+use Rattle.tree_stmts.specs.Stmts.{method_marks, known_stmt, plain, body_from, stmt_place, kids_place, follow_head, children, ClassKids, FunKids, IfKids, ForKids}
+use Rattle.tree_stmts.specs.Stmts.{ValueKids, VarKids, StmtKids, StmtOpens}
+use Rattle.std.specs.Prelude.{Result, Ok, Err, None, Some}
 use Rattle.tree_stmts.specs.declared.Head.{Head}
 use Rattle.tree_small.proofs.Places.{chain, made, goes, stops, and_then_end, and_then_same, row_one, row_some, stmts_row, methods_row, many_row}
-use Rattle.tree_small.proofs.Tables.{if_true, known_not, outside, Marked, known_some, known_none, known_is, alike, full_flags, below_is, below_big, below_short}
+use Rattle.tree_small.proofs.Tables.{if_true, none_some, known_not, outside, Marked, known_some, known_none, known_is, alike, full_flags, below_is, below_big, below_short}
 use Rattle.fields.specs.Marks as marks
 
 pub moved : {A : Type 0} {a : A} {r : Read A} {n m : ℕ} → r ≡ got a n → n ≡ m → r ≡ got a m
@@ -75,6 +75,12 @@ module _ (tree : List ℕ) (fault : Refusal) (at : ℕ) where
   needs_no : (most : ℕ) {B : Type 0} (k : ℕ → Reader B) → below tree most fault at ≡ bad fault → go_on (u8 tree fault at) (λ p. need (ltb p most) fault >> k p) ≡ bad fault
   needs_no most k e = needs_no_if most k _ _ refl refl e
 
+-- what is made of a thing that comes second ends where it does
+made_inside : {A B C : Type 0} (r : Read A) (f : A → Reader B) (make : A → B → C) → place (go_on r (λ a. f a >>= λ b. return (make a b))) ≡ place (go_on r f)
+unfolding go_on place ◌>>=◌
+made_inside (got a n) f make = made (f a n) (make a)
+made_inside (bad x) f make = refl
+
 maybe_count : {A : Type 0} (one : Reader A) (v at : ℕ) → v < 2 → place (maybe (eqb v 1) one at) ≡ row (λ n. place (one n)) v at
 unfolding maybe return place row ◌>>=◌
 maybe_count one zero at h = refl
@@ -93,17 +99,17 @@ under_two v h = omega arith
 -- ## Announced records
 
 module _ (tree : List ℕ) (names depth : ℕ) where
-  abbrev e_place : ℕ → Step
+  abbrev e_place : ℕ → Result ℕ Refusal
   e_place n = place (read_expr tree names depth n)
 
   plain_place : (at cond body funs : ℕ) (methods : Bool)
-      → follow_head tree names depth (plain at cond body funs methods) ≡ and_then (row e_place cond at) (row (stmt_place tree names depth funs methods) body)
+      → follow_head tree names depth (Ok (plain at cond body funs methods)) ≡ and_then (row e_place cond at) (row (stmt_place tree names depth funs methods) body)
   unfolding follow_head plain kids_place row and_then
   plain_place at cond body funs methods =
       and_then_same (row e_place cond at) _ _ (λ n. and_then_end (row (stmt_place tree names depth funs methods) body n))
 
   -- statements alone
-  plain_stmts : (at body funs : ℕ) (methods : Bool) → follow_head tree names depth (plain at 0 body funs methods) ≡ row (stmt_place tree names depth funs methods) body at
+  plain_stmts : (at body funs : ℕ) (methods : Bool) → follow_head tree names depth (Ok (plain at 0 body funs methods)) ≡ row (stmt_place tree names depth funs methods) body at
   unfolding row and_then
   plain_stmts at body funs methods = plain_place at 0 body funs methods
 
@@ -118,63 +124,48 @@ module _ (tree : List ℕ) (names depth : ℕ) where
 -- ## By kind: what each way out of the fields announces
 
 module _ (tree : List ℕ) (start : ℕ) where
-  pub return_no : below tree 2 (TreeForm start) (start + 10) ≡ bad (TreeForm start) → ReturnKids tree start (Head.Bad (TreeForm start))
-  unfolding return_fields ◌>>=◌ place follow_head
-  return_no e = record { whole = λ names depth s. ap place (then_bad _ (flag_no tree (TreeForm start) (start + 10) e)) }
+  pub value_no : {at : ℕ} → below tree 2 (TreeForm start) at ≡ bad (TreeForm start) → ValueKids tree start at (Err (TreeForm start))
+  unfolding ◌>>=◌ place follow_head
+  value_no {at} e = record { whole = λ names depth. ap place (then_bad _ (flag_no tree (TreeForm start) at e)) }
 
-  pub return_is : {v at : ℕ} → v < 2 → below tree 2 (TreeForm start) (start + 10) ≡ got v at → ReturnKids tree start (Head.Exprs at v)
-  unfolding return_fields ◌>>=◌ follow_head
-  return_is {v} {at} h e =
+  pub value_is : {v at next : ℕ} → v < 2 → below tree 2 (TreeForm start) at ≡ got v next → ValueKids tree start at (Ok (Head.Exprs next v))
+  unfolding ◌>>=◌ follow_head
+  value_is {v} {at} {next} h e =
       record {
-        whole = λ names depth s.
-            ap place (then_on _ (flag_is tree (TreeForm start) (start + 10) v h e)) ∙ made (maybe (eqb v 1) (read_expr tree names depth) at) _ ∙
-            maybe_count (read_expr tree names depth) v at h;
+        whole = λ names depth.
+            ap place (then_on _ (flag_is tree (TreeForm start) at v h e)) ∙ maybe_count (read_expr tree names depth) v next h;
       }
 
+  return_from : {r : Result Head Refusal} → ValueKids tree start (start + 10) r → (names depth : ℕ) (s : Span)
+      → place (return_fields tree names (read_expr tree names depth) (TreeForm start) s (start + 10)) ≡ follow_head tree names depth r
+  unfolding return_fields ◌>>=◌
+  return_from v names depth s = made_inside (flag tree (TreeForm start) (start + 10)) (λ has. maybe has (read_expr tree names depth)) _ ∙ v.whole names depth
+
   module _ (names : ℕ) where
-    pub var_unnamed : name tree names (TreeForm start) (start + 10) ≡ bad (TreeForm start) → VarKids tree names start (Head.Bad (TreeForm start))
+    pub var_unnamed : name tree names (TreeForm start) (start + 10) ≡ bad (TreeForm start) → VarKids tree names start (Err (TreeForm start))
     unfolding var_stmt_fields ◌>>=◌ place follow_head
     var_unnamed e = record { whole = λ depth s. ap place (then_bad _ e) }
 
-    pub var_no : {nm next : ℕ} → name tree names (TreeForm start) (start + 10) ≡ got nm next → below tree 2 (TreeForm start) next ≡ bad (TreeForm start)
-        → VarKids tree names start (Head.Bad (TreeForm start))
-    unfolding var_stmt_fields ◌>>=◌ place follow_head
-    var_no {next = next} e f = record { whole = λ depth s. ap place (then_on _ e ∙ then_bad _ (flag_no tree (TreeForm start) next f)) }
-
-    pub var_is : {nm next v at : ℕ} → name tree names (TreeForm start) (start + 10) ≡ got nm next → v < 2 → below tree 2 (TreeForm start) next ≡ got v at
-        → VarKids tree names start (Head.Exprs at v)
-    unfolding var_stmt_fields ◌>>=◌ follow_head
-    var_is {nm} {next} {v} {at} e h f =
+    pub var_from : {nm next : ℕ} {r : Result Head Refusal} → name tree names (TreeForm start) (start + 10) ≡ got nm next → ValueKids tree start next r
+        → VarKids tree names start r
+    unfolding var_stmt_fields ◌>>=◌
+    var_from {next = next} e v =
         record {
           whole = λ depth s.
-              ap place (then_on _ e ∙ then_on _ (flag_is tree (TreeForm start) next v h f)) ∙ made (maybe (eqb v 1) (read_expr tree names depth) at) _ ∙
-              maybe_count (read_expr tree names depth) v at h;
+              ap place (then_on _ e) ∙ made_inside (flag tree (TreeForm start) next) (λ has. maybe has (read_expr tree names depth)) _ ∙ v.whole names depth;
         }
 
 module _ (tree : List ℕ) (start funs : ℕ) where
-  pub block_no : u16 tree (TreeForm start) (start + 10) ≡ bad (TreeForm start) → BlockKids tree start funs (Head.Bad (TreeForm start))
-  unfolding block_fields ◌>>=◌ place follow_head
-  block_no e = record { whole = λ names depth s. ap place (then_bad _ e) }
-
-  pub block_is : {count at : ℕ} {r : Head} → u16 tree (TreeForm start) (start + 10) ≡ got count at → r ≡ plain at 0 count funs false → BlockKids tree start funs r
-  unfolding block_fields ◌>>=◌
-  block_is {count} {at} e q =
-      record {
-        whole = λ names depth s.
-            ap place (then_on _ e) ∙ made (read_stmts count (read_stmt tree names depth funs) at) _ ∙ stmts_place tree names depth funs count at ∙
-            sym (plain_stmts tree names depth at count funs false) ∙ ap (follow_head tree names depth) (sym q);
-      }
-
-  pub if_no : below tree 2 (TreeForm start) (start + 10) ≡ bad (TreeForm start) → IfKids tree start funs (Head.Bad (TreeForm start))
+  pub if_no : below tree 2 (TreeForm start) (start + 10) ≡ bad (TreeForm start) → IfKids tree start funs (Err (TreeForm start))
   unfolding if_fields ◌>>=◌ place follow_head
   if_no e = record { whole = λ names depth s. ap place (then_bad _ (flag_no tree (TreeForm start) (start + 10) e)) }
 
-  row_more : (one : ℕ → Step) (v at : ℕ) → row one (1 + v) at ≡ and_then (one at) (row one v)
+  row_more : (one : ℕ → Result ℕ Refusal) (v at : ℕ) → row one (1 + v) at ≡ and_then (one at) (row one v)
   row_more one v at =
       let q : 1 + v - 1 ≡ v = omega arith in
       row_some one (1 + v) at (omega arith) ∙ ap (λ (k : ℕ). and_then (one at) (row one k)) q
 
-  pub if_is : {v at : ℕ} {r : Head} → v < 2 → below tree 2 (TreeForm start) (start + 10) ≡ got v at → r ≡ plain at 1 (1 + v) funs false → IfKids tree start funs r
+  pub if_is : {v at : ℕ} {r : Result Head Refusal} → v < 2 → below tree 2 (TreeForm start) (start + 10) ≡ got v at → r ≡ Ok (plain at 1 (1 + v) funs false) → IfKids tree start funs r
   unfolding if_fields ◌>>=◌ stmt_place
   if_is {v} {at} h e q =
       record {
@@ -188,7 +179,7 @@ module _ (tree : List ℕ) (start funs : ℕ) where
             sym (plain_place tree names depth at 1 (1 + v) funs false) ∙ ap (follow_head tree names depth) (sym q);
       }
 
-  pub for_no : below tree 8 (TreeForm start) (start + 10) ≡ bad (TreeForm start) → ForKids tree start funs (Head.Bad (TreeForm start))
+  pub for_no : below tree 8 (TreeForm start) (start + 10) ≡ bad (TreeForm start) → ForKids tree start funs (Err (TreeForm start))
   unfolding for_fields ◌>>=◌ place follow_head
   for_no e = record { whole = λ names depth s. ap place (needs_no tree (TreeForm start) (start + 10) 8 _ e) }
 
@@ -214,7 +205,7 @@ module _ (tree : List ℕ) (start funs : ℕ) where
       (maybe_stmt_count (read_stmt tree names depth funs) (v % 2) at a)
 
   pub for_is : {v at : ℕ} → v < 8 → below tree 8 (TreeForm start) (start + 10) ≡ got v at
-      → ForKids tree start funs (Head.Kids (record { at = at; init = v % 2; cond = v / 2 % 2; body = 1; incr = v / 4; funs = funs; methods = false }))
+      → ForKids tree start funs (Ok (Head.Kids (record { at = at; init = v % 2; cond = v / 2 % 2; body = 1; incr = v / 4; funs = funs; methods = false })))
   unfolding for_fields ◌>>=◌ follow_head kids_place
   for_is {v} {at} h e =
       record {
@@ -226,17 +217,17 @@ module _ (tree : List ℕ) (start funs : ℕ) where
     -- ## A class
 
     module _ (depth : ℕ) where
-      pub class_unnamed : name tree names (TreeForm start) (start + 10) ≡ bad (TreeForm start) → ClassKids tree names depth start funs (Head.Bad (TreeForm start))
+      pub class_unnamed : name tree names (TreeForm start) (start + 10) ≡ bad (TreeForm start) → ClassKids tree names depth start funs (Err (TreeForm start))
       unfolding class_fields ◌>>=◌ place follow_head
       class_unnamed e = record { whole = λ s. ap place (then_bad _ e) }
 
       pub class_no : {nm next : ℕ} → name tree names (TreeForm start) (start + 10) ≡ got nm next → below tree 2 (TreeForm start) next ≡ bad (TreeForm start)
-          → ClassKids tree names depth start funs (Head.Bad (TreeForm start))
+          → ClassKids tree names depth start funs (Err (TreeForm start))
       unfolding class_fields ◌>>=◌ place follow_head
       class_no {next = next} e f = record { whole = λ s. ap place (then_on _ e ∙ then_bad _ (flag_no tree (TreeForm start) next f)) }
 
       module _ {nm next v past : ℕ} (e : name tree names (TreeForm start) (start + 10) ≡ got nm next) (h : v < 2) (f : below tree 2 (TreeForm start) next ≡ got v past) where
-        pub class_cut : u16 tree (TreeForm start) past ≡ bad (TreeForm start) → ClassKids tree names depth start funs (Head.Bad (TreeForm start))
+        pub class_cut : u16 tree (TreeForm start) past ≡ bad (TreeForm start) → ClassKids tree names depth start funs (Err (TreeForm start))
         unfolding class_fields ◌>>=◌ place follow_head
         class_cut g = record { whole = λ s. ap place (then_on _ e ∙ then_on _ (flag_is tree (TreeForm start) next v h f) ∙ then_bad _ g) }
 
@@ -250,7 +241,7 @@ module _ (tree : List ℕ) (start funs : ℕ) where
             (λ c n. made (read_methods count (read_method tree names depth funs) n) _ ∙ methods_place tree names depth funs count n) ∙
             ap (λ x. and_then x (row (stmt_place tree names depth funs true) count)) (maybe_count (read_superclass tree names depth) v at h)
 
-        pub class_plain : {count at : ℕ} {r : Head} → u16 tree (TreeForm start) past ≡ got count at → v ≡ 0 → r ≡ plain at 0 count funs true → ClassKids tree names depth start funs r
+        pub class_plain : {count at : ℕ} {r : Result Head Refusal} → u16 tree (TreeForm start) past ≡ got count at → v ≡ 0 → r ≡ Ok (plain at 0 count funs true) → ClassKids tree names depth start funs r
         unfolding row and_then
         class_plain {count} {at} g z q =
             record {
@@ -267,13 +258,13 @@ module _ (tree : List ℕ) (start funs : ℕ) where
             class_from g s ∙ ap (λ (k : ℕ). and_then (row (λ n. place (read_superclass tree names depth n)) k at) (row (stmt_place tree names depth funs true) count)) y ∙
             ap (λ x. and_then x (row (stmt_place tree names depth funs true) count)) (row_one (λ n. place (read_superclass tree names depth n)) at)
 
-        pub class_super_bad : {count at : ℕ} {t : Step} {x : Refusal} → u16 tree (TreeForm start) past ≡ got count at → (v ≡ 0 → ⊥)
-            → t ≡ place (read_superclass tree names depth at) → t ≡ Step.Bad x → ClassKids tree names depth start funs (Head.Bad x)
+        pub class_super_bad : {count at : ℕ} {t : Result ℕ Refusal} {x : Refusal} → u16 tree (TreeForm start) past ≡ got count at → (v ≡ 0 → ⊥)
+            → t ≡ place (read_superclass tree names depth at) → t ≡ Err x → ClassKids tree names depth start funs (Err x)
         unfolding follow_head
         class_super_bad g z p q = record { whole = λ s. with_super g z s ∙ stops _ (sym p ∙ q) }
 
-        pub class_super : {count at from : ℕ} {t : Step} {r : Head} → u16 tree (TreeForm start) past ≡ got count at → (v ≡ 0 → ⊥)
-            → t ≡ place (read_superclass tree names depth at) → t ≡ Step.At from → r ≡ plain from 0 count funs true → ClassKids tree names depth start funs r
+        pub class_super : {count at from : ℕ} {t : Result ℕ Refusal} {r : Result Head Refusal} → u16 tree (TreeForm start) past ≡ got count at → (v ≡ 0 → ⊥)
+            → t ≡ place (read_superclass tree names depth at) → t ≡ Ok from → r ≡ Ok (plain from 0 count funs true) → ClassKids tree names depth start funs r
         class_super {count} {at} {from} g z p q w =
             record {
               whole = λ s.
@@ -282,16 +273,16 @@ module _ (tree : List ℕ) (start funs : ℕ) where
 
     -- ## A function
 
-    pub fun_unnamed : name tree names (TreeForm start) (start + 10) ≡ bad (TreeForm start) → FunKids tree names start funs (Head.Bad (TreeForm start))
+    pub fun_unnamed : name tree names (TreeForm start) (start + 10) ≡ bad (TreeForm start) → FunKids tree names start funs (Err (TreeForm start))
     unfolding fun_fields ◌>>=◌ place follow_head
     fun_unnamed e = record { whole = λ depth. ap place (then_bad _ e) }
 
     pub fun_cut : {nm next : ℕ} → name tree names (TreeForm start) (start + 10) ≡ got nm next → u16 tree (TreeForm start) next ≡ bad (TreeForm start)
-        → FunKids tree names start funs (Head.Bad (TreeForm start))
+        → FunKids tree names start funs (Err (TreeForm start))
     unfolding fun_fields ◌>>=◌ place follow_head
     fun_cut e f = record { whole = λ depth. ap place (then_on _ e ∙ then_bad _ f) }
 
-    body_place : (depth : ℕ) (make : Stmts → Fun) (r : Read ℕ)
+    body_place : {B : Type 0} (depth : ℕ) (make : Stmts → B) (r : Read ℕ)
         → place (go_on r (λ count. read_stmts count (read_stmt tree names depth funs) >>= λ body. return (make body))) ≡ follow_head tree names depth (body_from r funs)
     unfolding go_on place body_from follow_head ◌>>=◌
     body_place depth make (bad x) = refl
@@ -308,32 +299,32 @@ module _ (tree : List ℕ) (start funs : ℕ) where
           (λ ps n. body_place depth _ (u16 tree (TreeForm start) n)) ∙
           ap (λ x. and_then x (λ n. follow_head tree names depth (body_from (u16 tree (TreeForm start) n) funs))) (many_row (name tree names (TreeForm start)) arity past)
 
-      pub fun_params_bad : {t : Step} {x : Refusal} → t ≡ row (λ n. place (name tree names (TreeForm start) n)) arity past → t ≡ Step.Bad x → FunKids tree names start funs (Head.Bad x)
+      pub fun_params_bad : {t : Result ℕ Refusal} {x : Refusal} → t ≡ row (λ n. place (name tree names (TreeForm start) n)) arity past → t ≡ Err x → FunKids tree names start funs (Err x)
       unfolding follow_head
       fun_params_bad p q = record { whole = λ depth. fun_from depth ∙ stops _ (sym p ∙ q) }
 
-      pub fun_is : {t : Step} {at : ℕ} {r : Head} → t ≡ row (λ n. place (name tree names (TreeForm start) n)) arity past → t ≡ Step.At at
+      pub fun_is : {t : Result ℕ Refusal} {at : ℕ} {r : Result Head Refusal} → t ≡ row (λ n. place (name tree names (TreeForm start) n)) arity past → t ≡ Ok at
           → r ≡ body_from (u16 tree (TreeForm start) at) funs → FunKids tree names start funs r
       fun_is p q w = record { whole = λ depth. fun_from depth ∙ goes _ (sym p ∙ q) ∙ ap (follow_head tree names depth) (sym w) }
 
-pub body_bad : {r : Read ℕ} {x : Refusal} (funs : ℕ) → r ≡ bad x → Head.Bad x ≡ body_from r funs
+pub body_bad : {r : Read ℕ} {x : Refusal} (funs : ℕ) → r ≡ bad x → Err x ≡ body_from r funs
 unfolding body_from
 body_bad funs e = sym (ap (λ q. body_from q funs) e)
 
-pub body_is : {r : Read ℕ} {count at : ℕ} (funs : ℕ) {h : Head} → h ≡ plain at 0 count funs false → r ≡ got count at → h ≡ body_from r funs
+pub body_is : {r : Read ℕ} {count at : ℕ} (funs : ℕ) {h : Head} → h ≡ plain at 0 count funs false → r ≡ got count at → Ok h ≡ body_from r funs
 unfolding body_from
-body_is funs p e = p ∙ sym (ap (λ q. body_from q funs) e)
+body_is funs p e = ap Ok p ∙ sym (ap (λ q. body_from q funs) e)
 
 -- ## By the mark
 
 -- one expression, whatever is made of it
-one_expr : (tree : List ℕ) (names depth at : ℕ) {r : Head} → r ≡ Head.Exprs at 1 → {B : Type 0} (make : Expr → B)
+one_expr : (tree : List ℕ) (names depth at : ℕ) {r : Result Head Refusal} → r ≡ Ok (Head.Exprs at 1) → {B : Type 0} (make : Expr → B)
     → place (go_on (read_expr tree names depth at) (λ e. return (make e))) ≡ follow_head tree names depth r
 unfolding follow_head
 one_expr tree names depth at q make =
     made (read_expr tree names depth at) make ∙ sym (row_one (e_place tree names depth) at) ∙ ap (follow_head tree names depth) (sym q)
 
-module _ (tree : List ℕ) (names depth funs start : ℕ) {mark : ℕ} {r : Head} where
+module _ (tree : List ℕ) (names depth funs start : ℕ) {mark : ℕ} {r : Result Head Refusal} where
   announce : (code : ℕ) (kind : StmtMark) → lookup code stmt_marks ≡ some kind → mark ≡ code
       → ((s : Span) → place (stmt_fields tree names (children tree names depth funs) (TreeForm start) kind s (start + 10)) ≡ follow_head tree names depth r)
       → StmtKids tree names depth funs mark start r
@@ -345,9 +336,11 @@ module _ (tree : List ℕ) (names depth funs start : ℕ) {mark : ℕ} {r : Head
             ap (λ (j : StmtMark). place (stmt_fields tree names (children tree names depth funs) (TreeForm start) j s (start + 10))) z ∙ h s;
       }
 
-  pub by_block : BlockKids tree start funs r → mark ≡ marks.SB → StmtKids tree names depth funs mark start r
-  unfolding lookup stmt_marks stmt_fields children
-  by_block b e = announce marks.SB SB refl e (b.whole names depth)
+  pub by_block : r ≡ body_from (u16 tree (TreeForm start) (start + 10)) funs → mark ≡ marks.SB → StmtKids tree names depth funs mark start r
+  unfolding lookup stmt_marks stmt_fields children block_fields ◌>>=◌
+  by_block q e =
+      announce marks.SB SB refl e
+      (λ s. body_place tree start funs names depth _ (u16 tree (TreeForm start) (start + 10)) ∙ ap (follow_head tree names depth) (sym q))
 
   pub by_class : ClassKids tree names depth start funs r → mark ≡ marks.SC → StmtKids tree names depth funs mark start r
   unfolding lookup stmt_marks stmt_fields children
@@ -365,20 +358,20 @@ module _ (tree : List ℕ) (names depth funs start : ℕ) {mark : ℕ} {r : Head
   unfolding lookup stmt_marks stmt_fields children
   by_for b e = announce marks.SO SO refl e (b.whole names depth)
 
-  pub by_return : ReturnKids tree start r → mark ≡ marks.SR → StmtKids tree names depth funs mark start r
+  pub by_return : ValueKids tree start (start + 10) r → mark ≡ marks.SR → StmtKids tree names depth funs mark start r
   unfolding lookup stmt_marks stmt_fields children
-  by_return b e = announce marks.SR SR refl e (b.whole names depth)
+  by_return v e = announce marks.SR SR refl e (return_from tree start v names depth)
 
   pub by_var : VarKids tree names start r → mark ≡ marks.SV → StmtKids tree names depth funs mark start r
   unfolding lookup stmt_marks stmt_fields children
   by_var b e = announce marks.SV SV refl e (b.whole depth)
 
-  pub by_expr : r ≡ Head.Exprs (start + 10) 1 → (mark ≡ marks.SE) ⊎ (mark ≡ marks.SP) → StmtKids tree names depth funs mark start r
+  pub by_expr : r ≡ Ok (Head.Exprs (start + 10) 1) → (mark ≡ marks.SE) ⊎ (mark ≡ marks.SP) → StmtKids tree names depth funs mark start r
   unfolding lookup stmt_marks stmt_fields children expression_fields print_fields ◌>>=◌
   by_expr q (inl e) = announce marks.SE SE refl e (λ s. one_expr tree names depth (start + 10) q _)
   by_expr q (inr e) = announce marks.SP SP refl e (λ s. one_expr tree names depth (start + 10) q _)
 
-  a_while : r ≡ plain (start + 10) 1 1 funs false → mark ≡ marks.SW → StmtKids tree names depth funs mark start r
+  a_while : r ≡ Ok (plain (start + 10) 1 1 funs false) → mark ≡ marks.SW → StmtKids tree names depth funs mark start r
   unfolding lookup stmt_marks stmt_fields children while_fields ◌>>=◌ stmt_place
   a_while q e =
       announce marks.SW SW refl e
@@ -395,7 +388,7 @@ module _ (tree : List ℕ) (names depth funs start : ℕ) {mark : ℕ} {r : Head
             let z : ◌≡◌ {A = ℕ} 0 1 = cc in absurd (omega arith);
       }
 
-  other_if : (t : Bool) → eqb mark marks.SW ≡ t → r ≡ plain (start + 10) 1 1 funs false
+  other_if : (t : Bool) → eqb mark marks.SW ≡ t → r ≡ Ok (plain (start + 10) 1 1 funs false)
       → (OneOf (marks.SB ∷ marks.SC ∷ marks.SE ∷ marks.SP ∷ marks.SF ∷ marks.SI ∷ marks.SO ∷ marks.SR ∷ marks.SV ∷ []) mark → ⊥) → StmtKids tree names depth funs mark start r
   unfolding all stmt_marks
   other_if true e q n = a_while q (eqb-true _ _ e)
@@ -404,7 +397,7 @@ module _ (tree : List ℕ) (names depth funs start : ℕ) {mark : ℕ} {r : Head
       (⊎_elim (eqb-false _ _ e) n))
 
   -- no other mark is left
-  pub while_left : r ≡ plain (start + 10) 1 1 funs false → (mark ≡ marks.SB → ⊥) → (mark ≡ marks.SC → ⊥) → ((mark ≡ marks.SE) ⊎ (mark ≡ marks.SP) → ⊥) → (mark ≡ marks.SF → ⊥)
+  pub while_left : r ≡ Ok (plain (start + 10) 1 1 funs false) → (mark ≡ marks.SB → ⊥) → (mark ≡ marks.SC → ⊥) → ((mark ≡ marks.SE) ⊎ (mark ≡ marks.SP) → ⊥) → (mark ≡ marks.SF → ⊥)
       → (mark ≡ marks.SI → ⊥) → (mark ≡ marks.SO → ⊥) → (mark ≡ marks.SR → ⊥) → (mark ≡ marks.SV → ⊥) → StmtKids tree names depth funs mark start r
   while_left q a b c d e f g h =
       other_if _ refl q
@@ -470,9 +463,9 @@ method_letters m l = method_letters_if m _ refl l
 pub record StmtMarked (tree : List ℕ) (at : ℕ) (method : Bool) (m : ℕ) : Type 0 where
   pub table : Marked (if method then method_marks else stmt_marks) tree at m
 
-pub stmt_known : (tree : List ℕ) (at : ℕ) (method : Bool) {m : ℕ} → m ≡ known_stmt method tree at → (m ≡ 0 → ⊥) → StmtMarked tree at method m
+pub stmt_known : (tree : List ℕ) (at : ℕ) (method : Bool) {m : ℕ} → known_stmt method tree at ≡ Some m → StmtMarked tree at method m
 unfolding known_stmt
-stmt_known tree at method e n = record { table = known_some (if method then method_marks else stmt_marks) tree at e n }
+stmt_known tree at method e = record { table = known_some (if method then method_marks else stmt_marks) tree at e }
 
 unfoldable is_fun : StmtMark → Bool
 is_fun SF = true
@@ -539,35 +532,34 @@ unfolding need
 need_not x at e = ap (λ (b : Bool). need b x at) e
 
 -- a method's mark, by the table of one row
-method_none_if : (tree : List ℕ) (at : ℕ) {m : ℕ} → m ≡ known_mark method_marks tree at → m ≡ 0 → (t s : Bool) → leb (at + 2) (length tree) ≡ t → eqb (letters tree at) marks.SF ≡ s
+method_none_if : (tree : List ℕ) (at : ℕ) → known_mark method_marks tree at ≡ None → (t s : Bool) → leb (at + 2) (length tree) ≡ t → eqb (letters tree at) marks.SF ≡ s
     → (fault : Refusal) → mark_is tree fault marks.SF at ≡ bad fault
 unfolding lookup method_marks
-method_none_if tree at {m} e z true true h l fault =
+method_none_if tree at e true true h l fault =
     let q : letters tree at ≡ marks.SF = eqb-true _ _ l in
-    let w : known_mark method_marks tree at ≡ letters tree at = known_is method_marks tree at (leb-true _ _ h) refl (record { value = SF; is = ap (λ (n : ℕ). lookup n method_marks) q }) in
-    let y : ◌≡◌ {A = ℕ} 0 marks.SF = sym z ∙ e ∙ w ∙ q in absurd (omega arith)
-method_none_if tree at e z true false h l fault = mark_is_not tree fault marks.SF at (leb-true _ _ h) (eqb-false _ _ l)
-method_none_if tree at e z false s h l fault = mark_is_cut tree fault marks.SF at (leb-false _ _ h)
+    absurd (none_some (sym e ∙ known_is method_marks tree at (leb-true _ _ h) refl (record { value = SF; is = ap (λ (n : ℕ). lookup n method_marks) q })))
+method_none_if tree at e true false h l fault = mark_is_not tree fault marks.SF at (leb-true _ _ h) (eqb-false _ _ l)
+method_none_if tree at e false s h l fault = mark_is_cut tree fault marks.SF at (leb-false _ _ h)
 
 method_is : (tree : List ℕ) (at : ℕ) {m : ℕ} → Marked method_marks tree at m → (fault : Refusal) → mark_is tree fault marks.SF at ≡ got tt (at + 2)
 method_is tree at {m} k fault = mark_is_it tree fault marks.SF at k.bound (k.letters_are ∙ (method_letters m k.look).0)
 
 module _ (tree : List ℕ) (names : ℕ) where
-  pub no_stmt : (depth funs : ℕ) (method : Bool) (at : ℕ) {m : ℕ} → m ≡ known_stmt method tree at → m ≡ 0 → stmt_place tree names depth funs method at ≡ Step.Bad (TreeForm at)
+  pub no_stmt : (depth funs : ℕ) (method : Bool) (at : ℕ) → known_stmt method tree at ≡ None → stmt_place tree names depth funs method at ≡ Err (TreeForm at)
   unfolding known_stmt stmt_place read_stmt read_method stmt_record method_record stmt_mark ◌>>=◌ ◌>>◌ here go_on lookup stmt_marks place
-  no_stmt zero funs false at e z = ap place (then_bad _ (known_none stmt_marks tree at refl e z (TreeForm at)))
-  no_stmt (suc depth) funs false at e z = ap place (then_bad _ (known_none stmt_marks tree at refl e z (TreeForm at)))
-  no_stmt zero funs true at e z = ap place (then_bad _ (method_none_if tree at e z _ _ refl refl (TreeForm at)))
-  no_stmt (suc depth) funs true at e z = ap place (then_bad _ (method_none_if tree at e z _ _ refl refl (TreeForm at)))
+  no_stmt zero funs false at e = ap place (then_bad _ (known_none stmt_marks tree at e (TreeForm at)))
+  no_stmt (suc depth) funs false at e = ap place (then_bad _ (known_none stmt_marks tree at e (TreeForm at)))
+  no_stmt zero funs true at e = ap place (then_bad _ (method_none_if tree at e _ _ refl refl (TreeForm at)))
+  no_stmt (suc depth) funs true at e = ap place (then_bad _ (method_none_if tree at e _ _ refl refl (TreeForm at)))
 
-  pub deep_stmt : (depth funs : ℕ) (method : Bool) (at : ℕ) {m : ℕ} → StmtMarked tree at method m → depth ≡ 0 → stmt_place tree names depth funs method at ≡ Step.Bad (TreeTooDeep at)
+  pub deep_stmt : (depth funs : ℕ) (method : Bool) (at : ℕ) {m : ℕ} → StmtMarked tree at method m → depth ≡ 0 → stmt_place tree names depth funs method at ≡ Err (TreeTooDeep at)
   unfolding stmt_place read_stmt read_method stmt_mark ◌>>=◌ ◌>>◌ here go_on refuse place
   deep_stmt zero funs false at k z = ap place (then_on _ (k.table.is (TreeForm at)))
   deep_stmt zero funs true at k z = ap place (then_on _ (method_is tree at k.table (TreeForm at)))
   deep_stmt (suc depth) funs method at k z = absurd (omega arith)
 
   pub full_stmt : (depth funs : ℕ) (method : Bool) (at : ℕ) {m : ℕ} → StmtMarked tree at method m → (depth ≡ 0 → ⊥) → m ≡ marks.SF → funs ≡ 0
-      → stmt_place tree names depth funs method at ≡ Step.Bad (TooManyOpen at)
+      → stmt_place tree names depth funs method at ≡ Err (TooManyOpen at)
   unfolding stmt_place read_stmt read_method stmt_record method_record stmt_mark ◌>>=◌ ◌>>◌ here go_on may_open place
   full_stmt zero funs method at k z e f = absurd (z refl)
   full_stmt (suc depth) funs false at {m} k z e f =
@@ -577,7 +569,7 @@ module _ (tree : List ℕ) (names : ℕ) where
       ap place (then_on _ (method_is tree at k.table (TreeForm at)) ∙ then_bad _ (need_not (TooManyOpen at) (at + 2) (le-ltb 0 funs (omega arith))))
 
   pub cut_stmt : (depth funs : ℕ) (method : Bool) (at : ℕ) {m : ℕ} → StmtMarked tree at method m → (depth ≡ 0 → ⊥) → (m ≡ marks.SF → 0 < funs) → length tree < at + 10
-      → stmt_place tree names depth funs method at ≡ Step.Bad (TreeForm at)
+      → stmt_place tree names depth funs method at ≡ Err (TreeForm at)
   unfolding stmt_place read_stmt read_method stmt_record method_record stmt_mark ◌>>=◌ ◌>>◌ here go_on place
   cut_stmt zero funs method at k z f h = absurd (z refl)
   cut_stmt (suc depth) funs false at {m} k z f h =
@@ -616,11 +608,11 @@ module _ (tree : List ℕ) (names : ℕ) where
       ap (λ (j : ℕ). go_on (fun_fields tree names (read_stmt tree names depth (funs - 1)) (TreeForm at) j) (λ f. return (span_of tree (at + 2), f))) q ∙
       sym (ap (λ (d : ℕ). go_on (fun_fields tree names (read_stmt tree names d (funs - 1)) (TreeForm at) (at + 10)) (λ f. return (span_of tree (at + 2), f))) p)
 
-  pub opens_bad : (depth funs : ℕ) (method : Bool) (at : ℕ) {x : Refusal} → stmt_place tree names depth funs method at ≡ Step.Bad x → StmtOpens tree names depth funs method at (Head.Bad x)
-  unfolding follow_head announces
+  pub opens_bad : (depth funs : ℕ) (method : Bool) (at : ℕ) {x : Refusal} → stmt_place tree names depth funs method at ≡ Err x → StmtOpens tree names depth funs method at (Err x)
+  unfolding follow_head
   opens_bad depth funs method at e = record { whole = e; room = λ q. let z : ◌≡◌ {A = ℕ} 0 1 = cc in absurd (omega arith) }
 
-  pub opens_kids : (depth funs : ℕ) (method : Bool) (at : ℕ) {m : ℕ} {r : Head} → StmtMarked tree at method m → (depth ≡ 0 → ⊥) → (m ≡ marks.SF → 0 < funs) → at + 10 ≤ length tree
+  pub opens_kids : (depth funs : ℕ) (method : Bool) (at : ℕ) {m : ℕ} {r : Result Head Refusal} → StmtMarked tree at method m → (depth ≡ 0 → ⊥) → (m ≡ marks.SF → 0 < funs) → at + 10 ≤ length tree
       → StmtKids tree names (depth - 1) funs m at r → StmtOpens tree names depth funs method at r
   unfolding stmt_place stmt_fields children ◌>>=◌
   opens_kids depth funs false at k z f h a =
@@ -639,7 +631,7 @@ module _ (tree : List ℕ) (names : ℕ) where
       }
 
 -- a record ends where what its head announces ends
-pub follows : {tree : List ℕ} {names depth funs : ℕ} {method : Bool} {at : ℕ} {answer head : Head} {end : Step}
+pub follows : {tree : List ℕ} {names depth funs : ℕ} {method : Bool} {at : ℕ} {answer head : Result Head Refusal} {end : Result ℕ Refusal}
     → StmtOpens tree names depth funs method at answer → answer ≡ head → end ≡ follow_head tree names (depth - 1) head → end ≡ stmt_place tree names depth funs method at
 follows {tree} {names} {depth} o q e = e ∙ sym (o.whole ∙ ap (follow_head tree names (depth - 1)) q)
 
@@ -649,12 +641,12 @@ pub some_left : {funs : ℕ} → (funs ≡ 0 → ⊥) → 0 < funs
 some_left h = omega (arith, h)
 
 module _ (tree : List ℕ) where
-  pub known_fun : (method : Bool) (at : ℕ) {m : ℕ} → at + 2 ≤ length tree → m ≡ letters tree at → m ≡ marks.SF → known_stmt method tree at ≡ m
+  pub known_fun : (method : Bool) (at : ℕ) {m : ℕ} → at + 2 ≤ length tree → m ≡ letters tree at → m ≡ marks.SF → known_stmt method tree at ≡ Some m
   unfolding known_stmt lookup method_marks
   known_fun true at {m} h e q = known_is method_marks tree at h e (record { value = SF; is = ap (λ (n : ℕ). lookup n method_marks) q })
   known_fun false at {m} h e q = known_is stmt_marks tree at h e (record { value = SF; is = fun_look m q })
 
-  pub known_for_method : {method : Bool} (at : ℕ) {m : ℕ} → method ≡ true → at + 2 ≤ length tree → m ≡ letters tree at → (m ≡ marks.SF → ⊥) → known_stmt method tree at ≡ 0
+  pub known_for_method : {method : Bool} (at : ℕ) {m : ℕ} → method ≡ true → at + 2 ≤ length tree → m ≡ letters tree at → (m ≡ marks.SF → ⊥) → known_stmt method tree at ≡ None
   unfolding known_stmt lookup method_marks
   known_for_method {method} at {m} t h e n = rw t (known_not method_marks tree at h e (rw (ne_eqb m marks.SF n)))
 

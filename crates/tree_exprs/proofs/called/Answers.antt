@@ -7,8 +7,5 @@ use Rattle.tree_exprs.proofs.called.Goals as goal
 pub returns-in_default : goal.returns-in_default
 returns-in_default c = callee_bad (c.count_at.ensures.no c.in_default.is (TreeForm c.args.start))
 
-pub overflow_add-result-2 : goal.overflow_add-result-2
-overflow_add-result-2 c = omega (arith, c.count_at.ensures.small _ c.in-Is.is)
-
 pub returns : goal.returns
-returns c = callee_at (c.count_at.ensures.is _ c.in-Is.is (TreeForm c.args.start)) (omega arith)
+returns c = callee_at (c.count_at.ensures.is _ c.in-Some.is (TreeForm c.args.start)) (omega arith)

@@ -14,9 +14,6 @@ use Rattle.tree_exprs.proofs.expr_mark.Goals as goal
 pub returns-then-not-has : goal.returns-then-not-has
 returns-then-not-has c = sym (known_cut expr_marks c.args.tree.now c.args.at (cut c.has.ensures (ap not c.if-not-has.true)))
 
-pub mark_at-mark-requires : goal.mark_at-mark-requires
-mark_at-mark-requires c = there c.has.ensures (ap not c.if-not-has.false)
-
 pub returns-in-17729 : goal.returns-in-17729
 unfolding all lookup expr_marks is_some
 returns-in-17729 c =

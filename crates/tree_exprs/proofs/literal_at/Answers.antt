@@ -16,20 +16,20 @@ returns-in_default c =
 pub returns-then-kind-lt3 : goal.returns-then-kind-lt3
 returns-then-kind-lt3 c =
     λ s. step_moved (omega arith) (literal_plain c.args.tree.now c.args.names (TreeForm c.args.start)
-    s (c.args.start + 10) _ (c.byte_at.ensures.is _ c.in-Is.is (TreeForm c.args.start)) c.if-kind-lt3.true)
+    s (c.args.start + 10) _ (c.byte_at.ensures.is _ c.in-Some.is (TreeForm c.args.start)) c.if-kind-lt3.true)
 
 pub returns-then-kind-eq3 : goal.returns-then-kind-eq3
 returns-then-kind-eq3 c =
     λ s. c.number_at.ensures ∙ sym (literal_number c.args.tree.now c.args.names
     (TreeForm c.args.start) s (c.args.start + 10) _
-    (c.byte_at.ensures.is _ c.in-Is.is (TreeForm c.args.start)) c.if-kind-eq3.true (omega arith))
+    (c.byte_at.ensures.is _ c.in-Some.is (TreeForm c.args.start)) c.if-kind-eq3.true (omega arith))
 
 pub returns-in_default-name_at : goal.returns-in_default-name_at
 unfolding place
 returns-in_default-name_at c =
     λ s. sym (literal_string c.args.tree.now c.args.names (TreeForm c.args.start) s
-    (c.args.start + 10) _ (c.byte_at.ensures.is _ c.in-Is.is
-    (TreeForm c.args.start)) (c.byte_at.ensures.small _ c.in-Is.is)
+    (c.args.start + 10) _ (c.byte_at.ensures.is _ c.in-Some.is
+    (TreeForm c.args.start)) (c.byte_at.ensures.small _ c.in-Some.is)
     c.if-kind-lt3.false c.if-kind-eq3.false (omega arith) ∙ ap place
     (c.name_at.ensures.no c.in_default-name_at.is (TreeForm c.args.start)))
 
@@ -38,6 +38,6 @@ unfolding place
 returns c =
     λ s. step_moved (omega arith) (literal_string c.args.tree.now c.args.names
     (TreeForm c.args.start) s (c.args.start + 10) _
-    (c.byte_at.ensures.is _ c.in-Is.is (TreeForm c.args.start))
-    (c.byte_at.ensures.small _ c.in-Is.is) c.if-kind-lt3.false
-    c.if-kind-eq3.false (omega arith) ∙ ap place (c.name_at.ensures.is _ c.in-Is-name_at.is (TreeForm c.args.start)))
+    (c.byte_at.ensures.is _ c.in-Some.is (TreeForm c.args.start))
+    (c.byte_at.ensures.small _ c.in-Some.is) c.if-kind-lt3.false
+    c.if-kind-eq3.false (omega arith) ∙ ap place (c.name_at.ensures.is _ c.in-Some-name_at.is (TreeForm c.args.start)))

@@ -1,7 +1,5 @@
 -- `number_at` meets its contract.
 use mathlib.Core.Bool.{not}
-use Prim.Native.Nat.{◌+◌}
-use lib.ListN.{length}
 use mathlib.Core.Path.{sym, ap}
 use native.Mathlib.Omega.{arith}
 use Rattle.rules.specs.declared.Refusal.TheVariants.{TreeForm}
@@ -16,17 +14,11 @@ returns-then-not-has c =
     sym (ap place (number_cut c.args.tree.now (TreeForm c.args.start)
     c.args.at (cut c.has.ensures (ap not c.if-not-has.true))))
 
-pub u64_at-requires : goal.u64_at-requires
-u64_at-requires c = there c.has.ensures (ap not c.if-not-has.false)
-
 pub returns-then-u64_at-gt-MAX_BITS : goal.returns-then-u64_at-gt-MAX_BITS
 unfolding place
 returns-then-u64_at-gt-MAX_BITS c =
     sym (ap place (number_big c.args.tree.now (TreeForm c.args.start) c.args.at
     (there c.has.ensures (ap not c.if-not-has.false)) (omega (arith, c.u64_at.ensures, c.if-u64_at-gt-MAX_BITS.true))))
-
-pub overflow_add-result : goal.overflow_add-result
-overflow_add-result c = omega (arith, there {a = c.args.at + 8} {b = length c.args.tree.now} c.has.ensures (ap not c.if-not-has.false))
 
 pub returns : goal.returns
 unfolding place

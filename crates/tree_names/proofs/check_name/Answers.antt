@@ -4,7 +4,6 @@ use mathlib.Core.Bool.{not}
 use mathlib.Core.Path.{sym, ◌∙◌}
 use Prim.Native.Nat.{◌+◌}
 use native.Mathlib.Omega.{arith}
-use lib.ListN.{length}
 use borrow.Author.Tests.{not-true, not-false}
 use Rattle.tree_names.specs.Names.{text, last_name}
 use Rattle.tree_small.proofs.Places.{cut, there}
@@ -18,19 +17,12 @@ returns-then-not-has c =
     (last_name c.args.tree.now c.args.last c.args.at)
     c.args.at (cut c.has.ensures (ap not c.if-not-has.true)))
 
-pub mark_at-requires : goal.mark_at-requires
-mark_at-requires c = omega (arith, there {a = c.args.at + 4} {b = length c.args.tree.now} c.has.ensures (ap not c.if-not-has.false))
-
 pub returns-then-mark_at-ne-NAME : goal.returns-then-mark_at-ne-NAME
 returns-then-mark_at-ne-NAME c =
     read_bad c.args.tree.now c.args.last c.args.at
     (name_not c.args.tree.now (last_name c.args.tree.now c.args.last
     c.args.at) c.args.at (there c.has.ensures (ap not c.if-not-has.false))
     (λ e. c.if-mark_at-ne-NAME.true (c.mark_at.ensures ∙ e)))
-
-pub u16_at-size-requires : goal.u16_at-size-requires
-u16_at-size-requires c =
-    omega (arith, there {a = c.args.at + 4} {b = length c.args.tree.now} c.has.ensures (ap not c.if-not-has.false))
 
 pub returns-then-not-has-2 : goal.returns-then-not-has-2
 returns-then-not-has-2 c =
@@ -39,10 +31,6 @@ returns-then-not-has-2 c =
     c.args.at) c.args.at c.u16_at-size.result
     (there c.has.ensures (ap not c.if-not-has.false))
     (sym c.mark_at.ensures ∙ c.if-mark_at-ne-NAME.false) c.u16_at-size.ensures (cut c.has-2.ensures (ap not c.if-not-has-2.true)))
-
-pub slice_bounds-is_above-end : goal.slice_bounds-is_above-end
-slice_bounds-is_above-end c =
-    omega (arith, there {a = c.args.at + 4 + c.u16_at-size.result} {b = length c.args.tree.now} c.has-2.ensures (ap not c.if-not-has-2.false))
 
 pub returns-then-not-is_above : goal.returns-then-not-is_above
 unfolding text
@@ -53,14 +41,6 @@ returns-then-not-is_above c =
     (there c.has.ensures (ap not c.if-not-has.false)) (sym c.mark_at.ensures ∙ c.if-mark_at-ne-NAME.false)
     c.u16_at-size.ensures (there c.has-2.ensures (ap not c.if-not-has-2.false))
     (sym c.is_above.ensures ∙ not-true c.is_above.result (ap not c.if-not-is_above.true)))
-
-pub slice_bounds-may_be_written-end : goal.slice_bounds-may_be_written-end
-slice_bounds-may_be_written-end c =
-    omega (
-      arith,
-      there {a = c.args.at + 4 + c.u16_at-size.result} {b = length c.args.tree.now}
-          c.has-2.ensures (ap not c.if-not-has-2.false),
-    )
 
 pub returns-then-not-may_be_written : goal.returns-then-not-may_be_written
 unfolding text

@@ -2,15 +2,12 @@
 use mathlib.Core.Bool.{not}
 use mathlib.Core.Path.{ap}
 use native.Mathlib.Omega.{arith}
-use Rattle.tree_small.specs.declared.Field.TheVariants.{Is}
+use Rattle.std.specs.Prelude.{Some}
 use Rattle.tree_small.proofs.Places.{cut, there, told, byte_cut, byte_big, byte_is}
 use Rattle.tree_small.proofs.byte_at.Goals as goal
 
 pub returns-then-not-has : goal.returns-then-not-has
 returns-then-not-has c = byte_cut c.args.tree.now c.args.most c.args.at (cut c.has.ensures (ap not c.if-not-has.true))
-
-pub u8_at-byte-requires : goal.u8_at-byte-requires
-u8_at-byte-requires c = there c.has.ensures (ap not c.if-not-has.false)
 
 pub returns-then-most-byte : goal.returns-then-most-byte
 returns-then-most-byte c =
@@ -19,5 +16,5 @@ returns-then-most-byte c =
 
 pub returns : goal.returns
 returns c =
-    told (ap Is c.u8_at-byte.ensures) (byte_is c.args.tree.now c.args.most c.args.at
+    told (ap Some c.u8_at-byte.ensures) (byte_is c.args.tree.now c.args.most c.args.at
     (there c.has.ensures (ap not c.if-not-has.false)) (omega (arith, c.u8_at-byte.ensures, c.if-most-byte.false)))

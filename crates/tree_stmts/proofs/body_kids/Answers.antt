@@ -1,5 +1,4 @@
 -- `body_kids` meets its contract.
-use native.Mathlib.Omega.{arith}
 use Rattle.rules.specs.declared.Refusal.TheVariants.{TreeForm}
 use Rattle.tree_stmts.proofs.Statements.{body_bad, body_is}
 use Rattle.tree_stmts.proofs.body_kids.Goals as goal
@@ -7,9 +6,6 @@ use Rattle.tree_stmts.proofs.body_kids.Goals as goal
 pub returns-in_default : goal.returns-in_default
 returns-in_default c = body_bad c.args.funs (c.count_at.ensures.no c.in_default.is (TreeForm c.args.start))
 
-pub overflow_add-at : goal.overflow_add-at
-overflow_add-at c = omega (arith, c.count_at.ensures.bound _ c.in-Is.is)
-
 pub returns : goal.returns
 returns c =
-    body_is c.args.funs c.planned.ensures (c.count_at.ensures.is _ c.in-Is.is (TreeForm c.args.start))
+    body_is c.args.funs c.planned.ensures (c.count_at.ensures.is _ c.in-Some.is (TreeForm c.args.start))

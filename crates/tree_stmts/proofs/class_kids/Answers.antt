@@ -1,4 +1,5 @@
 -- `class_kids` meets its contract: one law for each way out.
+use Rattle.std.proofs.Common.{rules, ◌≡◌, ap, Ok, Err}
 use native.Mathlib.Omega.{arith}
 use Rattle.rules.specs.declared.Refusal.TheVariants.{TreeForm}
 use Rattle.tree_stmts.proofs.Statements.{moved, class_unnamed, class_no, class_cut, class_plain, class_super_bad, class_super}
@@ -13,48 +14,49 @@ pub returns-in_default-byte_at : goal.returns-in_default-byte_at
 returns-in_default-byte_at c =
     class_no c.args.tree.now c.args.start c.args.funs
     c.args.names c.args.depth
-    (moved (c.name_at.ensures.is _ c.in-Is.is
+    (moved (c.name_at.ensures.is _ c.in-Some.is
     (TreeForm c.args.start)) (omega arith)) (c.byte_at.ensures.no c.in_default-byte_at.is (TreeForm c.args.start))
 
 pub returns-in_default-count_at : goal.returns-in_default-count_at
 returns-in_default-count_at c =
     class_cut c.args.tree.now c.args.start c.args.funs
     c.args.names c.args.depth
-    (moved (c.name_at.ensures.is _ c.in-Is.is
+    (moved (c.name_at.ensures.is _ c.in-Some.is
     (TreeForm c.args.start)) (omega arith))
-    (c.byte_at.ensures.small _ c.in-Is-byte_at.is)
-    (moved (c.byte_at.ensures.is _ c.in-Is-byte_at.is
+    (c.byte_at.ensures.small _ c.in-Some-byte_at.is)
+    (moved (c.byte_at.ensures.is _ c.in-Some-byte_at.is
     (TreeForm c.args.start)) (omega arith)) (c.count_at.ensures.no c.in_default-count_at.is (TreeForm c.args.start))
 
 pub returns-then-has_super-eq0 : goal.returns-then-has_super-eq0
 returns-then-has_super-eq0 c =
     class_plain c.args.tree.now c.args.start c.args.funs c.args.names
-    c.args.depth (moved (c.name_at.ensures.is _ c.in-Is.is
+    c.args.depth (moved (c.name_at.ensures.is _ c.in-Some.is
     (TreeForm c.args.start)) (omega arith))
-    (c.byte_at.ensures.small _ c.in-Is-byte_at.is)
-    (moved (c.byte_at.ensures.is _ c.in-Is-byte_at.is (TreeForm c.args.start))
-    (omega arith)) (moved (c.count_at.ensures.is _ c.in-Is-count_at.is
-    (TreeForm c.args.start)) (omega arith)) c.if-has_super-eq0.true c.planned.ensures
+    (c.byte_at.ensures.small _ c.in-Some-byte_at.is)
+    (moved (c.byte_at.ensures.is _ c.in-Some-byte_at.is (TreeForm c.args.start))
+    (omega arith)) (moved (c.count_at.ensures.is _ c.in-Some-count_at.is
+    (TreeForm c.args.start)) (omega arith)) c.if-has_super-eq0.true (ap Ok c.planned.ensures)
 
-pub returns-in-Bad : goal.returns-in-Bad
-returns-in-Bad c =
-    class_super_bad c.args.tree.now c.args.start c.args.funs
+pub returns-in_err-next : goal.returns-in_err-next
+returns-in_err-next c =
+    let q : c.from_residual.result ≡ Err c.in_err-next.field-0.0 = search rules in
+    rw q (class_super_bad c.args.tree.now c.args.start c.args.funs
     c.args.names c.args.depth
-    (moved (c.name_at.ensures.is _ c.in-Is.is
+    (moved (c.name_at.ensures.is _ c.in-Some.is
     (TreeForm c.args.start)) (omega arith))
-    (c.byte_at.ensures.small _ c.in-Is-byte_at.is)
-    (moved (c.byte_at.ensures.is _ c.in-Is-byte_at.is
+    (c.byte_at.ensures.small _ c.in-Some-byte_at.is)
+    (moved (c.byte_at.ensures.is _ c.in-Some-byte_at.is
     (TreeForm c.args.start)) (omega arith))
-    (moved (c.count_at.ensures.is _ c.in-Is-count_at.is
-    (TreeForm c.args.start)) (omega arith)) c.if-has_super-eq0.false c.superclass.ensures c.in-Bad.is
+    (moved (c.count_at.ensures.is _ c.in-Some-count_at.is
+    (TreeForm c.args.start)) (omega arith)) c.if-has_super-eq0.false c.superclass.ensures c.in_err-next.was)
 
-pub returns-in-At : goal.returns-in-At
-returns-in-At c =
+pub returns : goal.returns
+returns c =
     class_super c.args.tree.now c.args.start c.args.funs c.args.names
-    c.args.depth (moved (c.name_at.ensures.is _ c.in-Is.is
+    c.args.depth (moved (c.name_at.ensures.is _ c.in-Some.is
     (TreeForm c.args.start)) (omega arith))
-    (c.byte_at.ensures.small _ c.in-Is-byte_at.is)
-    (moved (c.byte_at.ensures.is _ c.in-Is-byte_at.is (TreeForm c.args.start))
-    (omega arith)) (moved (c.count_at.ensures.is _ c.in-Is-count_at.is
+    (c.byte_at.ensures.small _ c.in-Some-byte_at.is)
+    (moved (c.byte_at.ensures.is _ c.in-Some-byte_at.is (TreeForm c.args.start))
+    (omega arith)) (moved (c.count_at.ensures.is _ c.in-Some-count_at.is
     (TreeForm c.args.start)) (omega arith)) c.if-has_super-eq0.false c.superclass.ensures
-    c.in-At.is c.planned-in-At.ensures
+    c.in_ok-next.was (ap Ok c.planned-2.ensures)

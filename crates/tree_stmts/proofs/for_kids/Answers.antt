@@ -12,5 +12,5 @@ returns-in_default c =
 pub returns : goal.returns
 returns c =
     for_is c.args.tree.now c.args.start c.args.funs
-    (c.byte_at.ensures.small _ c.in-Is.is)
-    (moved (c.byte_at.ensures.is _ c.in-Is.is (TreeForm c.args.start)) (omega arith))
+    (c.byte_at.ensures.small _ c.in-Some.is)
+    (moved (c.byte_at.ensures.is _ c.in-Some.is (TreeForm c.args.start)) (omega arith))

@@ -1,5 +1,7 @@
 -- `if_kids` meets its contract.
+use mathlib.Core.Path.{ap}
 use native.Mathlib.Omega.{arith}
+use Rattle.std.specs.Prelude.{Ok}
 use Rattle.rules.specs.declared.Refusal.TheVariants.{TreeForm}
 use Rattle.tree_stmts.proofs.Statements.{moved, if_no, if_is}
 use Rattle.tree_stmts.proofs.if_kids.Goals as goal
@@ -9,11 +11,8 @@ returns-in_default c =
     if_no c.args.tree.now c.args.start c.args.funs
     (c.byte_at.ensures.no c.in_default.is (TreeForm c.args.start))
 
-pub overflow_add-has_else : goal.overflow_add-has_else
-overflow_add-has_else c = omega (arith, c.byte_at.ensures.small _ c.in-Is.is)
-
 pub returns : goal.returns
 returns c =
     if_is c.args.tree.now c.args.start c.args.funs
-    (c.byte_at.ensures.small _ c.in-Is.is)
-    (moved (c.byte_at.ensures.is _ c.in-Is.is (TreeForm c.args.start)) (omega arith)) c.planned.ensures
+    (c.byte_at.ensures.small _ c.in-Some.is)
+    (moved (c.byte_at.ensures.is _ c.in-Some.is (TreeForm c.args.start)) (omega arith)) (ap Ok c.planned.ensures)

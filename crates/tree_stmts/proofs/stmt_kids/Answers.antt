@@ -1,17 +1,14 @@
 -- `stmt_kids` meets its contract: one law for each arm.
-use mathlib.Core.Path.{refl}
-use native.Mathlib.Omega.{arith}
+use mathlib.Core.Path.{refl, ap}
+use Rattle.std.specs.Prelude.{Ok}
 use Rattle.tree_stmts.proofs.Statements.{by_block, by_class, by_expr, by_fun, by_if, by_for, by_return, by_var, while_left}
 use borrow.Author.Rules.{rules}
 use Rattle.tree_stmts.proofs.stmt_kids.Goals as goal
 
-pub overflow_sub-funs : goal.overflow_sub-funs
-overflow_sub-funs c = omega (arith, c.requires.1 c.in-21318.is)
-
 pub returns-in-21314 : goal.returns-in-21314
 returns-in-21314 c =
     by_block c.args.tree.now c.args.names c.args.depth
-    c.args.funs c.args.start c.block_kids.ensures c.in-21314.is
+    c.args.funs c.args.start c.body_kids.ensures c.in-21314.is
 
 pub returns-in-21315 : goal.returns-in-21315
 returns-in-21315 c =
@@ -41,7 +38,7 @@ returns-in-21327 c =
 pub returns-in-21330 : goal.returns-in-21330
 returns-in-21330 c =
     by_return c.args.tree.now c.args.names c.args.depth
-    c.args.funs c.args.start c.return_kids.ensures c.in-21330.is
+    c.args.funs c.args.start c.value_kids.ensures c.in-21330.is
 
 pub returns-in-21334 : goal.returns-in-21334
 returns-in-21334 c =
@@ -50,5 +47,5 @@ returns-in-21334 c =
 
 pub returns-in_default : goal.returns-in_default
 returns-in_default c =
-    while_left c.args.tree.now c.args.names c.args.depth c.args.funs c.args.start c.planned.ensures
+    while_left c.args.tree.now c.args.names c.args.depth c.args.funs c.args.start (ap Ok c.planned.ensures)
     (search rules) (search rules) (search rules) (search rules) (search rules) (search rules) (search rules) (search rules)

@@ -21,9 +21,6 @@ returns-then-not-has c =
     sym (known_cut (if c.args.method then method_marks else stmt_marks) c.args.tree.now
     c.args.at (cut c.has.ensures (ap not c.if-not-has.true)))
 
-pub mark_at-mark-requires : goal.mark_at-mark-requires
-mark_at-mark-requires c = there c.has.ensures (ap not c.if-not-has.false)
-
 pub returns-then-mark-eq-FUN : goal.returns-then-mark-eq-FUN
 returns-then-mark-eq-FUN c =
     sym (known_fun c.args.tree.now c.args.method c.args.at
@@ -40,7 +37,7 @@ returns-in-21314 c =
     sym (known_for_stmt c.args.tree.now c.args.at c.if-method.false ∙ known_is stmt_marks
     c.args.tree.now c.args.at
     (there c.has.ensures (ap not c.if-not-has.false)) c.mark_at-mark.ensures
-    (inside stmt_marks (marks.SB ∷ marks.SE ∷ marks.SI ∷ marks.SO ∷ marks.SR ∷ marks.SV ∷ []) c.mark_at-mark.result refl c.in-21314.is))
+    (inside stmt_marks (marks.SB ∷ marks.SE ∷ marks.SO ∷ marks.SR ∷ marks.SV ∷ []) c.mark_at-mark.result refl c.in-21314.is))
 
 pub returns-in-21315 : goal.returns-in-21315
 unfolding all lookup stmt_marks is_some
@@ -48,7 +45,7 @@ returns-in-21315 c =
     sym (known_for_stmt c.args.tree.now c.args.at c.if-method.false ∙ known_is stmt_marks
     c.args.tree.now c.args.at
     (there c.has.ensures (ap not c.if-not-has.false)) c.mark_at-mark.ensures
-    (inside stmt_marks (marks.SC ∷ marks.SP ∷ marks.SW ∷ []) c.mark_at-mark.result refl c.in-21315.is))
+    (inside stmt_marks (marks.SC ∷ marks.SI ∷ marks.SP ∷ marks.SW ∷ []) c.mark_at-mark.result refl c.in-21315.is))
 
 pub returns-in_default : goal.returns-in_default
 unfolding all stmt_marks
@@ -56,5 +53,5 @@ returns-in_default c =
     sym (known_for_stmt c.args.tree.now c.args.at c.if-method.false ∙ known_not stmt_marks
     c.args.tree.now c.args.at
     (there c.has.ensures (ap not c.if-not-has.false)) c.mark_at-mark.ensures
-    (outside (marks.SF ∷ marks.SC ∷ marks.SP ∷ marks.SW ∷ marks.SB ∷ marks.SE ∷ marks.SI ∷ marks.SO ∷ marks.SR ∷ marks.SV ∷ []) stmt_marks c.mark_at-mark.result refl
+    (outside (marks.SF ∷ marks.SC ∷ marks.SI ∷ marks.SP ∷ marks.SW ∷ marks.SB ∷ marks.SE ∷ marks.SO ∷ marks.SR ∷ marks.SV ∷ []) stmt_marks c.mark_at-mark.result refl
     (⊎_elim c.if-mark-eq-FUN.false (search rules))))

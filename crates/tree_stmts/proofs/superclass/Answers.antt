@@ -1,9 +1,7 @@
 -- `superclass` meets its contract: one law for each way out.
 use mathlib.Core.Bool.{not}
 use mathlib.Core.Path.{sym, ap, ◌∙◌}
-use Prim.Native.Nat.{◌+◌}
 use native.Mathlib.Omega.{arith}
-use lib.ListN.{length}
 use Rattle.rules.specs.declared.Refusal.TheVariants.{TreeForm}
 use Rattle.tree_small.specs.Places.{place}
 use Rattle.tree_small.proofs.Places.{cut, there}
@@ -15,9 +13,6 @@ unfolding place
 returns-then-not-has c =
     sym (ap place (super_cut c.args.tree.now c.args.names c.args.depth
     c.args.at (cut c.has.ensures (ap not c.if-not-has.true))))
-
-pub mark_at-requires : goal.mark_at-requires
-mark_at-requires c = there c.has.ensures (ap not c.if-not-has.false)
 
 pub returns-then-mark_at-ne-VARIABLE : goal.returns-then-mark_at-ne-VARIABLE
 unfolding place
@@ -38,9 +33,6 @@ returns-then-not-has-2 c =
     (there c.has.ensures (ap not c.if-not-has.false)) (sym c.mark_at.ensures ∙ c.if-mark_at-ne-VARIABLE.false)
     c.if-depth-eq0.false (cut c.has-2.ensures (ap not c.if-not-has-2.true))))
 
-pub overflow_add-at : goal.overflow_add-at
-overflow_add-at c = omega (arith, there {a = c.args.at + 10} {b = length c.args.tree.now} c.has-2.ensures (ap not c.if-not-has-2.false))
-
 pub returns-in_default : goal.returns-in_default
 unfolding place
 returns-in_default c =
@@ -49,13 +41,10 @@ returns-in_default c =
     c.if-depth-eq0.false (there c.has-2.ensures (ap not c.if-not-has-2.false))
     (c.name_at.ensures.no c.in_default.is (TreeForm c.args.at))))
 
-pub overflow_add-result : goal.overflow_add-result
-overflow_add-result c = omega (arith, c.name_at.ensures.bound _ c.in-Is.is)
-
 pub returns : goal.returns
 unfolding place
 returns c =
     sym (ap place (super_is c.args.tree.now c.args.names c.args.depth
     c.args.at (sym c.mark_at.ensures ∙ c.if-mark_at-ne-VARIABLE.false) c.if-depth-eq0.false
     (there c.has-2.ensures (ap not c.if-not-has-2.false))
-    (moved (c.name_at.ensures.is _ c.in-Is.is (TreeForm c.args.at)) (omega arith))))
+    (moved (c.name_at.ensures.is _ c.in-Some.is (TreeForm c.args.at)) (omega arith))))
