@@ -8,7 +8,8 @@ use native.Mathlib.Omega.{arith}
 use lib.ListN.{length, get_elem?, take, drop, length-take, length-drop}
 use lib.Dec.{eqb, ltb, leb}
 use borrow.Author.Tests.{lt-ltb, le-ltb, eq-eqb, ne_eqb, eqb-true, eqb-false, leb-true, leb-false}
-use Rattle.std.specs.Prelude.{if◌then◌else◌}
+use Rattle.std.specs.Prelude.{if◌then◌else◌, Some, None}
+use Rattle.std.specs.declared.option.Option as answer
 use Rattle.rules.specs.declared.Answer.{Answer}
 use Rattle.rules.specs.declared.Refusal.TheVariants.{ImageRefused, NoSuchFunction}
 use Rattle.rules.specs.Answer.{refusal, accepted, at_offset}
@@ -19,16 +20,12 @@ use Rattle.rules.specs.ImageFile.{read_function}
 use Rattle.rules.specs.Checker.{sound, image_of, function_numbered, code_in, code_of, code_before, place_in, code_place, code_verdict, code_answer}
 use Rattle.rules.specs.Checker.{code_part, directory_verdict, directory_of, record_part}
 use Rattle.fields.specs.Words.{word32, letters}
-use Rattle.image_records.specs.declared.Place.{Place}
-use Rattle.image_records.specs.declared.Place.TheVariants as place
-use Rattle.image_records.specs.declared.Head.{Head}
-use Rattle.image_records.specs.declared.Head.TheVariants as head
 use Rattle.image_records.specs.Told.{place_told, head_at, code_told}
 use Rattle.image_records.proofs.Many.{got_bad, same_got, many_length, Nth, nth_of, place_bad, place_at}
 use Rattle.image_records.specs.declared.Header.{Header}
 use Rattle.image_records.proofs.Records.{Headed, headed, head_fails, Body, body_of, coded, at_code, whole_function}
 use Rattle.image_directory.specs.Behind.{behind_right}
-use Rattle.image_functions.specs.declared.Done.TheVariants.{Is, Bad}
+use Rattle.image_functions.proofs.One.{done, done_same}
 use Rattle.image.specs.Counted.{counted_in, Lies}
 use Rattle.image.proofs.Sound.{elem_none}
 use Rattle.image.proofs.Whole.{after, image_is, no_room, no_mark, no_functions}
@@ -60,11 +57,11 @@ pub record Accepted (s : List ℕ) : Type 0 where
   pub is : image_of s ≡ some fs
 
 module _ (s : List ℕ) (n end : ℕ) where
-  not_bad : Is n end ≡ counted_in (image_of s) → Bad ≡ counted_in (image_of s) → ⊥
-  not_bad e f = let z : Is n end ≡ Bad = e ∙ sym f in let y : ◌≡◌ {A = ℕ} 0 1 = cc in omega arith
+  not_bad : done n end ≡ counted_in (image_of s) → None ≡ counted_in (image_of s) → ⊥
+  not_bad e f = let z : done n end ≡ None = e ∙ sym f in cc
 
   read_by : (r : Read (List ObjectFunction)) → many (word32 s 2) (read_function s) 6 ≡ r → image_of s ≡ after s r
-      → Is n end ≡ counted_in (image_of s) → 6 ≤ length s → Accepted s
+      → done n end ≡ counted_in (image_of s) → 6 ≤ length s → Accepted s
   unfolding after counted_in
   read_by (bad fault) e i y h = absurd (not_bad y (sym (ap counted_in i)))
   read_by (got fs last) e i y h = by (behind_right s (got fs last)) (sound fs) i
@@ -74,22 +71,22 @@ module _ (s : List ℕ) (n end : ℕ) where
       by true false i = absurd (not_bad y (sym (ap counted_in i)))
       by false u i = absurd (not_bad y (sym (ap counted_in i)))
 
-  count_by : (k : ℕ) → k ≡ word32 s 2 → 6 ≤ length s → letters s 0 ≡ 0x494D → Is n end ≡ counted_in (image_of s) → Accepted s
+  count_by : (k : ℕ) → k ≡ word32 s 2 → 6 ≤ length s → letters s 0 ≡ 0x494D → done n end ≡ counted_in (image_of s) → Accepted s
   count_by zero q h m y = absurd (not_bad y (no_functions s h m 0 q refl))
   count_by (suc k) q h m y = read_by (many (word32 s 2) (read_function s) 6) refl (image_is s h m (word32 s 2) refl (omega arith)) y h
 
-  accepted_by : (t u : Bool) → leb 6 (length s) ≡ t → eqb (letters s 0) 0x494D ≡ u → Is n end ≡ counted_in (image_of s) → Accepted s
+  accepted_by : (t u : Bool) → leb 6 (length s) ≡ t → eqb (letters s 0) 0x494D ≡ u → done n end ≡ counted_in (image_of s) → Accepted s
   accepted_by true true e f y = count_by (word32 s 2) refl (leb-true _ _ e) (eqb-true _ _ f) y
   accepted_by true false e f y = absurd (not_bad y (no_mark s (leb-true _ _ e) (eqb-false _ _ f)))
   accepted_by false u e f y = absurd (not_bad y (no_room s (leb-false _ _ e)))
 
-  pub accepted_is : Is n end ≡ counted_in (image_of s) → Accepted s
+  pub accepted_is : done n end ≡ counted_in (image_of s) → Accepted s
   accepted_is y = accepted_by _ _ refl refl y
 
-none_by : (o : Option (List ObjectFunction)) → Bad ≡ counted_in o → o ≡ none
+none_by : (o : Option (List ObjectFunction)) → None ≡ counted_in o → o ≡ none
 unfolding counted_in
 none_by none e = refl
-none_by (some fs) e = absurd (let y : ◌≡◌ {A = ℕ} 0 1 = cc in omega arith)
+none_by (some fs) e = absurd (cc)
 
 -- ## A function's code, behind its record's other parts
 
@@ -105,24 +102,24 @@ module _ (s : List ℕ) (at next : ℕ) (f : ObjectFunction) (e : read_function 
       let l : length f.chunk.ops ≡ size = ap length o ∙ simp (length-take, length-drop) (omega arith) in
       record { start = start; within = omega arith; ends = omega arith; content = rw l (sym o) }
 
-  module _ (h : Header) (is-head : head.Is h ≡ head_at s at) where
+  module _ (h : Header) (is-head : Some h ≡ head_at s at) where
     abbrev b : Headed s at h
     b = headed s at h is-head
 
     abbrev o : Body s b.name b.arity h.upvalues h.constants h.runs h.code (at + 17) f next
     o = body_of s b.name b.arity h.upvalues h.constants h.runs h.code (at + 17) f next (sym b.is ∙ e)
 
-    code_by : (p : Place) → p ≡ code_told s h.code o.code_at → CodeAt s f next
-    code_by place.Bad c = absurd (got_bad (at_code s at h b o.cs o.runs_at o.constants_are o.rs o.code_at o.runs_are c) e)
-    code_by (place.At start) c =
+    code_by : (p : answer.Option ℕ) → p ≡ code_told s h.code o.code_at → CodeAt s f next
+    code_by None c = absurd (got_bad (at_code s at h b o.cs o.runs_at o.constants_are o.rs o.code_at o.runs_are c) e)
+    code_by (Some start) c =
         let d = coded s h.code o.code_at start c in
         let w = whole_function s at h b o.cs o.runs_at o.constants_are o.rs o.code_at o.runs_are start d in
         let q = same_got e w in
         code_in_part start h.code d.within q.1 (ap (λ (g : ObjectFunction). g.chunk.ops) q.0)
 
-  head_by : (hd : Head) → hd ≡ head_at s at → CodeAt s f next
-  head_by head.Bad c = absurd (got_bad (head_fails s at c) e)
-  head_by (head.Is h) c = code_by h c (code_told s h.code (o h c).code_at) refl
+  head_by : (hd : answer.Option Header) → hd ≡ head_at s at → CodeAt s f next
+  head_by None c = absurd (got_bad (head_fails s at c) e)
+  head_by (Some h) c = code_by h c (code_told s h.code (o h c).code_at) refl
 
   pub code_stands : CodeAt s f next
   code_stands = head_by (head_at s at) refl
@@ -136,11 +133,11 @@ module _ (s : List ℕ) (k : ℕ) where
   unfolding code_of code_in code_place place_in
   refused_by e = record { content = sym (ap code_in e); place = sym (ap (λ (o : Option ObjectFunction). place_in o begins) e) }
 
-  pub no_image : Bad ≡ counted_in (image_of s) → Refused s k
+  pub no_image : None ≡ counted_in (image_of s) → Refused s k
   unfolding function_numbered
   no_image e = refused_by (ap (function_numbered k) (none_by (image_of s) e))
 
-  pub answer_none : Bad ≡ counted_in (image_of s) → refusal ImageRefused ≡ code_answer s k
+  pub answer_none : None ≡ counted_in (image_of s) → refusal ImageRefused ≡ code_answer s k
   unfolding code_answer code_verdict
   answer_none e = sym (ap (code_verdict k) (none_by (image_of s) e))
 
@@ -167,10 +164,10 @@ module _ (s : List ℕ) (k : ℕ) where
       abbrev nth : Nth (read_function s) (word32 s 2) k 6 a.fs
       nth = nth_of (read_function s) (word32 s 2) k 6 a.end a.fs a.are h
 
-      pub lost : {A : Type 0} → place.Bad ≡ place_told (many k (read_function s) 6) → A
+      pub lost : {A : Type 0} → None ≡ place_told (many k (read_function s) 6) → A
       lost e = absurd (got_bad (place_bad _ e) nth.before)
 
-      module _ (at : ℕ) (is_at : place.At at ≡ place_told (many k (read_function s) 6)) where
+      module _ (at : ℕ) (is_at : Some at ≡ place_told (many k (read_function s) 6)) where
         here : read_function s at ≡ got nth.value nth.next
         here = ap (read_function s) (same_got (place_at _ at is_at).is nth.before).1 ∙ nth.is
 
@@ -229,7 +226,7 @@ module _ (s : List ℕ) (k : ℕ) where
       }
 
 -- what is told of the record that the walk ends at
-module _ (s : List ℕ) (k : ℕ) (a : Accepted s) (h : k < word32 s 2) (at : ℕ) (is_at : place.At at ≡ place_told (many k (read_function s) 6)) where
+module _ (s : List ℕ) (k : ℕ) (a : Accepted s) (h : k < word32 s 2) (at : ℕ) (is_at : Some at ≡ place_told (many k (read_function s) 6)) where
   pub told_record : (r : Answer) → r ≡ record_part s (read_function s at) → Told s k r
   unfolding record_part
   told_record r e =
@@ -262,17 +259,17 @@ module _ (s : List ℕ) (k : ℕ) (a : Answer) (e : a ≡ code_part s k) (l : Li
 -- ## The directory
 
 module _ (s : List ℕ) where
-  pub no_directory : Bad ≡ counted_in (image_of s) → refusal ImageRefused ≡ directory_of s
+  pub no_directory : None ≡ counted_in (image_of s) → refusal ImageRefused ≡ directory_of s
   unfolding directory_of directory_verdict
   no_directory e = sym (ap (directory_verdict (length s)) (none_by (image_of s) e))
 
-  module _ (n end : ℕ) (y : Is n end ≡ counted_in (image_of s)) where
+  module _ (n end : ℕ) (y : done n end ≡ counted_in (image_of s)) where
     abbrev a : Accepted s
     a = accepted_is s n end y
 
     end_is : end ≡ length (image_bytes a.fs)
     unfolding counted_in
-    end_is = let z = y ∙ ap counted_in a.is in cc
+    end_is = (done_same n end _ _ (y ∙ ap counted_in a.is)).1
 
     pub nothing_behind : end ≡ length s → accepted 0 ≡ directory_of s
     unfolding directory_of directory_verdict

@@ -8,7 +8,9 @@ use native.Mathlib.Omega.{arith}
 use lib.ListN.{length, get_or, get_elem?}
 use lib.Dec.{eqb, leb}
 use borrow.Author.Tests.{lt-ltb, eqb-true, eqb-false, leb-true, leb-false}
-use Rattle.std.specs.Prelude.{if◌then◌else◌}
+use Rattle.std.specs.Prelude.{if◌then◌else◌, Some, None}
+use Rattle.std.specs.declared.option.Option as answer
+use Rattle.image_records.specs.declared.Header.{Header}
 use Rattle.rules.specs.declared.Refusal.TheVariants.{ImageRefused}
 use Rattle.rules.specs.Answer.{refusal, accepted}
 use Rattle.rules.specs.Reader.{Read, got, bad, go_on, ◌>>=◌, ◌>>◌, return, here, need, u8, many}
@@ -17,16 +19,13 @@ use Rattle.rules.specs.ImageFile.{read_function, read_behind, read_functions, re
 use Rattle.rules.specs.Checker.{named_once, sound, checked, image_of, verdict, check, instruction_count}
 use Rattle.fields.specs.Words.{word32, letters}
 use Rattle.fields.proofs.Reading.{found, a_u8, a_u32, mark_is_it, mark_is_not, mark_is_cut}
-use Rattle.image_records.specs.declared.Head.{Head}
-use Rattle.image_records.specs.declared.Head.TheVariants as head
-use Rattle.image_records.specs.declared.Place.TheVariants as place
 use Rattle.image_records.specs.Told.{head_at, place_told}
 use Rattle.image_records.proofs.Many.{many_first, many_none}
 use Rattle.image_records.proofs.Records.{headed, head_fails, body_of}
 use Rattle.image_records.proofs.Lengths.{image_length}
 use Rattle.image_directory.specs.Behind.{ends, behind_right}
 use Rattle.image_constants.specs.Earlier.{functions_in, is_got, earlier}
-use Rattle.image_functions.specs.declared.Done.TheVariants.{Is, Bad}
+use Rattle.image_functions.proofs.One.{done, done_same}
 use Rattle.image_functions.specs.Judged.{right_all, count_all, functions_done}
 use Rattle.image.specs.Counted.{counted_in}
 use Rattle.image.proofs.Sound.{BytesOf, sound_is, counts_agree}
@@ -48,11 +47,11 @@ module _ (s : List ℕ) (bytes : (i : ℕ) → get_or s i 0 < 256) where
       by l v h later zero = h
       by l v h later (suc i) = later i
 
-  function_bytes : (at next : ℕ) (f : ObjectFunction) (h : Head) → h ≡ head_at s at → read_function s at ≡ got f next → (i : ℕ) → get_or f.chunk.ops i 0 < 256
-  function_bytes at next f head.Bad e r i =
+  function_bytes : (at next : ℕ) (f : ObjectFunction) (h : answer.Option Header) → h ≡ head_at s at → read_function s at ≡ got f next → (i : ℕ) → get_or f.chunk.ops i 0 < 256
+  function_bytes at next f None e r i =
       let g = head_fails s at e in
-      absurd (let z : ◌≡◌ {A = Read ObjectFunction} (bad g.fault) (got f next) = sym g.is ∙ r in let y : ◌≡◌ {A = ℕ} 0 1 = cc in omega arith)
-  function_bytes at next f (head.Is h) e r i =
+      absurd (let z : ◌≡◌ {A = Read ObjectFunction} (bad g.fault) (got f next) = sym g.is ∙ r in cc)
+  function_bytes at next f (Some h) e r i =
       let b = headed s at h e in
       let o = body_of s b.name b.arity h.upvalues h.constants h.runs h.code (at + 17) f next (sym b.is ∙ r) in
       let q : f.chunk.ops ≡ o.ops = ap (λ (x : ObjectFunction). x.chunk.ops) o.is in
@@ -96,16 +95,16 @@ module _ (s : List ℕ) where
   no_room_by true false e f h = other_mark (leb-true _ _ e) (eqb-false _ _ f)
   no_room_by false u e f h = cut_mark (leb-false _ _ e)
 
-  pub no_room : length s < 6 → Bad ≡ counted_in (image_of s)
+  pub no_room : length s < 6 → None ≡ counted_in (image_of s)
   unfolding counted_in
   no_room h = sym (ap counted_in (no_room_by _ _ refl refl h))
 
-  pub no_mark : 6 ≤ length s → (letters s 0 ≡ 0x494D → ⊥) → Bad ≡ counted_in (image_of s)
+  pub no_mark : 6 ≤ length s → (letters s 0 ≡ 0x494D → ⊥) → None ≡ counted_in (image_of s)
   unfolding image_of read_image read_functions checked ◌>>=◌ ◌>>◌ go_on counted_in
   no_mark h n = rw (mark_is_not s ImageRefused 0x494D 0 (omega arith) n) refl
 
   module _ (h : 6 ≤ length s) (m : letters s 0 ≡ 0x494D) (count : ℕ) (is-count : count ≡ word32 s 2) where
-    pub no_functions : count ≡ 0 → Bad ≡ counted_in (image_of s)
+    pub no_functions : count ≡ 0 → None ≡ counted_in (image_of s)
     unfolding image_of read_image read_functions checked ◌>>=◌ ◌>>◌ go_on need counted_in
     no_functions z =
         let e : word32 s 2 ≡ 0 = sym is-count ∙ z in
@@ -143,18 +142,18 @@ module _ (s : List ℕ) where
       counted_as : (r : Read (List ObjectFunction)) → functions ≡ r → counted_in (image_of s) ≡ counted_in (after s r)
       counted_as r e = ap counted_in (image_is p ∙ ap (after s) e)
 
-      wrong_by : (r : Read (List ObjectFunction)) → functions ≡ r → Bad ≡ functions_done 0 [] r → counted_in (after s r) ≡ Bad
+      wrong_by : (r : Read (List ObjectFunction)) → functions ≡ r → None ≡ functions_done 0 [] r → counted_in (after s r) ≡ None
       unfolding functions_done after counted_in
       wrong_by (bad fault) e f = refl
       wrong_by (got fs end) e f = by (behind_right s (got fs end)) (right_all [] fs) refl f
         where
-          by : (t u : Bool) → right_all [] fs ≡ u → Bad ≡ (if u then Is (0 + count_all [] fs) end else Bad)
-              → counted_in (if t then (if sound fs then some fs else none) else none) ≡ Bad
-          by t true g f = absurd (let z : ◌≡◌ {A = ℕ} 0 1 = cc in omega arith)
+          by : (t u : Bool) → right_all [] fs ≡ u → None ≡ (if u then done (0 + count_all [] fs) end else None)
+              → counted_in (if t then (if sound fs then some fs else none) else none) ≡ None
+          by t true g f = absurd (cc)
           by true false g f = rw (sound_is fs (bytes_of s bytes count 6 end fs e), g) refl
           by false false g f = refl
 
-      pub answered_wrong : Bad ≡ functions_done 0 [] functions → Bad ≡ counted_in (image_of s)
+      pub answered_wrong : None ≡ functions_done 0 [] functions → None ≡ counted_in (image_of s)
       answered_wrong f = sym (counted_as functions refl ∙ wrong_by functions refl f)
 
       pub record ReadAll (n end : ℕ) : Type 0 where
@@ -163,27 +162,26 @@ module _ (s : List ℕ) where
         pub fine : right_all [] fs ≡ true
         pub number : n ≡ count_all [] fs
 
-      all_by : (n end : ℕ) (r : Read (List ObjectFunction)) → functions ≡ r → Is n end ≡ functions_done 0 [] r → ReadAll n end
+      all_by : (n end : ℕ) (r : Read (List ObjectFunction)) → functions ≡ r → done n end ≡ functions_done 0 [] r → ReadAll n end
       unfolding functions_done
-      all_by n end (bad fault) e f = absurd (let z : ◌≡◌ {A = ℕ} 0 1 = cc in omega arith)
+      all_by n end (bad fault) e f = absurd (cc)
       all_by n end (got fs last) e f = by (right_all [] fs) refl f
         where
-          by : (t : Bool) → right_all [] fs ≡ t → Is n end ≡ (if t then Is (0 + count_all [] fs) last else Bad) → ReadAll n end
-          by false g f = absurd (let z : ◌≡◌ {A = ℕ} 0 1 = cc in omega arith)
+          by : (t : Bool) → right_all [] fs ≡ t → done n end ≡ (if t then done (0 + count_all [] fs) last else None) → ReadAll n end
+          by false g f = absurd (cc)
           by true g f =
-              let q : n ≡ 0 + count_all [] fs = cc in
-              let l : last ≡ end = cc in
-              record { fs = fs; are = e ∙ ap (got fs) l; fine = g; number = omega arith }
+              let q = done_same n end (0 + count_all [] fs) last f in
+              record { fs = fs; are = e ∙ ap (got fs) (sym q.1); fine = g; number = omega arith }
 
-      module _ (n end : ℕ) (f : Is n end ≡ functions_done 0 [] functions) where
+      module _ (n end : ℕ) (f : done n end ≡ functions_done 0 [] functions) where
         abbrev a : ReadAll n end
         a = all_by n end functions refl f
 
-        pub ends_at : place.At end ≡ place_told functions
+        pub ends_at : Some end ≡ place_told functions
         unfolding place_told
         ends_at = sym (ap place_told a.are)
 
-        pub answered_behind : false ≡ behind_right s functions → Bad ≡ counted_in (image_of s)
+        pub answered_behind : false ≡ behind_right s functions → None ≡ counted_in (image_of s)
         unfolding after counted_in
         answered_behind b =
             let c : behind_right s (got a.fs end) ≡ false = ap (behind_right s) (sym a.are) ∙ sym b in
@@ -209,34 +207,34 @@ module _ (s : List ℕ) where
               let c : behind_right s (got a.fs end) ≡ true = ap (behind_right s) (sym a.are) ∙ sym d in
               counted_as (got a.fs end) a.are ∙ rw (c, sound_by b e) refl
 
-          pub answered_unnamed : false ≡ named_once (earlier s count) → Bad ≡ counted_in (image_of s)
+          pub answered_unnamed : false ≡ named_once (earlier s count) → None ≡ counted_in (image_of s)
           unfolding counted_in
           answered_unnamed e = sym (answer_by false e)
 
-          pub answered_yes : true ≡ named_once (earlier s count) → Is n end ≡ counted_in (image_of s)
+          pub answered_yes : true ≡ named_once (earlier s count) → done n end ≡ counted_in (image_of s)
           unfolding counted_in
           answered_yes e =
               let c = counts_agree [] a.fs (bytes_of s bytes count 6 end a.fs a.are) a.fine in
               let l = image_length s count end a.fs a.are in
-              ap (λ (m : ℕ). Is m end) (a.number ∙ c) ∙ ap (Is (instruction_count a.fs a.fs)) l ∙ sym (answer_by true e)
+              ap (λ (m : ℕ). done m end) (a.number ∙ c) ∙ ap (done (instruction_count a.fs a.fs)) l ∙ sym (answer_by true e)
 
 -- ## The answer's form
 
-verdict_no : (o : Option (List ObjectFunction)) → Bad ≡ counted_in o → refusal ImageRefused ≡ verdict o
+verdict_no : (o : Option (List ObjectFunction)) → None ≡ counted_in o → refusal ImageRefused ≡ verdict o
 unfolding counted_in verdict
 verdict_no none e = refl
-verdict_no (some fs) e = absurd (let z : ◌≡◌ {A = ℕ} 0 1 = cc in omega arith)
+verdict_no (some fs) e = absurd (cc)
 
-verdict_yes : (n end : ℕ) (o : Option (List ObjectFunction)) → Is n end ≡ counted_in o → accepted n ≡ verdict o
+verdict_yes : (n end : ℕ) (o : Option (List ObjectFunction)) → done n end ≡ counted_in o → accepted n ≡ verdict o
 unfolding counted_in verdict
-verdict_yes n end none e = absurd (let z : ◌≡◌ {A = ℕ} 0 1 = cc in omega arith)
-verdict_yes n end (some fs) e = let q : n ≡ instruction_count fs fs = cc in ap accepted q
+verdict_yes n end none e = absurd (cc)
+verdict_yes n end (some fs) e = ap accepted (done_same n end _ _ e).0
 
 module _ (s : List ℕ) where
-  pub check_no : Bad ≡ counted_in (image_of s) → refusal ImageRefused ≡ check s
+  pub check_no : None ≡ counted_in (image_of s) → refusal ImageRefused ≡ check s
   unfolding check
   check_no e = verdict_no (image_of s) e
 
-  pub check_yes : (n end : ℕ) → Is n end ≡ counted_in (image_of s) → accepted n ≡ check s
+  pub check_yes : (n end : ℕ) → done n end ≡ counted_in (image_of s) → accepted n ≡ check s
   unfolding check
   check_yes n end e = verdict_yes n end (image_of s) e

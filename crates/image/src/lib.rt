@@ -8,41 +8,38 @@ ghost use Rattle.image.specs.Counted.{counted_in, Lies};
 
 use answers::{accepted, refused};
 use fields::Mark;
-use image_functions::Done;
-use image_records::{Header, Place};
+use image_records::Header;
 use rules::{Answer, Refusal};
 
 // How many instructions an image has, and where its functions end.
-fn count_of(image: &[u8]) -> Done
+fn count_of(image: &[u8]) -> Option<(usize, usize)>
     ensures { result ≡ counted_in (image_of image.now) }
 {
     if !fields::has(image, 0, Header::FIRST) {
-        return Done::Bad;
+        return None;
     }
     if fields::mark_at(image, 0) != Mark::IMAGE {
-        return Done::Bad;
+        return None;
     }
-    let count = fields::wide32(fields::u32_at(image, 2));
+    let count = fields::u32_at(image, 2) as usize;
     if count == 0 {
-        return Done::Bad;
+        return None;
     }
-    let Done::Is(n, end) = image_functions::judge(image, count) else {
-        return Done::Bad;
-    };
+    let (n, end) = image_functions::judge(image, count)?;
     if !image_directory::behind(image, count, end) {
-        return Done::Bad;
+        return None;
     }
-    if image_naming::all_named_once(image, count) {
-        return Done::Is(n, end);
+    if !image_naming::all_named_once(image, count) {
+        return None;
     }
-    Done::Bad
+    Some((n, end))
 }
 
 // 0 with the number of instructions in `length`, or 40.
 pub fn check(image: &[u8]) -> Answer
     ensures { result ≡ Checker.check image.now }
 {
-    let Done::Is(n, end) = count_of(image) else {
+    let Some((n, end)) = count_of(image) else {
         return refused(Refusal::ImageRefused);
     };
     accepted(n)
@@ -54,13 +51,13 @@ pub fn code_part(image: &[u8], k: usize) -> Answer
     ensures value { result ≡ code_part image.now k }
     ensures lies { Lies image.now k }
 {
-    let Done::Is(n, end) = count_of(image) else {
+    let Some((n, end)) = count_of(image) else {
         return refused(Refusal::ImageRefused);
     };
-    if k >= fields::wide32(fields::u32_at(image, 2)) {
+    if k >= fields::u32_at(image, 2) as usize {
         return refused(Refusal::NoSuchFunction);
     }
-    let Place::At(at) = image_records::function_place(image, k) else {
+    let Some(at) = image_records::function_place(image, k) else {
         return refused(Refusal::ImageRefused);
     };
     image_directory::record_part(image, at)
@@ -72,8 +69,8 @@ pub fn code_of(image: &[u8], k: usize) -> &[u8]
     ensures ref_ptr_value { (result.ref_ptr.0 ≡ image.entry.ref_ptr.0) × (result.ref_ptr.1 ≡ code_place image.now k + image.entry.ref_ptr.1) }
 {
     let part = code_part(image, k);
-    let first = fields::wide64(part.at);
-    let end = fields::wide64(part.end);
+    let first = part.at as usize;
+    let end = part.end as usize;
     &image[first..end]
 }
 
@@ -98,7 +95,7 @@ pub fn code_answer(image: &[u8], k: usize) -> Answer
 pub fn directory_of(image: &[u8]) -> Answer
     ensures { result ≡ directory_of image.now }
 {
-    let Done::Is(n, at) = count_of(image) else {
+    let Some((n, at)) = count_of(image) else {
         return refused(Refusal::ImageRefused);
     };
     if at == image.len() {
@@ -106,10 +103,10 @@ pub fn directory_of(image: &[u8]) -> Answer
     }
     Answer {
         number: 0,
-        at: fields::long(at),
-        end: fields::long(image.len()),
+        at: at as u64,
+        end: image.len() as u64,
         name: 0,
-        length: fields::long32(fields::u32_at(image, 2)),
+        length: fields::u32_at(image, 2) as u64,
         function: 0,
         around: 0,
     }

@@ -3,7 +3,7 @@ use mathlib.Core.Path.{◌≡◌, refl, sym, ◌∙◌, ap}
 use mathlib.Core.Bool.{Bool, true, false}
 use mathlib.Core.Option.{Option, none, some}
 use mathlib.Core.List.{List, []}
-use Prim.Native.Nat.{ℕ, zero, suc, ◌+◌, ◌-◌, ◌<◌, ◌≤◌}
+use Prim.Native.Nat.{ℕ, suc, ◌+◌, ◌-◌, ◌<◌, ◌≤◌}
 use native.Mathlib.Omega.{arith}
 use lib.ListN.{length, get_or, take, drop, set, length-set, replicate}
 use lib.Dec.{eqb}
@@ -20,7 +20,12 @@ use Rattle.image_code.proofs.Closing.{zeros}
 use Rattle.image_code.proofs.Steps.{passed, ended, within_code, has_width, no_true}
 use Rattle.image_code.proofs.Turns.{begins, goes_on, fits_in}
 use Rattle.image_code.proofs.Forms.{closure_only, closure_form}
-use Rattle.image_code.proofs.Fitting.{two_wide, first_is}
+use Rattle.image_code.proofs.Fitting.{has_operand, two_wide, first_is}
+use Rattle.image_code.specs.declared.Form.{Form}
+use Rattle.image_code.specs.declared.Form.TheVariants as variant
+use Rattle.image_code.specs.declared.Kind as element
+use Rattle.std.specs.Prelude.{Some, None}
+use Rattle.std.specs.declared.option.Option as answer
 
 closings_onto : (i : Instruction) (r : Option (List Instruction)) (place : ℕ) → is_some r ≡ true
     → closures place (instructions (followed_by i r)) ≡ closes place i.operands i.bytes + closures place (instructions r)
@@ -28,24 +33,24 @@ unfolding is_some instructions followed_by closures
 closings_onto i none place h = absurd (no_true h)
 closings_onto i (some is) place h = refl
 
-closes_other : (f : ℕ) (b : List ℕ) (place : ℕ) → (f ≡ 8 → ⊥) → closes place (operands_by f) b ≡ 0
+closes_other : (f : answer.Option Form) (b : List ℕ) (place : ℕ) → (f ≡ Some variant.Closure → ⊥) → closes place (operands_by f) b ≡ 0
 unfolding computes closes
-closes_other zero b place h = refl
-closes_other (suc zero) b place h = refl
-closes_other (suc (suc zero)) b place h = refl
-closes_other (suc (suc (suc zero))) b place h = refl
-closes_other (suc (suc (suc (suc zero)))) b place h = refl
-closes_other (suc (suc (suc (suc (suc zero))))) b place h = refl
-closes_other (suc (suc (suc (suc (suc (suc zero)))))) b place h = refl
-closes_other (suc (suc (suc (suc (suc (suc (suc zero))))))) b place h = refl
-closes_other (suc (suc (suc (suc (suc (suc (suc (suc zero)))))))) b place h = absurd (h refl)
-closes_other (suc (suc (suc (suc (suc (suc (suc (suc (suc f))))))))) b place h = refl
+closes_other None b place h = refl
+closes_other (Some variant.Plain) b place h = refl
+closes_other (Some variant.Byte) b place h = refl
+closes_other (Some variant.Captured) b place h = refl
+closes_other (Some variant.Value) b place h = refl
+closes_other (Some variant.Text) b place h = refl
+closes_other (Some variant.Invoke) b place h = refl
+closes_other (Some variant.Ahead) b place h = refl
+closes_other (Some variant.Back) b place h = refl
+closes_other (Some variant.Closure) b place h = absurd (h refl)
 
-closes_at : (b : List ℕ) (place : ℕ) → get_or b 0 0 ≡ place → closes place (operands_by 8) b ≡ 1
+closes_at : (b : List ℕ) (place : ℕ) → get_or b 0 0 ≡ place → closes place (operands_by (Some variant.Closure)) b ≡ 1
 unfolding computes closes
 closes_at b place e = rw (eq-eqb _ _ e) refl
 
-closes_not : (b : List ℕ) (place : ℕ) → (get_or b 0 0 ≡ place → ⊥) → closes place (operands_by 8) b ≡ 0
+closes_not : (b : List ℕ) (place : ℕ) → (get_or b 0 0 ≡ place → ⊥) → closes place (operands_by (Some variant.Closure)) b ≡ 0
 unfolding computes closes
 closes_not b place e = rw (ne_eqb _ _ e) refl
 
@@ -57,7 +62,7 @@ more named p q P h same other true e =
 more named p q P h same other false e =
     let n = eqb-false q p e in rw (get_or-set_other named p q (get_or named p 0 + 1) 0 n) (other n)
 
-module _ (table code : List ℕ) where
+module _ (table : List element.Kind) (code : List ℕ) where
   abbrev kind : ℕ → Kind
   kind = kinds_in table
 
@@ -85,10 +90,10 @@ module _ (table code : List ℕ) where
     closing_fits = fits_in kind code at skip w z h e c.divides
 
     pub closing_two : op ≡ Op.CLOSURE → 2 ≤ w
+    unfolding has_operand
     closing_two k =
         let p : 0 < w = closing_width in
-        let f = closure_form op k in
-        rw (← e) at (two_wide table code at 0 (form_of op) refl (omega (arith, f)) (rw e at p))
+        rw (← e) at (two_wide table code at 0 variant.Closure (sym (closure_form op k)) refl (rw e at p))
 
     on : is_some (from kind code (at + 1) (w - 1)) ≡ true
     on = let p = closing_width in goes_on kind code at skip w (w - 1) z h e (omega arith) c.divides
@@ -117,7 +122,7 @@ module _ (table code : List ℕ) where
         → Closing kind code (set named place (get_or named place 0 + 1)) (at + 1) (w - 1)
     closing_here place k q l =
         let two = rw e at (closing_two k) in
-        let first : get_or bytes 0 0 ≡ place = first_is table code at 0 (form_of op) refl place (get_or table place 0) two q refl in
+        let first : get_or bytes 0 0 ≡ place = first_is table code at 0 variant.Closure (sym (closure_form op k)) two ∙ sym q in
         let room : place < length named = omega (arith, c.size) in
         record {
           size = length-set named place _ ∙ c.size;

@@ -5,95 +5,75 @@ use mathlib.Core.List.{List, ◌∷◌, []}
 use Prim.Native.Nat.{ℕ, zero, suc, ◌+◌, ◌-◌, ◌*◌, ◌<◌, ◌≤◌}
 use native.Mathlib.Omega.{arith}
 use lib.ListN.{length, get_or, take, drop}
-use lib.Dec.{ltb, eqb}
+use lib.Dec.{ltb}
 use lib.Seq.{get_or-drop, get_or-take, drop-drop}
-use borrow.Author.Tests.{ne_eqb, le-ltb}
 use Rattle.rules.specs.Division.{Kind, missing, number, text, function, fit, operands_fit, pairs_fit, is_value, is_text, is_function}
 use Rattle.image_code.specs.Forms.{operands_by, form_of, width, width_by}
 use Rattle.image_code.proofs.Computes.{computes}
+use Rattle.image_code.proofs.Steps.{no_true}
 use Rattle.image_code.specs.Table.{kind_of, kinds_in, instruction_at}
+use Rattle.image_code.specs.declared.Form.{Form}
+use Rattle.image_code.specs.declared.Form.TheVariants as variant
+use Rattle.image_code.specs.declared.Kind as element
+use Rattle.std.specs.Prelude.{Some, None}
+use mathlib.Core.Logic.{◌⊎◌, ⊎_elim}
+use Rattle.image_code.specs.declared.Kind.TheVariants as kind
 
-plain_fits : (f : ℕ) (kind : ℕ → Kind) (u : ℕ) (b : List ℕ) → f < 2 → true ≡ fit kind u (operands_by f) b
-unfolding computes fit
-plain_fits zero kind u b h = refl
-plain_fits (suc zero) kind u b h = refl
-plain_fits (suc (suc f)) kind u b h = absurd (omega arith)
+-- the forms whose instructions have an operand: all but one
+unfoldable pub has_operand : Form → Bool
+has_operand variant.Plain = false
+has_operand variant.Byte = true
+has_operand variant.Captured = true
+has_operand variant.Value = true
+has_operand variant.Text = true
+has_operand variant.Invoke = true
+has_operand variant.Ahead = true
+has_operand variant.Back = true
+has_operand variant.Closure = true
 
-jump_fits : (f : ℕ) (kind : ℕ → Kind) (u : ℕ) (b : List ℕ) → 6 ≤ f → f < 8 → true ≡ fit kind u (operands_by f) b
-unfolding computes fit
-jump_fits zero kind u b l h = absurd (omega arith)
-jump_fits (suc zero) kind u b l h = absurd (omega arith)
-jump_fits (suc (suc zero)) kind u b l h = absurd (omega arith)
-jump_fits (suc (suc (suc zero))) kind u b l h = absurd (omega arith)
-jump_fits (suc (suc (suc (suc zero)))) kind u b l h = absurd (omega arith)
-jump_fits (suc (suc (suc (suc (suc zero))))) kind u b l h = absurd (omega arith)
-jump_fits (suc (suc (suc (suc (suc (suc zero)))))) kind u b l h = refl
-jump_fits (suc (suc (suc (suc (suc (suc (suc zero))))))) kind u b l h = refl
-jump_fits (suc (suc (suc (suc (suc (suc (suc (suc f)))))))) kind u b l h = absurd (omega arith)
+wide_two : (f : Form) (k : Kind) → has_operand f ≡ true → 0 < width_by (Some f) k → 2 ≤ width_by (Some f) k
+unfolding computes has_operand
+wide_two variant.Plain k l h = absurd (no_true l)
+wide_two variant.Byte k l h = omega arith
+wide_two variant.Captured k l h = omega arith
+wide_two variant.Value k l h = omega arith
+wide_two variant.Text k l h = omega arith
+wide_two variant.Invoke k l h = omega arith
+wide_two variant.Ahead k l h = omega arith
+wide_two variant.Back k l h = omega arith
+wide_two variant.Closure missing l h = absurd (omega arith)
+wide_two variant.Closure number l h = absurd (omega arith)
+wide_two variant.Closure text l h = absurd (omega arith)
+wide_two variant.Closure (function n) l h = omega arith
 
-text_fits : (f : ℕ) (kind : ℕ → Kind) (u : ℕ) (b : List ℕ) → 4 ≤ f → f < 6 → fit kind u (operands_by f) b ≡ is_text (kind (get_or b 0 0))
-unfolding computes fit
-text_fits zero kind u b l h = absurd (omega arith)
-text_fits (suc zero) kind u b l h = absurd (omega arith)
-text_fits (suc (suc zero)) kind u b l h = absurd (omega arith)
-text_fits (suc (suc (suc zero))) kind u b l h = absurd (omega arith)
-text_fits (suc (suc (suc (suc zero)))) kind u b l h = refl
-text_fits (suc (suc (suc (suc (suc zero))))) kind u b l h = refl
-text_fits (suc (suc (suc (suc (suc (suc f)))))) kind u b l h = absurd (omega arith)
-
-wide_two : (f : ℕ) (k : Kind) → 1 ≤ f → 0 < width_by f k → 2 ≤ width_by f k
-unfolding computes
-wide_two zero k l h = absurd (omega arith)
-wide_two (suc zero) k l h = omega arith
-wide_two (suc (suc zero)) k l h = omega arith
-wide_two (suc (suc (suc zero))) k l h = omega arith
-wide_two (suc (suc (suc (suc zero)))) k l h = omega arith
-wide_two (suc (suc (suc (suc (suc zero))))) k l h = omega arith
-wide_two (suc (suc (suc (suc (suc (suc zero)))))) k l h = omega arith
-wide_two (suc (suc (suc (suc (suc (suc (suc zero))))))) k l h = omega arith
-wide_two (suc (suc (suc (suc (suc (suc (suc (suc zero)))))))) missing l h = absurd (omega arith)
-wide_two (suc (suc (suc (suc (suc (suc (suc (suc zero)))))))) number l h = absurd (omega arith)
-wide_two (suc (suc (suc (suc (suc (suc (suc (suc zero)))))))) text l h = absurd (omega arith)
-wide_two (suc (suc (suc (suc (suc (suc (suc (suc zero)))))))) (function n) l h = omega arith
-wide_two (suc (suc (suc (suc (suc (suc (suc (suc (suc f))))))))) k l h = absurd (omega arith)
-
-below_nine : (f : ℕ) (k : Kind) → 0 < width_by f k → f < 9
-unfolding computes
-below_nine zero k h = omega arith
-below_nine (suc zero) k h = omega arith
-below_nine (suc (suc zero)) k h = omega arith
-below_nine (suc (suc (suc zero))) k h = omega arith
-below_nine (suc (suc (suc (suc zero)))) k h = omega arith
-below_nine (suc (suc (suc (suc (suc zero))))) k h = omega arith
-below_nine (suc (suc (suc (suc (suc (suc zero)))))) k h = omega arith
-below_nine (suc (suc (suc (suc (suc (suc (suc zero))))))) k h = omega arith
-below_nine (suc (suc (suc (suc (suc (suc (suc (suc zero)))))))) k h = omega arith
-below_nine (suc (suc (suc (suc (suc (suc (suc (suc (suc f))))))))) k h = absurd (omega arith)
-
-value_is : (k : ℕ) → (k ≡ 0 → ⊥) → ltb k 3 ≡ is_value (kind_of k)
+pub value_yes : (k : element.Kind) → (k ≡ kind.Number) ⊎ (k ≡ kind.Text) → true ≡ is_value (kind_of k)
 unfolding kind_of is_value
-value_is zero h = absurd (h refl)
-value_is (suc zero) h = refl
-value_is (suc (suc zero)) h = refl
-value_is (suc (suc (suc k))) h = le-ltb (suc (suc (suc k))) 3 (omega arith)
+value_yes k h = ⊎_elim (λ (e : k ≡ kind.Number). rw e refl) (λ (e : k ≡ kind.Text). rw e refl) h
 
-text_is : (k : ℕ) → eqb k 2 ≡ is_text (kind_of k)
+pub value_no : (k : element.Kind) → (k ≡ kind.Number → ⊥) → (k ≡ kind.Text → ⊥) → false ≡ is_value (kind_of k)
+unfolding kind_of is_value
+value_no kind.Missing n t = refl
+value_no kind.Number n t = absurd (n refl)
+value_no kind.Text n t = absurd (t refl)
+value_no (kind.Function m) n t = refl
+
+pub text_yes : (k : element.Kind) → k ≡ kind.Text → true ≡ is_text (kind_of k)
 unfolding kind_of is_text
-text_is zero = refl
-text_is (suc zero) = refl
-text_is (suc (suc zero)) = refl
-text_is (suc (suc (suc k))) = let n : suc (suc (suc k)) ≡ 2 → ⊥ = λ e. omega arith in ne_eqb (suc (suc (suc k))) 2 n
+text_yes k e = rw e refl
 
-pub function_no : (k : ℕ) → k < 3 → is_function (kind_of k) ≡ false
-unfolding kind_of is_function
-function_no zero h = refl
-function_no (suc zero) h = refl
-function_no (suc (suc zero)) h = refl
-function_no (suc (suc (suc k))) h = absurd (omega arith)
+pub text_no : (k : element.Kind) → (k ≡ kind.Text → ⊥) → false ≡ is_text (kind_of k)
+unfolding kind_of is_text
+text_no kind.Missing t = refl
+text_no kind.Number t = refl
+text_no kind.Text t = absurd (t refl)
+text_no (kind.Function m) t = refl
 
-function_yes : (n : ℕ) → is_function (kind_of (suc (suc (suc n)))) ≡ true
+pub function_no : (k : element.Kind) → ((n : ℕ) → k ≡ kind.Function n → ⊥) → is_function (kind_of k) ≡ false
 unfolding kind_of is_function
-function_yes n = refl
+function_no kind.Missing h = refl
+function_no kind.Number h = refl
+function_no kind.Text h = refl
+function_no (kind.Function n) h = absurd (h n refl)
 
 drop_one : (m : ℕ) (l : List ℕ) → drop 1 (take (suc m) l) ≡ take m (drop 1 l)
 drop_one zero [] = refl
@@ -101,7 +81,13 @@ drop_one (suc m) [] = refl
 drop_one zero (x ∷ l) = refl
 drop_one (suc m) (x ∷ l) = refl
 
-module _ (table code : List ℕ) (at u f : ℕ) (known : f ≡ form_of (get_or code at 0)) where
+-- no instruction: nothing is asked
+pub fits_unknown : (table : List element.Kind) (code : List ℕ) (at u : ℕ) → None ≡ form_of (get_or code at 0)
+    → true ≡ operands_fit (kinds_in table) u (instruction_at (kinds_in table) code at)
+unfolding instruction_at operands_fit computes fit
+fits_unknown table code at u e = rw (← e) refl
+
+module _ (table : List element.Kind) (code : List ℕ) (at u : ℕ) (f : Form) (known : Some f ≡ form_of (get_or code at 0)) where
   abbrev w : ℕ
   w = width (kinds_in table) (get_or code at 0) (drop (at + 1) code)
 
@@ -111,70 +97,68 @@ module _ (table code : List ℕ) (at u f : ℕ) (known : f ≡ form_of (get_or c
   abbrev verdict : Bool
   verdict = operands_fit (kinds_in table) u (instruction_at (kinds_in table) code at)
 
-  verdict_is : verdict ≡ fit (kinds_in table) u (operands_by f) bytes
+  verdict_is : verdict ≡ fit (kinds_in table) u (operands_by (Some f)) bytes
   unfolding instruction_at operands_fit
   verdict_is = rw known refl
 
-  pub fits_plain : f < 2 → true ≡ verdict
-  fits_plain h = plain_fits f (kinds_in table) u bytes h ∙ sym verdict_is
-
-  pub fits_jump : 6 ≤ f → f < 8 → true ≡ verdict
-  fits_jump l h = jump_fits f (kinds_in table) u bytes l h ∙ sym verdict_is
-
-  pub two_wide : 1 ≤ f → 0 < w → 2 ≤ w
+  pub two_wide : has_operand f ≡ true → 0 < w → 2 ≤ w
   unfolding width
-  two_wide l h = wide_two (form_of (get_or code at 0)) _ (rw known at l) h
+  two_wide l h = rw (← known) (wide_two f _ l (rw (← known) at h))
 
-  pub known_form : 0 < w → f < 9
-  unfolding width
-  known_form h = below_nine f _ (rw (← known) at h)
+  -- nothing is asked of what follows
+  pub fits_any : (f ≡ variant.Plain) ⊎ ((f ≡ variant.Byte) ⊎ ((f ≡ variant.Ahead) ⊎ (f ≡ variant.Back))) → true ≡ verdict
+  unfolding computes fit
+  fits_any h =
+      ⊎_elim (λ (e : f ≡ variant.Plain). sym (verdict_is ∙ rw e refl))
+      (λ (r : (f ≡ variant.Byte) ⊎ ((f ≡ variant.Ahead) ⊎ (f ≡ variant.Back))).
+      ⊎_elim (λ (e : f ≡ variant.Byte). sym (verdict_is ∙ rw e refl))
+      (λ (t : (f ≡ variant.Ahead) ⊎ (f ≡ variant.Back)).
+      ⊎_elim (λ (e : f ≡ variant.Ahead). sym (verdict_is ∙ rw e refl)) (λ (e : f ≡ variant.Back). sym (verdict_is ∙ rw e refl)) t) r) h
 
-  module _ (place k : ℕ) (two : 2 ≤ w) (is-place : place ≡ get_or code (at + 1) 0) (is-kind : k ≡ get_or table place 0) where
-    pub first_is : get_or bytes 0 0 ≡ place
+  module _ (two : 2 ≤ w) where
+    pub first_is : get_or bytes 0 0 ≡ get_or code (at + 1) 0
     first_is =
         let e : at + 1 + 0 ≡ at + 1 = omega arith in
-        get_or-take (w - 1) (drop (at + 1) code) 0 0 (omega arith) ∙ get_or-drop (at + 1) code 0 0 ∙ rw (e, is-place) refl
+        get_or-take (w - 1) (drop (at + 1) code) 0 0 (omega arith) ∙ get_or-drop (at + 1) code 0 0 ∙ rw e refl
 
-    pub fits_captured : f ≡ 2 → ltb place u ≡ verdict
+    pub fits_captured : f ≡ variant.Captured → ltb (get_or code (at + 1) 0) u ≡ verdict
     unfolding computes fit
     fits_captured e = sym (verdict_is ∙ rw (e, first_is) refl)
 
-    kind_is : kinds_in table (get_or bytes 0 0) ≡ kind_of k
-    unfolding kinds_in
-    kind_is = rw (first_is, is-kind) refl
+    module _ (k : element.Kind) (is-kind : k ≡ get_or table (get_or code (at + 1) 0) kind.Missing) where
+      kind_is : kinds_in table (get_or bytes 0 0) ≡ kind_of k
+      unfolding kinds_in
+      kind_is = rw (first_is, is-kind) refl
 
-    pub fits_missing : f ≡ 3 → k ≡ 0 → false ≡ verdict
-    unfolding computes fit kind_of is_value
-    fits_missing e z = sym (verdict_is ∙ rw (e, kind_is, z) refl)
+      pub fits_value : f ≡ variant.Value → is_value (kind_of k) ≡ verdict
+      unfolding computes fit
+      fits_value e = sym (verdict_is ∙ rw (e, kind_is) refl)
 
-    pub fits_value : f ≡ 3 → (k ≡ 0 → ⊥) → ltb k 3 ≡ verdict
-    unfolding computes fit
-    fits_value e z = sym (verdict_is ∙ rw (e, kind_is) (sym (value_is k z)))
+      pub fits_text : (f ≡ variant.Text) ⊎ (f ≡ variant.Invoke) → is_text (kind_of k) ≡ verdict
+      unfolding computes fit
+      fits_text h =
+          ⊎_elim (λ (e : f ≡ variant.Text). sym (verdict_is ∙ rw (e, kind_is) refl))
+          (λ (e : f ≡ variant.Invoke). sym (verdict_is ∙ rw (e, kind_is) refl)) h
 
-    pub fits_text : 4 ≤ f → f < 6 → eqb k 2 ≡ verdict
-    fits_text l h = sym (verdict_is ∙ text_fits f (kinds_in table) u bytes l h ∙ rw kind_is (sym (text_is k)))
+      pub fits_none : f ≡ variant.Closure → is_function (kind_of k) ≡ false → false ≡ verdict
+      unfolding computes fit
+      fits_none e h = sym (verdict_is ∙ rw (e, kind_is, h) refl)
 
-    pub fits_none : f ≡ 8 → k < 3 → false ≡ verdict
-    unfolding computes fit
-    fits_none e h = sym (verdict_is ∙ rw (e, kind_is, function_no k h) refl)
+      kind_start : kinds_in table (get_or (drop (at + 1) code) 0 0) ≡ kind_of k
+      unfolding kinds_in
+      kind_start = let e : at + 1 + 0 ≡ at + 1 = omega arith in rw (get_or-drop (at + 1) code 0 0, e, is-kind) refl
 
-    start_is : get_or (drop (at + 1) code) 0 0 ≡ place
-    start_is = let e : at + 1 + 0 ≡ at + 1 = omega arith in get_or-drop (at + 1) code 0 0 ∙ rw (e, is-place) refl
+      module _ (n : ℕ) (e : f ≡ variant.Closure) (m : k ≡ kind.Function n) where
+        closure_wide : w ≡ 2 + 2 * n
+        unfolding computes width kind_of
+        closure_wide = rw (← known, e, kind_start, m) (omega arith)
 
-    kind_start : kinds_in table (get_or (drop (at + 1) code) 0 0) ≡ kind_of k
-    unfolding kinds_in
-    kind_start = rw (start_is, is-kind) refl
+        pub pairs_room : at + w ≤ length code → at + 2 + 2 * n ≤ length code
+        pairs_room h = let q = closure_wide in omega arith
 
-    closure_wide : (n : ℕ) → f ≡ 8 → k ≡ suc (suc (suc n)) → w ≡ 2 + 2 * n
-    unfolding computes width kind_of
-    closure_wide n e m = rw (← known, e, kind_start, m) (omega arith)
-
-    pub pairs_room : (n : ℕ) → f ≡ 8 → k ≡ suc (suc (suc n)) → at + w ≤ length code → at + 2 + 2 * n ≤ length code
-    pairs_room n e m h = let q = closure_wide n e m in omega arith
-
-    pub fits_pairs : (n : ℕ) → f ≡ 8 → k ≡ suc (suc (suc n)) → pairs_fit u (take (2 * n) (drop (at + 2) code)) ≡ verdict
-    unfolding computes fit
-    fits_pairs n e m =
-        let q : w - 1 ≡ suc (2 * n) = (let v = closure_wide n e m in omega arith) in
-        let p : at + 1 + 1 ≡ at + 2 = omega arith in
-        sym (verdict_is ∙ rw (e, kind_is, m, function_yes n, q, drop_one (2 * n) (drop (at + 1) code), drop-drop 1 (at + 1) code, p) refl)
+        pub fits_pairs : pairs_fit u (take (2 * n) (drop (at + 2) code)) ≡ verdict
+        unfolding computes fit kind_of is_function
+        fits_pairs =
+            let q : w - 1 ≡ suc (2 * n) = (let v = closure_wide in omega arith) in
+            let p : at + 1 + 1 ≡ at + 2 = omega arith in
+            sym (verdict_is ∙ rw (e, kind_is, m, q, drop_one (2 * n) (drop (at + 1) code), drop-drop 1 (at + 1) code, p) refl)

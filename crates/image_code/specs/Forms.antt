@@ -1,46 +1,46 @@
--- What follows an opcode as one number, its form, and the width that the rules give an instruction of that form.
+-- What follows an opcode as its form, and the width that the rules give an instruction of that form.
 use Rattle.std.proofs.Math.Option.{Option, none, some}
-use Rattle.std.specs.Prelude.{List, ◌∷◌, ℕ, suc, get_or, []}
+use Rattle.std.specs.Prelude.{List, ℕ, suc, get_or, Some, None}
+use Rattle.std.specs.declared.option.Option as answer
 use Rattle.rules.specs.Op.{Operands, Plain, Byte, Captured, Value, Text, Invoke, Ahead, Back, Closure, operands_of}
 use Rattle.rules.specs.Division.{Kind, size_with}
+use Rattle.image_code.specs.declared.Form.{Form}
+use Rattle.image_code.specs.declared.Form.TheVariants as variant
 
--- 9 of a byte that is no opcode
-unfoldable pub form : Option Operands → ℕ
-form none = 9
-form (some Plain) = 0
-form (some Byte) = 1
-form (some Captured) = 2
-form (some Value) = 3
-form (some Text) = 4
-form (some Invoke) = 5
-form (some Ahead) = 6
-form (some Back) = 7
-form (some Closure) = 8
+-- none of a byte that is no opcode
+unfoldable pub form : Option Operands → answer.Option Form
+form none = None
+form (some Plain) = Some variant.Plain
+form (some Byte) = Some variant.Byte
+form (some Captured) = Some variant.Captured
+form (some Value) = Some variant.Value
+form (some Text) = Some variant.Text
+form (some Invoke) = Some variant.Invoke
+form (some Ahead) = Some variant.Ahead
+form (some Back) = Some variant.Back
+form (some Closure) = Some variant.Closure
 
-unfoldable pub form_of : (op : ℕ) → ℕ
+unfoldable pub form_of : (op : ℕ) → answer.Option Form
 form_of op = form (operands_of op)
 
-unfoldable pub by_form : (form : ℕ) → Option Operands
-by_form form =
-    get_or
-    (some Plain ∷
-    some Byte ∷
-    some Captured ∷
-    some Value ∷
-    some Text ∷
-    some Invoke ∷
-    some Ahead ∷
-    some Back ∷
-    some Closure ∷ [])
-    form
-    none
+unfoldable pub by_form : answer.Option Form → Option Operands
+by_form None = none
+by_form (Some variant.Plain) = some Plain
+by_form (Some variant.Byte) = some Byte
+by_form (Some variant.Captured) = some Captured
+by_form (Some variant.Value) = some Value
+by_form (Some variant.Text) = some Text
+by_form (Some variant.Invoke) = some Invoke
+by_form (Some variant.Ahead) = some Ahead
+by_form (Some variant.Back) = some Back
+by_form (Some variant.Closure) = some Closure
 
 -- of a form that is none it says nothing
 unfoldable pub operands_in : Option Operands → Operands
 operands_in none = Plain
 operands_in (some o) = o
 
-unfoldable pub operands_by : (form : ℕ) → Operands
+unfoldable pub operands_by : answer.Option Form → Operands
 operands_by form = operands_in (by_form form)
 
 -- with the opcode; 0 where there is no such instruction
@@ -53,7 +53,7 @@ width_with none k = 0
 width_with (some o) k = with_opcode (size_with o k)
 
 -- how many bytes an instruction of a form has whose first operand finds such a constant
-unfoldable pub width_by : (form : ℕ) → Kind → ℕ
+unfoldable pub width_by : answer.Option Form → Kind → ℕ
 width_by form k = width_with (by_form form) k
 
 -- of an opcode and what stands behind it

@@ -1,22 +1,23 @@
 -- What is said of a code whose constants are those of a table: its division, and whether it is right.
-use Rattle.std.specs.Prelude.{Bool, true, false, ◌&&◌, List, ℕ, zero, suc, ◌+◌, ◌-◌, ◌%◌, ◌<◌, length, get_or, take, drop, eqb, if◌then◌else◌, []}
+use Rattle.std.specs.Prelude.{Bool, true, false, ◌&&◌, List, ℕ, ◌+◌, ◌-◌, ◌%◌, ◌<◌, length, get_or, take, drop, eqb, if◌then◌else◌, [], Some, None}
 use Rattle.std.proofs.Math.Option.{Option, none, some}
 use Rattle.rules.specs.Base.{all, all_below}
 use Rattle.rules.specs.Division.{Kind, missing, number, text, function, Instruction, divide, is_function, operands_fit, lands}
 use Rattle.rules.specs.Checker.{closures}
 use Rattle.image_code.specs.Forms.{form_of, operands_by, width}
-use Rattle.image_code.specs.declared.Verdict.{Verdict}
-use Rattle.image_code.specs.declared.Verdict.TheVariants.{Yes, No}
+use Rattle.std.specs.declared.option.Option as answer
+use Rattle.image_code.specs.declared.Kind as table
+use Rattle.image_code.specs.declared.Kind.TheVariants as variant
 
--- a word of the table
-unfoldable pub kind_of : ℕ → Kind
-kind_of zero = missing
-kind_of (suc zero) = number
-kind_of (suc (suc zero)) = text
-kind_of (suc (suc (suc n))) = function n
+-- what an element of the table stands for
+unfoldable pub kind_of : table.Kind → Kind
+kind_of variant.Missing = missing
+kind_of variant.Number = number
+kind_of variant.Text = text
+kind_of (variant.Function n) = function n
 
-unfoldable pub kinds_in : List ℕ → ℕ → Kind
-kinds_in table place = kind_of (get_or table place 0)
+unfoldable pub kinds_in : List table.Kind → ℕ → Kind
+kinds_in kinds place = kind_of (get_or kinds place variant.Missing)
 
 abbrev pub division : (kind : (place : ℕ) → Kind) → (code : List ℕ) → Option (List Instruction)
 division kind code = divide kind 0 0 code
@@ -44,9 +45,9 @@ unfoldable pub is_some : Option (List Instruction) → Bool
 is_some none = false
 is_some (some is) = true
 
-unfoldable pub judged : (Instruction → Bool) → (n : ℕ) → Option (List Instruction) → Verdict
-judged p n none = No
-judged p n (some is) = if all p is then Yes (n + length is) else No
+unfoldable pub judged : (Instruction → Bool) → (n : ℕ) → Option (List Instruction) → answer.Option ℕ
+judged p n none = None
+judged p n (some is) = if all p is then Some (n + length is) else None
 
 -- places that are less than this apart have slots of their own in a ring
 abbrev pub window_size : ℕ
@@ -66,6 +67,6 @@ code_right kind upvalues size is =
     (all (operands_fit kind upvalues) is && all (lands is size) is) && all_below 256 (closed_by kind is)
 
 -- the number of instructions of a code that is right
-unfoldable pub judged_code : (kind : (place : ℕ) → Kind) → (upvalues size : ℕ) → Option (List Instruction) → Verdict
-judged_code kind upvalues size none = No
-judged_code kind upvalues size (some is) = if code_right kind upvalues size is then Yes (length is) else No
+unfoldable pub judged_code : (kind : (place : ℕ) → Kind) → (upvalues size : ℕ) → Option (List Instruction) → answer.Option ℕ
+judged_code kind upvalues size none = None
+judged_code kind upvalues size (some is) = if code_right kind upvalues size is then Some (length is) else None

@@ -12,135 +12,108 @@ use op::Op;
 // is no longer has a slot for each place, so its ring need not be longer than it.
 pub const WINDOW: usize = 131072;
 
-#[derive(Drop)]
-pub enum Verdict {
-    Yes(usize),
-    No,
-}
-
-// A constant, as operands see it, is one word of a table of 256: the rules' `Kind`.
-#[derive(Drop)]
-pub struct Kind {
-    pub word: u32,
-}
-
-impl Kind {
+// A constant, as operands see it: the rules' `Kind`.
+#[derive(Clone, Copy)]
+pub enum Kind {
     // there is no such constant
-    pub const MISSING: u32 = 0;
-
-    pub const NUMBER: u32 = 1;
-
-    pub const STRING: u32 = 2;
-
-    // and how many variables it captures is added
-    pub const FUNCTION: u32 = 3;
+    Missing,
+    Number,
+    Text,
+    // and how many variables it captures
+    Function(u16),
 }
 
 // What follows an opcode: the rules' `Operands`, by their names.
-#[derive(Drop)]
-pub struct Form {
-    pub number: u8,
-}
-
-impl Form {
+#[derive(Clone, Copy)]
+pub enum Form {
     // nothing
-    pub const PLAIN: u8 = 0;
-
+    Plain,
     // a slot or a count
-    pub const BYTE: u8 = 1;
-
+    Byte,
     // a captured variable's place
-    pub const CAPTURED: u8 = 2;
-
+    Captured,
     // the place of a constant that is no function
-    pub const VALUE: u8 = 3;
-
+    Value,
     // the place of a string
-    pub const TEXT: u8 = 4;
-
+    Text,
     // the place of a string, and a count
-    pub const INVOKE: u8 = 5;
-
+    Invoke,
     // a distance ahead
-    pub const AHEAD: u8 = 6;
-
+    Ahead,
     // a distance back
-    pub const BACK: u8 = 7;
-
+    Back,
     // the place of a function, and a pair for each of its captured variables
-    pub const CLOSURE: u8 = 8;
-
-    // of a byte that is no opcode
-    pub const NONE: u8 = 9;
+    Closure,
 }
 
 // The form of each opcode, in the order of their numbers.
-const FORMS: [u8; 40] = [
-    Form::VALUE, // CONSTANT
-    Form::PLAIN, // NIL
-    Form::PLAIN, // TRUE
-    Form::PLAIN, // FALSE
-    Form::PLAIN, // POP
-    Form::BYTE, // GET_LOCAL
-    Form::BYTE, // SET_LOCAL
-    Form::TEXT, // GET_GLOBAL
-    Form::TEXT, // DEFINE_GLOBAL
-    Form::TEXT, // SET_GLOBAL
-    Form::CAPTURED, // GET_UPVALUE
-    Form::CAPTURED, // SET_UPVALUE
-    Form::TEXT, // GET_PROPERTY
-    Form::TEXT, // SET_PROPERTY
-    Form::TEXT, // GET_SUPER
-    Form::PLAIN, // EQUAL
-    Form::PLAIN, // NOT_EQUAL
-    Form::PLAIN, // GREATER
-    Form::PLAIN, // GREATER_EQUAL
-    Form::PLAIN, // LESS
-    Form::PLAIN, // LESS_EQUAL
-    Form::PLAIN, // ADD
-    Form::PLAIN, // SUBTRACT
-    Form::PLAIN, // MULTIPLY
-    Form::PLAIN, // DIVIDE
-    Form::PLAIN, // NOT
-    Form::PLAIN, // NEGATE
-    Form::PLAIN, // PRINT
-    Form::AHEAD, // JUMP
-    Form::AHEAD, // JUMP_IF_FALSE
-    Form::BACK, // LOOP
-    Form::BYTE, // CALL
-    Form::INVOKE, // INVOKE
-    Form::INVOKE, // SUPER_INVOKE
-    Form::CLOSURE, // CLOSURE
-    Form::PLAIN, // CLOSE_UPVALUE
-    Form::PLAIN, // RETURN
-    Form::TEXT, // CLASS
-    Form::PLAIN, // INHERIT
-    Form::TEXT, // METHOD
+const FORMS: [Form; 40] = [
+    Form::Value, // CONSTANT
+    Form::Plain, // NIL
+    Form::Plain, // TRUE
+    Form::Plain, // FALSE
+    Form::Plain, // POP
+    Form::Byte, // GET_LOCAL
+    Form::Byte, // SET_LOCAL
+    Form::Text, // GET_GLOBAL
+    Form::Text, // DEFINE_GLOBAL
+    Form::Text, // SET_GLOBAL
+    Form::Captured, // GET_UPVALUE
+    Form::Captured, // SET_UPVALUE
+    Form::Text, // GET_PROPERTY
+    Form::Text, // SET_PROPERTY
+    Form::Text, // GET_SUPER
+    Form::Plain, // EQUAL
+    Form::Plain, // NOT_EQUAL
+    Form::Plain, // GREATER
+    Form::Plain, // GREATER_EQUAL
+    Form::Plain, // LESS
+    Form::Plain, // LESS_EQUAL
+    Form::Plain, // ADD
+    Form::Plain, // SUBTRACT
+    Form::Plain, // MULTIPLY
+    Form::Plain, // DIVIDE
+    Form::Plain, // NOT
+    Form::Plain, // NEGATE
+    Form::Plain, // PRINT
+    Form::Ahead, // JUMP
+    Form::Ahead, // JUMP_IF_FALSE
+    Form::Back, // LOOP
+    Form::Byte, // CALL
+    Form::Invoke, // INVOKE
+    Form::Invoke, // SUPER_INVOKE
+    Form::Closure, // CLOSURE
+    Form::Plain, // CLOSE_UPVALUE
+    Form::Plain, // RETURN
+    Form::Text, // CLASS
+    Form::Plain, // INHERIT
+    Form::Text, // METHOD
 ];
 
-pub fn form_of(op: u8) -> u8
+// The form of an opcode; none of a byte that is no opcode.
+pub fn form_of(op: u8) -> Option<Form>
     ensures { result ≡ form_of op }
 {
     if op <= Op::METHOD {
-        return FORMS[op as usize];
+        return Some(FORMS[op as usize]);
     }
-    Form::NONE
+    None
 }
 
 // What the first operand of the instruction at `at` finds in the table.
-fn kind_at(code: &[u8], at: usize, kinds: &[u32; 256]) -> u32
+fn kind_at(code: &[u8], at: usize, kinds: &[Kind; 256]) -> Kind
     requires { at < length code.now }
     ensures { kind_of result ≡ kinds_in kinds.now (get_or (drop (at + 1) code.now) 0 0) }
 {
     if at + 1 < code.len() {
-        let place = fields::wide(code[at + 1]);
-        return kinds[place];
+        return kinds[code[at + 1] as usize];
     }
     kinds[0]
 }
 
-// How many bytes the instruction at `at` has; 0 where there is no such instruction: a byte that is no opcode, or a CLOSURE of no function.
-pub fn width_at(code: &[u8], at: usize, kinds: &[u32; 256]) -> usize
+// How many bytes the instruction at `at` has; 0 where there is no such instruction: a byte that is no opcode, or a CLOSURE of no function. No
+// Option: of its callers one alone asks whether there is one, and the others go on by the number, where they know that there is.
+pub fn width_at(code: &[u8], at: usize, kinds: &[Kind; 256]) -> usize
     requires { at < length code.now }
     ensures { result ≡ Forms.width (kinds_in kinds.now) (get_or code.now at 0) (drop (at + 1) code.now) }
 {
@@ -148,9 +121,8 @@ pub fn width_at(code: &[u8], at: usize, kinds: &[u32; 256]) -> usize
     if op != Op::CLOSURE {
         return Op::width(op, 0);
     }
-    let kind = kind_at(code, at, kinds);
-    if kind < Kind::FUNCTION {
+    let Kind::Function(captured) = kind_at(code, at, kinds) else {
         return 0;
-    }
-    Op::width(op, kind - Kind::FUNCTION)
+    };
+    Op::width(op, captured as u32)
 }

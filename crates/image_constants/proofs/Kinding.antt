@@ -20,9 +20,10 @@ use Rattle.rules.specs.Division as Division
 use Rattle.rules.specs.ImageFile.{read_function}
 use Rattle.rules.specs.Checker.{names_earlier}
 use Rattle.image_code.specs.Table.{kind_of, kinds_in}
+use Rattle.image_code.specs.declared.Kind as table
+use Rattle.image_code.specs.declared.Kind.TheVariants.{Missing, Number, Text, Function}
 use Rattle.image_records.specs.declared.Header.{Header}
-use Rattle.image_records.specs.declared.Head.TheVariants as head
-use Rattle.image_records.specs.declared.Place.TheVariants as place
+use Rattle.std.proofs.Common.{Some, None}
 use Rattle.image_records.specs.Told.{place_told, head_at}
 use Rattle.image_code.proofs.Once.{either_false}
 use Rattle.image_records.proofs.Many.{Nth, nth_of, many_length, place_bad, place_at}
@@ -55,25 +56,25 @@ module _ (s : List ℕ) (j k : ℕ) (g : is_got (many k (read_function s) 6) ≡
   abbrev nth : Nth (read_function s) k j 6 (earlier s k)
   nth = nth_of (read_function s) k j 6 (earlier_are s k g).at (earlier s k) (earlier_are s k g).are h
 
-  pub walk_lost : place.Bad ≡ place_told (many j (read_function s) 6) → (r : ℕ) → r ≡ upvalues_at (earlier s k) j
+  pub walk_lost : None ≡ place_told (many j (read_function s) 6) → (r : ℕ) → r ≡ upvalues_at (earlier s k) j
   walk_lost b r =
       let f = place_bad _ b in
       absurd (let z : ◌≡◌ {A = Read (List ObjectFunction)} (bad f.fault) (got (take j (earlier s k)) nth.place) = sym f.is ∙ nth.before in let y : ◌≡◌ {A = ℕ} 0 1 = cc in omega arith)
 
-  place_same : (at : ℕ) → place.At at ≡ place_told (many j (read_function s) 6) → nth.place ≡ at
+  place_same : (at : ℕ) → Some at ≡ place_told (many j (read_function s) 6) → nth.place ≡ at
   place_same at e =
       let f = place_at _ at e in
       let z : ◌≡◌ {A = Read (List ObjectFunction)} (got f.value at) (got (take j (earlier s k)) nth.place) = sym f.is ∙ nth.before in
       cc
 
-  pub walk_headless : (at : ℕ) → place.At at ≡ place_told (many j (read_function s) 6) → head.Bad ≡ head_at s at → (r : ℕ) → r ≡ upvalues_at (earlier s k) j
+  pub walk_headless : (at : ℕ) → Some at ≡ place_told (many j (read_function s) 6) → None ≡ head_at s at → (r : ℕ) → r ≡ upvalues_at (earlier s k) j
   walk_headless at e b r =
       let f = head_fails s at b in
       let p = place_same at e in
       absurd (let z : ◌≡◌ {A = Read ObjectFunction} (bad f.fault) (got nth.value nth.next) = sym f.is ∙ ap (read_function s) (sym p) ∙ nth.is in
       let y : ◌≡◌ {A = ℕ} 0 1 = cc in omega arith)
 
-  pub walk_there : (at : ℕ) → place.At at ≡ place_told (many j (read_function s) 6) → (h : Header) → head.Is h ≡ head_at s at → h.upvalues ≡ upvalues_at (earlier s k) j
+  pub walk_there : (at : ℕ) → Some at ≡ place_told (many j (read_function s) 6) → (h : Header) → Some h ≡ head_at s at → h.upvalues ≡ upvalues_at (earlier s k) j
   unfolding upvalues_at upvalues_in
   walk_there at e h b =
       let p = place_same at e in
@@ -82,22 +83,22 @@ module _ (s : List ℕ) (j k : ℕ) (g : is_got (many k (read_function s) 6) ≡
 -- ## A constant's word
 
 module _ (functions : List ObjectFunction) (k w : ℕ) where
-  abbrev word : ℕ
+  abbrev word : table.Kind
   word = kind_word functions k (constant_of w)
 
-  pub word_number : w % 2 ≡ 0 → 1 ≡ word
+  pub word_number : w % 2 ≡ 0 → Number ≡ word
   unfolding kind_word
   word_number e = rw (is_number w e) refl
 
-  pub word_string : (w % 2 ≡ 0 → ⊥) → w % 4 ≡ 1 → 2 ≡ word
+  pub word_string : (w % 2 ≡ 0 → ⊥) → w % 4 ≡ 1 → Text ≡ word
   unfolding kind_word
   word_string n e = rw (is_string w n e) refl
 
-  pub word_function : (w % 2 ≡ 0 → ⊥) → (w % 4 ≡ 1 → ⊥) → w / 4 < k → 3 + upvalues_at functions (w / 4) ≡ word
+  pub word_function : (w % 2 ≡ 0 → ⊥) → (w % 4 ≡ 1 → ⊥) → w / 4 < k → Function (upvalues_at functions (w / 4)) ≡ word
   unfolding kind_word
   word_function n m h = rw (is_function w n m, lt-ltb _ _ h) refl
 
-  pub word_late : (w % 2 ≡ 0 → ⊥) → (w % 4 ≡ 1 → ⊥) → k ≤ w / 4 → 0 ≡ word
+  pub word_late : (w % 2 ≡ 0 → ⊥) → (w % 4 ≡ 1 → ⊥) → k ≤ w / 4 → Missing ≡ word
   unfolding kind_word
   word_late n m h = rw (is_function w n m, le-ltb _ _ h) refl
 
@@ -107,34 +108,31 @@ element (x ∷ l) zero h = (x, refl)
 element (x ∷ l) (suc n) h = element l n (omega arith)
 
 module _ (functions : List ObjectFunction) (k : ℕ) (number_of_lem : length functions ≡ k) where
-  function_word : (n : ℕ) → n < k → kind_of (3 + upvalues_at functions n) ≡ function_kind (get_elem? functions n)
+  function_word : (n : ℕ) → n < k → kind_of (Function (upvalues_at functions n)) ≡ function_kind (get_elem? functions n)
   unfolding kind_of upvalues_at upvalues_in function_kind
-  function_word n h =
-      let e = element functions n (omega arith) in
-      let p : 3 + e.0.upvalue_count ≡ suc (suc (suc e.0.upvalue_count)) = omega arith in
-      rw (e.1, p) refl
+  function_word n h = let e = element functions n (omega arith) in rw e.1 refl
 
-  kind_by : (c : Constant) (t : Bool) → names_earlier k c ≡ t → (kind_word functions k c ≡ 0 → ⊥) → kind_of (kind_word functions k c) ≡ Division.kind_of functions (some c)
+  kind_by : (c : Constant) (t : Bool) → names_earlier k c ≡ t → (kind_word functions k c ≡ Missing → ⊥) → kind_of (kind_word functions k c) ≡ Division.kind_of functions (some c)
   unfolding kind_word names_earlier kind_of Division.kind_of
   kind_by (CN b) t e h = refl
   kind_by (CS b) t e h = refl
   kind_by (CF n) true e h = rw e (function_word n (ltb-true _ _ e))
   kind_by (CF n) false e h = absurd (h (rw e refl))
 
-  pub kind_right : (c : Constant) → (kind_word functions k c ≡ 0 → ⊥) → kind_of (kind_word functions k c) ≡ Division.kind_of functions (some c)
+  pub kind_right : (c : Constant) → (kind_word functions k c ≡ Missing → ⊥) → kind_of (kind_word functions k c) ≡ Division.kind_of functions (some c)
   kind_right c h = kind_by c (names_earlier k c) refl h
 
-  pub named_not : (c : Constant) → kind_word functions k c ≡ 0 → names_earlier k c ≡ false
+  pub named_not : (c : Constant) → kind_word functions k c ≡ Missing → names_earlier k c ≡ false
   unfolding kind_word names_earlier
-  named_not (CN b) e = absurd (omega arith)
-  named_not (CS b) e = absurd (omega arith)
+  named_not (CN b) e = absurd (let z : ◌≡◌ {A = ℕ} 0 1 = cc in omega arith)
+  named_not (CS b) e = absurd (let z : ◌≡◌ {A = ℕ} 0 1 = cc in omega arith)
   named_not (CF n) e = by (ltb n k) refl e
     where
-      by : (t : Bool) → ltb n k ≡ t → (if t then 3 + upvalues_at functions n else 0) ≡ 0 → ltb n k ≡ false
-      by true f z = absurd (omega arith)
+      by : (t : Bool) → ltb n k ≡ t → (if t then Function (upvalues_at functions n) else Missing) ≡ Missing → ltb n k ≡ false
+      by true f z = absurd (let y : ◌≡◌ {A = ℕ} 0 1 = cc in omega arith)
       by false f z = f
 
-  pub named : (c : Constant) → (kind_word functions k c ≡ 0 → ⊥) → names_earlier k c ≡ true
+  pub named : (c : Constant) → (kind_word functions k c ≡ Missing → ⊥) → names_earlier k c ≡ true
   unfolding kind_word names_earlier
   named (CN b) e = refl
   named (CS b) e = refl
@@ -144,21 +142,21 @@ module _ (functions : List ObjectFunction) (k : ℕ) (number_of_lem : length fun
       by true f = f
       by false f = absurd (e (rw f refl))
 
-  pub plain_word : (c : Constant) → (kind_word functions k c ≡ 0 → ⊥) → kind_word functions k c ≤ 2 → no_function c ≡ true
+  pub plain_word : (c : Constant) → (kind_word functions k c ≡ Missing → ⊥) → ((n : ℕ) → kind_word functions k c ≡ Function n → ⊥) → no_function c ≡ true
   unfolding kind_word no_function
   plain_word (CN b) h l = refl
   plain_word (CS b) h l = refl
   plain_word (CF n) h l = absurd (by (ltb n k) refl)
     where
       by : (t : Bool) → ltb n k ≡ t → ⊥
-      by true f = let z : 3 + upvalues_at functions n ≤ 2 = rw f at l in omega arith
+      by true f = l (upvalues_at functions n) (rw f refl)
       by false f = h (rw f refl)
 
-  pub function_above : (c : Constant) → 2 < kind_word functions k c → no_function c ≡ false
+  pub function_above : (c : Constant) (n : ℕ) → kind_word functions k c ≡ Function n → no_function c ≡ false
   unfolding kind_word no_function
-  function_above (CN b) l = absurd (omega arith)
-  function_above (CS b) l = absurd (omega arith)
-  function_above (CF n) l = refl
+  function_above (CN b) n l = absurd (let z : ◌≡◌ {A = ℕ} 0 1 = cc in omega arith)
+  function_above (CS b) n l = absurd (let z : ◌≡◌ {A = ℕ} 0 1 = cc in omega arith)
+  function_above (CF m) n l = refl
 
 -- ## All of them
 
@@ -201,18 +199,18 @@ nth_none (x ∷ l) zero h = absurd (omega arith)
 nth_none (x ∷ l) (suc p) h = nth_none l p (omega arith)
 
 -- the first `i` words are right, and so is the table up to there
-pub record Passing (functions : List ObjectFunction) (k : ℕ) (words kinds : List ℕ) (i : ℕ) : Type 0 where
+pub record Passing (functions : List ObjectFunction) (k : ℕ) (words : List ℕ) (kinds : List table.Kind) (i : ℕ) : Type 0 where
   pub size : length kinds ≡ 256
-  pub right : (j : ℕ) → j < i → kind_word functions k (constant_of (get_or words j 0)) ≡ 0 → ⊥
-  pub plain : (j : ℕ) → j < i → 256 ≤ j → kind_word functions k (constant_of (get_or words j 0)) ≤ 2
-  pub filled : (p : ℕ) → p < 256 → p < i → get_or kinds p 0 ≡ kind_word functions k (constant_of (get_or words p 0))
-  pub blank : (p : ℕ) → i ≤ p → get_or kinds p 0 ≡ 0
+  pub right : (j : ℕ) → j < i → kind_word functions k (constant_of (get_or words j 0)) ≡ Missing → ⊥
+  pub plain : (j : ℕ) → j < i → 256 ≤ j → no_function (constant_of (get_or words j 0)) ≡ true
+  pub filled : (p : ℕ) → p < 256 → p < i → get_or kinds p Missing ≡ kind_word functions k (constant_of (get_or words p 0))
+  pub blank : (p : ℕ) → i ≤ p → get_or kinds p Missing ≡ Missing
 
 module _ (functions : List ObjectFunction) (k : ℕ) (words : List ℕ) where
-  abbrev word_at : ℕ → ℕ
+  abbrev word_at : ℕ → table.Kind
   word_at j = kind_word functions k (constant_of (get_or words j 0))
 
-  pub passing_begin : (kinds : List ℕ) → length kinds ≡ 256 → ((p : ℕ) → get_or kinds p 0 ≡ 0) → Passing functions k words kinds 0
+  pub passing_begin : (kinds : List table.Kind) → length kinds ≡ 256 → ((p : ℕ) → get_or kinds p Missing ≡ Missing) → Passing functions k words kinds 0
   passing_begin kinds l z =
       record {
         size = l;
@@ -222,8 +220,8 @@ module _ (functions : List ObjectFunction) (k : ℕ) (words : List ℕ) where
         blank = λ p h. z p;
       }
 
-  module _ (kinds : List ℕ) (i kind : ℕ) (w : Passing functions k words kinds i) (is : kind ≡ word_at i) (some-kind : kind ≡ 0 → ⊥) where
-    right_more : (j : ℕ) → j < i + 1 → word_at j ≡ 0 → ⊥
+  module _ (kinds : List table.Kind) (i : ℕ) (kind : table.Kind) (w : Passing functions k words kinds i) (is : kind ≡ word_at i) (some-kind : kind ≡ Missing → ⊥) where
+    right_more : (j : ℕ) → j < i + 1 → word_at j ≡ Missing → ⊥
     right_more j h z =
         ⊎_elim (λ (x : j ≡ i). some-kind (is ∙ ap word_at (sym x) ∙ z)) (λ (x : j < i). w.right j x z) (eq-or-lt_of_le (omega arith))
 
@@ -235,17 +233,17 @@ module _ (functions : List ObjectFunction) (k : ℕ) (words : List ℕ) where
           plain = λ j h l. absurd (omega arith);
           filled =
               λ p a h. ⊎_elim
-              (λ (x : p ≡ i). ap (λ (m : ℕ). get_or (set kinds i kind) m 0) x ∙ get_or-set_same kinds i kind 0 (omega (arith, w.size)) ∙ is ∙ ap word_at (sym x))
-              (λ (x : p < i). get_or-set_other kinds i p kind 0 (λ y. omega arith) ∙ w.filled p a x) (eq-or-lt_of_le (omega arith));
-          blank = λ p h. get_or-set_other kinds i p kind 0 (λ y. omega arith) ∙ w.blank p (omega arith);
+              (λ (x : p ≡ i). ap (λ (m : ℕ). get_or (set kinds i kind) m Missing) x ∙ get_or-set_same kinds i kind Missing (omega (arith, w.size)) ∙ is ∙ ap word_at (sym x))
+              (λ (x : p < i). get_or-set_other kinds i p kind Missing (λ y. omega arith) ∙ w.filled p a x) (eq-or-lt_of_le (omega arith));
+          blank = λ p h. get_or-set_other kinds i p kind Missing (λ y. omega arith) ∙ w.blank p (omega arith);
         }
 
-    pub passing_on : 256 ≤ i → kind ≤ 2 → Passing functions k words kinds (i + 1)
+    pub passing_on : 256 ≤ i → no_function (constant_of (get_or words i 0)) ≡ true → Passing functions k words kinds (i + 1)
     passing_on large low =
         record {
           size = w.size;
           right = right_more;
-          plain = λ j h l. ⊎_elim (λ (x : j ≡ i). rw x (rw is at low)) (λ (x : j < i). w.plain j x l) (eq-or-lt_of_le (omega arith));
+          plain = λ j h l. ⊎_elim (λ (x : j ≡ i). rw x low) (λ (x : j < i). w.plain j x l) (eq-or-lt_of_le (omega arith));
           filled = λ p a h. w.filled p a (omega arith);
           blank = λ p h. w.blank p (omega arith);
         }
@@ -261,7 +259,7 @@ module _ (functions : List ObjectFunction) (k : ℕ) (words : List ℕ) where
     at_take j h = ap constant_of (get_or-take n words j 0 h)
 
     -- a constant that is not right
-    pub passing_bad : (kinds : List ℕ) (i : ℕ) → i < n → 0 ≡ word_at i → Kinds functions k cs false kinds
+    pub passing_bad : (kinds : List table.Kind) (i : ℕ) → i < n → Missing ≡ word_at i → Kinds functions k cs false kinds
     unfolding constants_of kinds_right
     passing_bad kinds i h z =
         let f : names_earlier k (constant_of (get_or (take n words) i 0)) ≡ false = rw (at_take i h) (named_not functions k number_of_lem (constant_of (get_or words i 0)) (sym z)) in
@@ -270,16 +268,16 @@ module _ (functions : List ObjectFunction) (k : ℕ) (words : List ℕ) where
           table = λ e. absurd (no_true e);
         }
 
-    pub passing_late : (kinds : List ℕ) (i : ℕ) → i < n → 256 ≤ i → 2 < word_at i → Kinds functions k cs false kinds
+    pub passing_late : (kinds : List table.Kind) (i : ℕ) → i < n → 256 ≤ i → no_function (constant_of (get_or words i 0)) ≡ false → Kinds functions k cs false kinds
     unfolding constants_of kinds_right
     passing_late kinds i h l m =
-        let f : no_function (constant_of (get_or (take n words) i 0)) ≡ false = rw (at_take i h) (function_above functions k number_of_lem (constant_of (get_or words i 0)) m) in
+        let f : no_function (constant_of (get_or (take n words) i 0)) ≡ false = rw (at_take i h) m in
         record {
           told = sym (rw (from_no no_function 256 (take n words) i l (omega (arith, size_take)) f) (and_false (all (names_earlier k) (map constant_of (take n words)))));
           table = λ e. absurd (no_true e);
         }
 
-    module _ (kinds : List ℕ) (i : ℕ) (w : Passing functions k words kinds i) (e : i ≡ n) where
+    module _ (kinds : List table.Kind) (i : ℕ) (w : Passing functions k words kinds i) (e : i ≡ n) where
       all_named : all (names_earlier k) (map constant_of (take n words)) ≡ true
       all_named =
           all_yes (names_earlier k) (take n words) (λ j b.
@@ -290,7 +288,7 @@ module _ (functions : List ObjectFunction) (k : ℕ) (words : List ℕ) where
       all_plain =
           from_yes no_function 256 (take n words) (λ j a b.
           let h : j < n = omega (arith, size_take) in
-          rw (at_take j h) (plain_word functions k number_of_lem (constant_of (get_or words j 0)) (w.right j (omega arith)) (w.plain j (omega arith) a)))
+          rw (at_take j h) (w.plain j (omega arith) a))
 
       table_is : (p : ℕ) → p < 256 → (t : Bool) → ltb p n ≡ t → kinds_in kinds p ≡ kind_at functions cs p
       unfolding constants_of kinds_in kind_at kind_of Division.kind_of

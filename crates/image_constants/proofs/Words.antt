@@ -12,7 +12,7 @@ use borrow.Author.Tests.{eq-eqb, ne_eqb, eqb-true, eqb-false}
 use Rattle.rules.specs.Reader.{got, many}
 use Rattle.rules.specs.Chunk.{Constant, CN, CS, CF, same_constant}
 use Rattle.rules.specs.ImageFile.{read_constant}
-use Rattle.image_records.specs.declared.Place.TheVariants.{At, Bad}
+use Rattle.std.proofs.Common.{Some, None}
 use Rattle.image_records.specs.Told.{word_of, place_told}
 use Rattle.image_records.proofs.Many.{Fails, many_none, many_more, passed_none, skip_stops, skip_goes, skip_none}
 use Rattle.image_records.proofs.Records.{same_word, ConstantIs}
@@ -94,8 +94,8 @@ module _ (s : List ℕ) (begin n : ℕ) (words : List ℕ) where
       }
 
   module _ (room at i : ℕ) (g : Gathering s begin n room words at i) where
-    pub gather_stop : i < n → Fails (read_constant s at) → Gathered s begin n Bad words
-    gather_stop h f =
+    pub gather_stop : i < n → Fails (read_constant s at) → (left_there : List ℕ) → Gathered s begin n None left_there
+    gather_stop h f left_there =
         record {
           told = skip_stops (read_constant s) n i at h f ∙ sym g.left;
           are = λ next e. absurd (let z : ◌≡◌ {A = ℕ} 0 1 = cc in omega arith);
@@ -116,7 +116,7 @@ module _ (s : List ℕ) (begin n : ℕ) (words : List ℕ) where
           left = g.left ∙ skip_goes (read_constant s) n i at next c.value h c.is;
         }
 
-    pub gather_done : n ≤ i → Gathered s begin n (At at) words
+    pub gather_done : n ≤ i → Gathered s begin n (Some at) words
     gather_done h =
         let q : i ≡ n = omega (arith, g.within) in
         record {

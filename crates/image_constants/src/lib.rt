@@ -6,43 +6,23 @@ ghost use Rattle.rules.specs.Reader.{got, many};
 ghost use Rattle.rules.specs.ImageFile.{read_function};
 ghost use Rattle.rules.specs.Chunk.{ObjectFunction};
 ghost use Rattle.rules.specs.Checker.{distinct};
-ghost use Rattle.image_constants.specs.Words.{constant_of, constants_of, Gathered, stamps_least, slot_in, PlaceOf};
+ghost use Rattle.image_code.specs.declared.Kind.TheVariants.{Missing};
+ghost use Rattle.image_constants.specs.Words.{constant_of, constants_of, Gathered, stamps_least, slot_in};
 ghost use Rattle.image_constants.specs.Earlier.{earlier, is_got, upvalues_at, Counts, kind_word, Kinds};
 
 use image_code::Kind;
-use image_records::{Head, Place, Word};
 
-// `n` constants from `begin` on, each as one word.
-pub fn gather(s: &[u8], begin: usize, n: usize, words: &mut [u64]) -> Place
-    requires { n ≤ length words.old }
-    ensures { Gathered s.now begin n result words.new }
+// The constants from `begin` on, as many as there are words for, each as one word; and where they end.
+pub fn gather(s: &[u8], begin: usize, words: &mut [u64]) -> Option<usize>
+    ensures { Gathered s.now begin (length words.old) result words.new }
 {
     let mut at = begin;
-    let mut i: usize = 0;
-    while i < n {
-        let Word::Is(word, next) = image_records::constant(s, at) else {
-            return Place::Bad;
-        };
-        words[i] = word;
+    for word in words.iter_mut() {
+        let (value, next) = image_records::constant(s, at)?;
+        *word = value;
         at = next;
-        i += 1;
     }
-    Place::At(at)
-}
-
-// The first place below `n` that has the word, or `n`.
-fn find(words: &[u64], n: usize, word: u64) -> usize
-    requires { n ≤ length words.now }
-    ensures { PlaceOf words.now n word result }
-{
-    let mut i: usize = 0;
-    while i < n {
-        if words[i] == word {
-            return i;
-        }
-        i += 1;
-    }
-    i
+    Some(at)
 }
 
 // Where a word's stamp stands among `size` stamps. By primes that are written out: to divide by the size itself would cost more.
@@ -59,25 +39,18 @@ fn slot_of(word: u64, size: usize) -> usize
     (word % 65521) as usize
 }
 
-// Whether no two of the first `n` constants are equal. A word whose slot has not this function's mark is new; the others are looked for
-// among the words before. A mark that was left there by another function costs time and nothing else, so nobody clears the stamps.
-pub fn all_new(words: &[u64], n: usize, mark: u32, stamps: &mut [u32]) -> bool
-    requires { (n ≤ length words.now) × (stamps_least ≤ length stamps.old) }
-    ensures { result ≡ distinct (constants_of n words.now) }
+// Whether no two constants are equal. A word whose slot has not this function's mark is new; the others are looked for among the words before.
+// A mark that was left there by another function costs time and nothing else, so nobody clears the stamps.
+pub fn all_new(words: &[u64], mark: u32, stamps: &mut [u32]) -> bool
+    requires { stamps_least ≤ length stamps.old }
+    ensures { result ≡ distinct (constants_of (length words.now) words.now) }
 {
-    let mut i: usize = 0;
-    while i < n {
-        let word = words[i];
-        let slot = slot_of(word, stamps.len());
-        let stamp = stamps[slot];
-        if stamp == mark {
-            if find(words, i, word) < i {
-                return false;
-            }
-            i += 1;
-        } else {
+    for (i, word) in words.iter().enumerate() {
+        let slot = slot_of(*word, stamps.len());
+        if stamps[slot] != mark {
             stamps[slot] = mark;
-            i += 1;
+        } else if words[..i].contains(word) {
+            return false;
         }
     }
     true
@@ -87,10 +60,10 @@ pub fn all_new(words: &[u64], n: usize, mark: u32, stamps: &mut [u32]) -> bool
 fn upvalues_by_walk(s: &[u8], j: usize) -> u16
     ensures { (k : ℕ) → j < k → is_got (many k (read_function s.now) 6) ≡ true → result ≡ upvalues_at (earlier s.now k) j }
 {
-    let Place::At(at) = image_records::function_place(s, j) else {
+    let Some(at) = image_records::function_place(s, j) else {
         return 0;
     };
-    let Head::Is(h) = image_records::head_of(s, at) else {
+    let Some(h) = image_records::head_of(s, at) else {
         return 0;
     };
     h.upvalues
@@ -106,58 +79,40 @@ fn upvalues_of(s: &[u8], j: usize, k: usize, counts: &[u16]) -> u16
     upvalues_by_walk(s, j)
 }
 
-fn wide16(n: u16) -> u32
-    ensures { (result ≡ n) × (result < 65536) }
-{
-    n as u32
-}
-
-// The word of the table for a constant of function `k`.
-fn kind_of(s: &[u8], word: u64, k: usize, counts: &[u16]) -> u32
+// The kind of a constant of function `k`, by its word.
+fn kind_of(s: &[u8], word: u64, k: usize, counts: &[u16]) -> Kind
     requires { Counts s.now k counts.now }
     ensures { result ≡ kind_word (earlier s.now k) k (constant_of word) }
 {
     if word % 2 == 0 {
-        return Kind::NUMBER;
+        return Kind::Number;
     }
     if word % 4 == 1 {
-        return Kind::STRING;
+        return Kind::Text;
     }
-    let number = fields::wide64(word / 4);
+    let number = (word / 4) as usize;
     if number < k {
-        return Kind::FUNCTION + wide16(upvalues_of(s, number, k, counts));
+        return Kind::Function(upvalues_of(s, number, k, counts));
     }
-    Kind::MISSING
+    Kind::Missing
 }
 
-// The kinds of the first `n` constants of function `k`, in a table that was all 0. False where one names no earlier function, or is a function
-// that no CLOSURE can name.
-pub fn kinds_of(
-    s: &[u8],
-    words: &[u64],
-    n: usize,
-    k: usize,
-    counts: &[u16],
-    kinds: &mut [u32; 256],
-) -> bool
-    requires n_in_bounds { (n ≤ length words.now) × Counts s.now k counts.now }
-    requires kinds_len { (length kinds.old ≡ 256) × ((p : ℕ) → get_or kinds.old p 0 ≡ 0) }
-    ensures { Kinds (earlier s.now k) k (constants_of n words.now) result kinds.new }
+// The kinds of the constants of function `k`, in a table that had none. False where one names no earlier function, or is a function that no
+// CLOSURE can name.
+pub fn kinds_of(s: &[u8], words: &[u64], k: usize, counts: &[u16], kinds: &mut [Kind; 256]) -> bool
+    requires counts { Counts s.now k counts.now }
+    requires kinds_len { (length kinds.old ≡ 256) × ((p : ℕ) → get_or kinds.old p Missing ≡ Missing) }
+    ensures { Kinds (earlier s.now k) k (constants_of (length words.now) words.now) result kinds.new }
 {
-    let mut i: usize = 0;
-    while i < n {
-        let kind = kind_of(s, words[i], k, counts);
-        if kind == Kind::MISSING {
+    for (i, word) in words.iter().enumerate() {
+        let kind = kind_of(s, *word, k, counts);
+        if let Kind::Missing = kind {
             return false;
         }
         if i < 256 {
             kinds[i] = kind;
-            i += 1;
-        } else {
-            if kind > Kind::STRING {
-                return false;
-            }
-            i += 1;
+        } else if let Kind::Function(_) = kind {
+            return false;
         }
     }
     true

@@ -14,7 +14,7 @@ use Rattle.rules.specs.Image.{places}
 use Rattle.rules.specs.ImageFile.{read_function, read_offsets, read_directory, read_behind}
 use Rattle.fields.specs.Words.{word32, letters}
 use Rattle.fields.proofs.Reading.{found, a_u32, mark_is_it, mark_is_not, mark_is_cut}
-use Rattle.image_records.specs.declared.Place.TheVariants as place
+use Rattle.std.proofs.Common.{Some}
 use Rattle.image_records.specs.Told.{place_told}
 use Rattle.image_records.proofs.Many.{Gives, place_at, many_length}
 use Rattle.image_records.proofs.Records.{then_of}
@@ -72,7 +72,7 @@ module _ (s : List ℕ) where
 
   -- ## Behind `count` functions that end at `at`
 
-  module _ (count at : ℕ) (e : place.At at ≡ place_told (many count (read_function s) 6)) where
+  module _ (count at : ℕ) (e : Some at ≡ place_told (many count (read_function s) 6)) where
     abbrev functions : Read (List ObjectFunction)
     functions = many count (read_function s) 6
 

@@ -13,7 +13,7 @@ use Rattle.rules.specs.Image.{function_bytes, places}
 use Rattle.rules.specs.ImageFile.{read_function, read_offsets}
 use Rattle.fields.specs.Words.{word32}
 use Rattle.fields.proofs.Reading.{a_u32}
-use Rattle.image_records.specs.declared.Place.TheVariants as place
+use Rattle.std.proofs.Common.{Some, None}
 use Rattle.image_records.specs.Told.{place_told}
 use Rattle.image_records.proofs.Many.{onto, many_none, many_stops, many_goes, place_bad, place_at}
 use Rattle.image_records.proofs.Lengths.{read_function_length}
@@ -40,7 +40,7 @@ module _ (s : List ℕ) where
     unfolding offsets_right ends places read_offsets return
     none_left z e = rw (many_none (read_function s) left at z, eq-eqb _ _ e) refl
 
-    pub lost : 0 < left → place.Bad ≡ place_told (read_function s at) → false ≡ right
+    pub lost : 0 < left → None ≡ place_told (read_function s at) → false ≡ right
     unfolding offsets_right
     lost h b = sym (ap (offsets_right s at entry) (many_stops (read_function s) left (left - 1) at (omega arith) (place_bad _ b)).is)
 
@@ -70,7 +70,7 @@ module _ (s : List ℕ) where
     pub other : 0 < left → entry + 4 ≤ length s → (word32 s entry ≡ at → ⊥) → false ≡ right
     other h room n = sym (other_read (read_function s at) refl h room n)
 
-    pub passed : (next : ℕ) → place.At next ≡ place_told (read_function s at) → 0 < left → entry + 4 ≤ length s → word32 s entry ≡ at
+    pub passed : (next : ℕ) → Some next ≡ place_told (read_function s at) → 0 < left → entry + 4 ≤ length s → word32 s entry ≡ at
         → right ≡ offsets_right s next (entry + 4) (many (left - 1) (read_function s) next)
     passed next b h room n =
         let g = place_at _ next b in

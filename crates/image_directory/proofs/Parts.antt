@@ -16,8 +16,7 @@ use Rattle.rules.specs.ImageFile.{read_function}
 use Rattle.rules.specs.Checker.{directory_entry, record_part, entry_part, code_through}
 use Rattle.fields.specs.Words.{word32, letters}
 use Rattle.fields.proofs.Reading.{a_u32, mark_is_it, mark_is_not, mark_is_cut}
-use Rattle.image_records.specs.declared.Place.TheVariants as place
-use Rattle.image_records.specs.declared.Head.TheVariants as head
+use Rattle.std.proofs.Common.{Some, None}
 use Rattle.image_records.specs.declared.Header.{Header}
 use Rattle.image_records.specs.Told.{place_told, head_at}
 use Rattle.image_records.proofs.Many.{Fails, Gives, place_bad, place_at, many_length}
@@ -36,13 +35,13 @@ module _ (s : List ℕ) where
     unfolding record_part
     none_there f = ap refusal (sym ((refuses_function s).only at f.fault f.is)) ∙ sym (ap (record_part s) f.is)
 
-    pub headless : head.Bad ≡ head_at s at → refusal ImageRefused ≡ told
+    pub headless : None ≡ head_at s at → refusal ImageRefused ≡ told
     headless b = none_there (head_fails s at b)
 
-    pub endless : place.Bad ≡ place_told (read_function s at) → refusal ImageRefused ≡ told
+    pub endless : None ≡ place_told (read_function s at) → refusal ImageRefused ≡ told
     endless b = none_there (place_bad _ b)
 
-    module _ (h : Header) (is-head : head.Is h ≡ head_at s at) (next : ℕ) (is-next : place.At next ≡ place_told (read_function s at)) where
+    module _ (h : Header) (is-head : Some h ≡ head_at s at) (next : ℕ) (is-next : Some next ≡ place_told (read_function s at)) where
       abbrev g : Gives (read_function s at) next
       g = place_at _ next is-next
 

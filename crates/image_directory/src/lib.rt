@@ -1,17 +1,16 @@
 // The directory behind the functions of an image: whether it is theirs, and the lookup of one function through it.
 #![tactic(auto)]
 
-ghost use Rattle.std.specs.Prelude.{◌≡◌, ◌+◌, ◌*◌, length};
+ghost use Rattle.std.specs.Prelude.{Some, ◌≡◌, ◌+◌, ◌*◌, length};
 ghost use Rattle.rules.specs.Reader.{many};
 ghost use Rattle.rules.specs.ImageFile.{read_function};
 ghost use Rattle.rules.specs.Checker.{record_part, code_through};
-ghost use Rattle.image_records.specs.declared.Place.TheVariants as place;
 ghost use Rattle.image_records.specs.Told.{place_told};
 ghost use Rattle.image_directory.specs.Behind.{offsets_right, behind_right};
 
 use answers::refused;
 use fields::Mark;
-use image_records::{Head, Header, Place};
+use image_records::Header;
 use rules::{Answer, Refusal};
 
 // A directory's mark and count.
@@ -24,25 +23,21 @@ fn offsets(image: &[u8], first: usize, count: usize) -> bool
     ensures { result ≡ offsets_right image.now 6 first (many count (read_function image.now) 6) }
 {
     let mut at: usize = Header::FIRST;
-    let mut entry = first;
-    let mut left = count;
-    while left > 0 {
-        if fields::wide32(fields::u32_at(image, entry)) != at {
+    for i in 0..count {
+        if fields::u32_at(image, first + 4 * i) as usize != at {
             return false;
         }
-        let Place::At(next) = image_records::skip_function(image, at) else {
+        let Some(next) = image_records::skip_function(image, at) else {
             return false;
         };
         at = next;
-        entry += 4;
-        left -= 1;
     }
     true
 }
 
 // Whether nothing stands behind the `count` functions, which end at `at`, or their directory to the last byte.
 pub fn behind(image: &[u8], count: usize, at: usize) -> bool
-    requires { place.At at ≡ place_told (many count (read_function image.now) 6) }
+    requires { Some at ≡ place_told (many count (read_function image.now) 6) }
     ensures { result ≡ behind_right image.now (many count (read_function image.now) 6) }
 {
     if at == image.len() {
@@ -54,7 +49,7 @@ pub fn behind(image: &[u8], count: usize, at: usize) -> bool
     if fields::mark_at(image, at) != Mark::DIRECTORY {
         return false;
     }
-    let said = fields::wide32(fields::u32_at(image, at + 2));
+    let said = fields::u32_at(image, at + 2) as usize;
     if said != count {
         return false;
     }
@@ -69,14 +64,14 @@ pub fn behind(image: &[u8], count: usize, at: usize) -> bool
 pub fn record_part(image: &[u8], at: usize) -> Answer
     ensures { result ≡ record_part image.now (read_function image.now at) }
 {
-    let Head::Is(h) = image_records::head_of(image, at) else {
+    let Some(h) = image_records::head_of(image, at) else {
         return refused(Refusal::ImageRefused);
     };
-    let Place::At(next) = image_records::skip_function(image, at) else {
+    let Some(next) = image_records::skip_function(image, at) else {
         return refused(Refusal::ImageRefused);
     };
-    let size = fields::long32(h.code);
-    let end = fields::long(next);
+    let size = h.code as u64;
+    let end = next as u64;
     Answer {
         number: 0,
         at: end - size,
@@ -98,15 +93,12 @@ pub fn code_through(image: &[u8], place: usize, k: usize) -> Answer
     if fields::mark_at(image, place) != Mark::DIRECTORY {
         return refused(Refusal::ImageRefused);
     }
-    let count = fields::wide32(fields::u32_at(image, place + 2));
+    let count = fields::u32_at(image, place + 2) as usize;
     if image.len() - (place + HEAD) != 4 * count {
         return refused(Refusal::ImageRefused);
     }
     if k >= count {
         return refused(Refusal::NoSuchFunction);
     }
-    record_part(
-        image,
-        fields::wide32(fields::u32_at(image, place + HEAD + 4 * k)),
-    )
+    record_part(image, fields::u32_at(image, place + HEAD + 4 * k) as usize)
 }

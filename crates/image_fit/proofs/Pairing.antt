@@ -1,64 +1,51 @@
 -- Laws of the pairs after a CLOSURE.
-use mathlib.Core.Path.{◌≡◌, refl, ◌∙◌}
+use mathlib.Core.Path.{◌≡◌, refl, ap}
 use mathlib.Core.Bool.{Bool, true, false, ◌&&◌, ◌||◌}
-use mathlib.Core.List.{List, ◌∷◌}
-use Prim.Native.Nat.{ℕ, suc, ◌+◌, ◌-◌, ◌*◌, ◌<◌, ◌≤◌}
+use mathlib.Core.List.{List, ◌∷◌, []}
+use Prim.Native.Nat.{ℕ, suc, ◌-◌, ◌<◌, ◌≤◌}
 use native.Mathlib.Omega.{arith}
 use lib.ListN.{length, get_or, take, drop}
 use lib.Dec.{ltb, eqb}
-use lib.Seq.{drop-cons}
-use borrow.Author.Tests.{eq-eqb, ne_eqb, lt-ltb, le-ltb}
+use borrow.Author.Tests.{ne_eqb}
 use Rattle.rules.specs.Division.{pairs_fit}
 
-module _ (code : List ℕ) (at n u i : ℕ) where
-  abbrev a : ℕ
-  a = get_or code (at + 2 * i) 0
+-- whether the pair that comes first is as it should
+unfoldable pub pair_fits : (upvalues : ℕ) → List ℕ → Bool
+pair_fits u l = eqb (get_or l 0 0) 1 || (eqb (get_or l 0 0) 0 && ltb (get_or l 1 0) u)
 
-  abbrev b : ℕ
-  b = get_or code (at + 2 * i + 1) 0
+take_all : (l : List ℕ) → take (length l) l ≡ l
+take_all [] = refl
+take_all (x ∷ l) = ap (λ (r : List ℕ). x ∷ r) (take_all l)
 
-  abbrev left : Bool
-  left = pairs_fit u (take (2 * (n - i)) (drop (at + 2 * i) code))
+pub pair_first : (u : ℕ) (l : List ℕ) → 2 ≤ length l → pairs_fit u l ≡ (pair_fits u l && pairs_fit u (take (length l - 2) (drop 2 l)))
+unfolding pairs_fit pair_fits
+pair_first u [] h = absurd (omega arith)
+pair_first u (x ∷ []) h = absurd (omega arith)
+pair_first u (x ∷ y ∷ l) h =
+    let m : suc (suc (length l)) - 2 ≡ length l = omega arith in
+    let e : take (suc (suc (length l)) - 2) l ≡ l = rw m (take_all l) in
+    rw e refl
 
-  abbrev next : Bool
-  next = pairs_fit u (take (2 * (n - (i + 1))) (drop (at + 2 * (i + 1)) code))
+pub pairs_end : (u : ℕ) (l : List ℕ) → length l < 2 → (r : Bool) → r ≡ eqb (length l) 0 → r ≡ pairs_fit u l
+unfolding pairs_fit
+pairs_end u [] h r e = e
+pairs_end u (x ∷ []) h r e = e
+pairs_end u (x ∷ y ∷ l) h r e = absurd (omega arith)
 
-  two : (m p : ℕ) (l : List ℕ) → m ≡ suc (suc p) → (x y : ℕ) → take m (x ∷ y ∷ l) ≡ x ∷ y ∷ take p l
-  two m p l e x y = rw e refl
+pub pair_outer : (u : ℕ) (l : List ℕ) → get_or l 0 0 ≡ 0 → ltb (get_or l 1 0) u ≡ pair_fits u l
+unfolding pair_fits
+pair_outer u l e = rw e refl
 
-  pair : i < n → at + 2 * n ≤ length code → left ≡ ((eqb a 1 || (eqb a 0 && ltb b u)) && next)
-  unfolding pairs_fit
-  pair h r =
-      let e : at + 2 * (i + 1) ≡ suc (suc (at + 2 * i)) = omega arith in
-      let f : at + 2 * i + 1 ≡ suc (at + 2 * i) = omega arith in
-      let m : 2 * (n - i) ≡ suc (suc (2 * (n - (i + 1)))) = omega arith in
-      rw (e, f, drop-cons code (at + 2 * i) 0 (omega arith), drop-cons code (suc (at + 2 * i)) 0 (omega arith), two _ _ _ m _ _) refl
+pub pair_local : (u : ℕ) (l : List ℕ) → get_or l 0 0 ≡ 1 → true ≡ pair_fits u l
+unfolding pair_fits
+pair_local u l e = rw e refl
 
-  pub pair_bad : i < n → at + 2 * n ≤ length code → 1 < a → left ≡ false
-  pair_bad h r l =
-      let p : a ≡ 1 → ⊥ = λ q. omega arith in
-      let q : a ≡ 0 → ⊥ = λ q. omega arith in
-      pair h r ∙ rw (ne_eqb _ _ p, ne_eqb _ _ q) refl
+pub pair_bad : (u : ℕ) (l : List ℕ) → (get_or l 0 0 ≡ 0 → ⊥) → (get_or l 0 0 ≡ 1 → ⊥) → false ≡ pair_fits u l
+unfolding pair_fits
+pair_bad u l n m = rw (ne_eqb _ _ n, ne_eqb _ _ m) refl
 
-  pub pair_local : i < n → at + 2 * n ≤ length code → a ≡ 1 → left ≡ next
-  pair_local h r e = pair h r ∙ rw (eq-eqb _ _ e) refl
+pub both_false : (a b : Bool) → a ≡ false → (a && b) ≡ false
+both_false a b e = rw e refl
 
-  pub pair_past : i < n → at + 2 * n ≤ length code → a ≡ 0 → u ≤ b → left ≡ false
-  pair_past h r e l =
-      let p : a ≡ 1 → ⊥ = λ q. omega arith in
-      pair h r ∙ rw (ne_eqb _ _ p, eq-eqb _ _ e, le-ltb _ _ l) refl
-
-  pub pair_outer : i < n → at + 2 * n ≤ length code → a ≡ 0 → b < u → left ≡ next
-  pair_outer h r e l =
-      let p : a ≡ 1 → ⊥ = λ q. omega arith in
-      pair h r ∙ rw (ne_eqb _ _ p, eq-eqb _ _ e, lt-ltb _ _ l) refl
-
-  pub pairs_done : n ≤ i → left ≡ true
-  unfolding pairs_fit
-  pairs_done h = let m : 2 * (n - i) ≡ 0 = omega arith in rw m refl
-
-pub pairs_begin : (code : List ℕ) (at n u : ℕ) → pairs_fit u (take (2 * n) (drop at code)) ≡ pairs_fit u (take (2 * (n - 0)) (drop (at + 2 * 0) code))
-pairs_begin code at n u =
-    let e : n - 0 ≡ n = omega arith in
-    let f : at + 2 * 0 ≡ at = omega arith in
-    rw (e, f) refl
+pub both_true : (a b : Bool) → a ≡ true → (a && b) ≡ b
+both_true a b e = rw e refl

@@ -10,24 +10,23 @@ use native.Mathlib.Nat.{eq-or-lt_of_le}
 use native.Mathlib.Numerals.{add-one}
 use lib.ListN.{length, get_or, set, length-set, get_elem?}
 use lib.Seq.{get_or-set_same, get_or-set_other}
-use Rattle.std.specs.Prelude.{if◌then◌else◌}
+use Rattle.std.specs.Prelude.{if◌then◌else◌, Some, None}
 use Rattle.rules.specs.Reader.{Read, got, bad, many}
 use Rattle.rules.specs.Chunk.{ObjectFunction}
 use Rattle.rules.specs.Division.{division}
 use Rattle.rules.specs.ImageFile.{read_function}
 use Rattle.rules.specs.Checker.{instructions}
-use Rattle.image_records.specs.declared.Head.TheVariants as head
 use Rattle.image_records.specs.declared.Header.{Header}
 use Rattle.image_records.specs.Told.{head_at}
 use Rattle.image_records.proofs.Many.{onto, many_none, many_more, left_goes, left_stops, left_none, passed_none}
 use Rattle.image_records.proofs.Records.{headed, head_fails, upvalues_headed}
 use Rattle.image_constants.specs.Earlier.{functions_in, is_got, earlier, upvalues_in, upvalues_at, Counts}
 use Rattle.image_constants.proofs.Kinding.{earlier_number}
-use Rattle.image_functions.specs.declared.Done.TheVariants as done
+use Rattle.image_functions.proofs.One.{done, done_same}
 use Rattle.image_functions.specs.Judged.{right, function_done, NextIs, right_all, count_all, functions_done}
 
 no_true : false ≡ true → ⊥
-no_true e = let z : ◌≡◌ {A = ℕ} 0 1 = cc in omega arith
+no_true e = cc
 
 pub elem_before : {A : Type 0} (l m : List A) (j : ℕ) → j < length l → get_elem? (l ++ m) j ≡ get_elem? l j
 elem_before [] m j h = absurd (omega arith)
@@ -97,12 +96,12 @@ module _ (s : List ℕ) (k at : ℕ) (counts : List ℕ) (c : Counts s k counts)
   abbrev r : ReadIs (read_function s at)
   r = read_is (read_function s at) n.there
 
-  pub note_headless : head.Bad ≡ head_at s at → Counts s (k + 1) counts
+  pub note_headless : None ≡ head_at s at → Counts s (k + 1) counts
   note_headless b =
       let f = head_fails s at b in
-      absurd (let z : ◌≡◌ {A = Read ObjectFunction} (bad f.fault) (got r.value r.next) = sym f.is ∙ r.is in let y : ◌≡◌ {A = ℕ} 0 1 = cc in omega arith)
+      absurd (let z : ◌≡◌ {A = Read ObjectFunction} (bad f.fault) (got r.value r.next) = sym f.is ∙ r.is in cc)
 
-  pub note_set : (h : Header) → head.Is h ≡ head_at s at → k < length counts → Counts s (k + 1) (set counts k h.upvalues)
+  pub note_set : (h : Header) → Some h ≡ head_at s at → k < length counts → Counts s (k + 1) (set counts k h.upvalues)
   note_set h b small =
       counts_set s k at r.next r.value n.place r.is counts c h.upvalues (sym (upvalues_headed s at h r.value r.next (headed s at h b) r.is)) small
 
@@ -111,7 +110,7 @@ module _ (s : List ℕ) (k at : ℕ) (counts : List ℕ) (c : Counts s k counts)
 
 -- ## The loop
 
-pub record Going (s : List ℕ) (count counts-room stamps-room ring-room : ℕ) (counts words stamps ring : List ℕ) (at k total : ℕ) : Type 0 where
+pub record Going (s : List ℕ) (count counts-room stamps-room ring-room : ℕ) (counts stamps : List ℕ) (ring : List Bool) (at k total : ℕ) : Type 0 where
   pub within : k ≤ count
   pub counts_are : Counts s k counts
   pub place : many k (read_function s) 6 ≡ got (earlier s k) at
@@ -119,12 +118,11 @@ pub record Going (s : List ℕ) (count counts-room stamps-room ring-room : ℕ) 
   pub inside : at ≤ length s
   pub left : functions_done 0 [] (many count (read_function s) 6) ≡ functions_done total (earlier s k) (many (count - k) (read_function s) at)
   pub counts_size : length counts ≡ counts-room
-  pub words_size : length words ≡ 256
   pub stamps_size : length stamps ≡ stamps-room
   pub ring_size : length ring ≡ ring-room
 
 module _ (n : ℕ) (before : List ObjectFunction) (f : ObjectFunction) where
-  wrong_on : (r : Read (List ObjectFunction)) → right before f ≡ false → functions_done n before (onto f r) ≡ done.Bad
+  wrong_on : (r : Read (List ObjectFunction)) → right before f ≡ false → functions_done n before (onto f r) ≡ None
   unfolding functions_done onto right_all
   wrong_on (bad fault) e = refl
   wrong_on (got fs end) e = rw e refl
@@ -143,20 +141,20 @@ pub record DoneIs (before : List ObjectFunction) (r : Read ObjectFunction) (n ne
   pub fine : right before value ≡ true
   pub number : n ≡ instructions (division before value)
 
-done_is : (before : List ObjectFunction) (r : Read ObjectFunction) (n next : ℕ) → done.Is n next ≡ function_done before r → DoneIs before r n next
+done_is : (before : List ObjectFunction) (r : Read ObjectFunction) (n next : ℕ) → Some (n, next) ≡ function_done before r → DoneIs before r n next
 unfolding function_done
-done_is before (bad fault) n next e = absurd (let z : ◌≡◌ {A = ℕ} 0 1 = cc in omega arith)
+done_is before (bad fault) n next e = absurd (cc)
 done_is before (got f m) n next e = by (right before f) refl e
   where
-    by : (t : Bool) → right before f ≡ t → done.Is n next ≡ (if t then done.Is (instructions (division before f)) m else done.Bad) → DoneIs before (got f m) n next
-    by true g e = let q : m ≡ next = cc in let z : n ≡ instructions (division before f) = cc in record { value = f; is = ap (got f) q; fine = g; number = z }
-    by false g e = absurd (let z : ◌≡◌ {A = ℕ} 0 1 = cc in omega arith)
+    by : (t : Bool) → right before f ≡ t → done n next ≡ (if t then done (instructions (division before f)) m else None) → DoneIs before (got f m) n next
+    by true g e = let z = done_same n next (instructions (division before f)) m e in record { value = f; is = ap (got f) (sym z.1); fine = g; number = z.0 }
+    by false g e = absurd (cc)
 
 module _ (s : List ℕ) (count : ℕ) where
-  pub going_begin : (counts words stamps ring : List ℕ) → 6 ≤ length s → length words ≡ 256
-      → Going s count (length counts) (length stamps) (length ring) counts words stamps ring 6 0 0
+  pub going_begin : (counts stamps : List ℕ) (ring : List Bool) → 6 ≤ length s
+      → Going s count (length counts) (length stamps) (length ring) counts stamps ring 6 0 0
   unfolding earlier functions_in is_got
-  going_begin counts words stamps ring room w =
+  going_begin counts stamps ring room =
       let z = many_none (read_function s) 0 6 refl in
       let e : earlier s 0 ≡ [] = ap functions_in z in
       record {
@@ -169,30 +167,29 @@ module _ (s : List ℕ) (count : ℕ) where
             ap (functions_done 0 []) (passed_none (read_function s) count 6) ∙
             ap (λ (l : List ObjectFunction). functions_done 0 l (many (count - 0) (read_function s) 6)) (sym e);
         counts_size = refl;
-        words_size = w;
         stamps_size = refl;
         ring_size = refl;
       }
 
-  module _ (size stamps-room ring-room : ℕ) (counts words stamps ring : List ℕ) (at k total : ℕ)
-      (g : Going s count size stamps-room ring-room counts words stamps ring at k total) where
-    stop_by : k < count → (r : Read ObjectFunction) → read_function s at ≡ r → done.Bad ≡ function_done (earlier s k) r
-        → functions_done total (earlier s k) (many (count - k) (read_function s) at) ≡ done.Bad
+  module _ (size stamps-room ring-room : ℕ) (counts stamps : List ℕ) (ring : List Bool) (at k total : ℕ)
+      (g : Going s count size stamps-room ring-room counts stamps ring at k total) where
+    stop_by : k < count → (r : Read ObjectFunction) → read_function s at ≡ r → None ≡ function_done (earlier s k) r
+        → functions_done total (earlier s k) (many (count - k) (read_function s) at) ≡ None
     unfolding function_done functions_done
     stop_by h (bad fault) e b =
         ap (functions_done total (earlier s k)) (left_stops (read_function s) count k at h (record { fault = fault; is = e })).is
     stop_by h (got f next) e b =
         ap (functions_done total (earlier s k)) (left_goes (read_function s) count k at next f h e) ∙ wrong_on total (earlier s k) f _ (by (right (earlier s k) f) b)
       where
-        by : (t : Bool) → done.Bad ≡ (if t then done.Is (instructions (division (earlier s k) f)) next else done.Bad) → t ≡ false
-        by true b = absurd (let z : ◌≡◌ {A = ℕ} 0 1 = cc in omega arith)
+        by : (t : Bool) → None ≡ (if t then done (instructions (division (earlier s k) f)) next else None) → t ≡ false
+        by true b = absurd (cc)
         by false b = refl
 
-    pub going_stop : k < count → done.Bad ≡ function_done (earlier s k) (read_function s at)
-        → done.Bad ≡ functions_done 0 [] (many count (read_function s) 6)
+    pub going_stop : k < count → None ≡ function_done (earlier s k) (read_function s at)
+        → None ≡ functions_done 0 [] (many count (read_function s) 6)
     going_stop h b = sym (g.left ∙ stop_by h (read_function s at) refl b)
 
-    module _ (n next : ℕ) (e : done.Is n next ≡ function_done (earlier s k) (read_function s at)) where
+    module _ (n next : ℕ) (e : Some (n, next) ≡ function_done (earlier s k) (read_function s at)) where
       abbrev d : DoneIs (earlier s k) (read_function s at) n next
       d = done_is (earlier s k) (read_function s at) n next e
 
@@ -200,10 +197,10 @@ module _ (s : List ℕ) (count : ℕ) where
       unfolding is_got
       next_is = record { place = g.place; there = ap is_got d.is }
 
-      pub going_on : k < count → (at + n ≤ next) × (next ≤ length s) → (counts' words' stamps' ring' : List ℕ) → Counts s (k + 1) counts'
-          → length counts' ≡ size → length words' ≡ 256 → length stamps' ≡ stamps-room → length ring' ≡ ring-room
-          → Going s count size stamps-room ring-room counts' words' stamps' ring' next (k + 1) (total + n)
-      going_on h grows counts' words' stamps' ring' c z w t o =
+      pub going_on : k < count → (at + n ≤ next) × (next ≤ length s) → (counts' stamps' : List ℕ) (ring' : List Bool) → Counts s (k + 1) counts'
+          → length counts' ≡ size → length stamps' ≡ stamps-room → length ring' ≡ ring-room
+          → Going s count size stamps-room ring-room counts' stamps' ring' next (k + 1) (total + n)
+      going_on h grows counts' stamps' ring' c z t o =
           let m = earlier_more s k at next d.value g.place d.is in
           record {
             within = omega arith;
@@ -217,12 +214,11 @@ module _ (s : List ℕ) (count : ℕ) where
                 ap (λ (x : ℕ). functions_done (total + x) (earlier s k ++ (d.value ∷ [])) (many (count - (k + 1)) (read_function s) next)) (sym d.number) ∙
                 ap (λ (l : List ObjectFunction). functions_done (total + n) l (many (count - (k + 1)) (read_function s) next)) (sym m);
             counts_size = z;
-            words_size = w;
             stamps_size = t;
             ring_size = o;
           }
 
-    pub going_done : count ≤ k → done.Is total at ≡ functions_done 0 [] (many count (read_function s) 6)
+    pub going_done : count ≤ k → Some (total, at) ≡ functions_done 0 [] (many count (read_function s) 6)
     unfolding functions_done right_all count_all
     going_done h =
         let z : total + 0 ≡ total = omega arith in

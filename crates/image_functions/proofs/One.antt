@@ -3,14 +3,16 @@ use mathlib.Core.Path.{◌≡◌, refl, sym, ap, ◌∙◌}
 use mathlib.Core.Bool.{Bool, true, false, ◌&&◌}
 use mathlib.Core.Option.{Option, none, some}
 use mathlib.Core.List.{List}
-use Prim.Native.Nat.{ℕ, zero, suc, ◌+◌, ◌-◌, ◌<◌, ◌≤◌}
+use Prim.Native.Nat.{ℕ, ◌+◌, ◌-◌, ◌<◌, ◌≤◌}
 use native.Mathlib.Omega.{arith}
-use lib.ListN.{length, get_or, take, drop, replicate, length-take, length-drop, get_or-eq_default}
+use lib.ListN.{length, get_or, take, drop, length-take, length-drop, get_or-eq_default}
 use lib.Seq.{get_or-drop, get_or-take}
 use lib.Dec.{eqb, ltb}
 use borrow.Author.Tests.{eq-eqb, ne_eqb, ltb-true, ltb-false}
 use Rattle.rules.specs.Base.{all}
-use Rattle.std.specs.Prelude.{if◌then◌else◌}
+use Rattle.std.specs.Prelude.{if◌then◌else◌, Some, None}
+use Rattle.std.specs.declared.option.Option as answer
+use Rattle.image_code.specs.declared.Kind as element
 use Rattle.rules.specs.Reader.{Read, got, bad, many}
 use Rattle.rules.specs.Chunk.{Constant, Run, total, ObjectFunction}
 use Rattle.rules.specs.Division.{Kind, Instruction, divide, division, kind_at, run_fits}
@@ -19,23 +21,24 @@ use Rattle.rules.specs.Checker.{runs_apart, distinct}
 use Rattle.rules.specs.Checker as Checker
 use Rattle.image_code.specs.Table.{code_right, judged_code, kinds_in, Wide}
 use Rattle.image_code.specs.Table as Table
-use Rattle.image_code.specs.declared.Verdict.{Verdict}
-use Rattle.image_code.specs.declared.Verdict.TheVariants as verdict
 use Rattle.image_code.proofs.Below.{same_judged, few}
-use Rattle.image_records.specs.declared.Place.{Place}
-use Rattle.image_records.specs.declared.Place.TheVariants as place
-use Rattle.image_records.specs.declared.Head.TheVariants as head
 use Rattle.image_records.specs.declared.Header.{Header}
-use Rattle.image_records.specs.declared.Summed.TheVariants as summed
 use Rattle.image_records.specs.Told.{head_at, runs_told, code_told}
 use Rattle.image_records.proofs.Many.{Fails, same_got, place_bad}
 use Rattle.image_records.proofs.Records.{Headed, headed, head_fails, Body, body_of, at_constants, at_runs, at_code, coded, whole_function, made}
 use Rattle.image_records.proofs.Forward.{forward_many, forward_constant, forward_run}
 use Rattle.image_constants.specs.Words.{constants_of, Gathered}
 use Rattle.image_constants.specs.Earlier.{earlier, Kinds}
-use Rattle.image_functions.specs.declared.Done.{Done}
-use Rattle.image_functions.specs.declared.Done.TheVariants as done
 use Rattle.image_functions.specs.Judged.{constants_fine, constants_told, ConstantsRight, counted, code_done, code_fine, right, function_done, Judged}
+
+-- two numbers, as the functions tell them
+abbrev pub done : (n next : ℕ) → answer.Option (ℕ × ℕ)
+done n next = Some (n, next)
+
+pub done_same : (n next m last : ℕ) → done n next ≡ done m last → (n ≡ m) × (next ≡ last)
+done_same n next m last e =
+    let p : ◌≡◌ {A = ℕ × ℕ} (n, next) (m, last) = cc in
+    (ap (λ (x : ℕ × ℕ). x.0) p, ap (λ (x : ℕ × ℕ). x.1) p)
 
 and_false : (b : Bool) → (b && false) ≡ false
 and_false true = refl
@@ -44,38 +47,38 @@ and_false false = refl
 -- ## The constants
 
 module _ (s : List ℕ) (k at n : ℕ) (words : List ℕ) where
-  pub constants_stop : (kinds : List ℕ) → Gathered s at n place.Bad words → ConstantsRight s k at n place.Bad kinds
+  pub constants_stop : (kinds : List element.Kind) → Gathered s at n None words → ConstantsRight s k at n None kinds
   unfolding constants_told
   constants_stop kinds g =
       let f = place_bad _ g.told in
       record {
         told = sym (ap (constants_told k) f.is);
-        table = λ cs next e b. absurd (let z : ◌≡◌ {A = ℕ} 0 1 = cc in omega arith);
+        table = λ cs next e b. absurd (cc);
       }
 
-  module _ (next : ℕ) (r : Place) (is_at : r ≡ place.At next) (g : Gathered s at n r words) where
+  module _ (next : ℕ) (r : answer.Option ℕ) (is_at : r ≡ Some next) (g : Gathered s at n r words) where
     abbrev are : many n (read_constant s) at ≡ got (constants_of n words) next
     are = g.are next is_at
 
-    pub constants_old : (kinds : List ℕ) → false ≡ distinct (constants_of n words) → ConstantsRight s k at n place.Bad kinds
+    pub constants_old : (kinds : List element.Kind) → false ≡ distinct (constants_of n words) → ConstantsRight s k at n None kinds
     unfolding constants_told constants_fine
     constants_old kinds e =
         record {
           told = sym (ap (constants_told k) are ∙ rw (← e) refl);
-          table = λ cs next e b. absurd (let z : ◌≡◌ {A = ℕ} 0 1 = cc in omega arith);
+          table = λ cs next e b. absurd (cc);
         }
 
-    pub constants_wrong : (kinds : List ℕ) → Kinds (earlier s k) k (constants_of n words) false kinds → ConstantsRight s k at n place.Bad kinds
+    pub constants_wrong : (kinds : List element.Kind) → Kinds (earlier s k) k (constants_of n words) false kinds → ConstantsRight s k at n None kinds
     unfolding constants_told constants_fine
     constants_wrong kinds w =
         let e = w.told in
         record {
           told = sym (ap (constants_told k) are ∙ rw (← e, and_false (distinct (constants_of n words))) refl);
-          table = λ cs next e b. absurd (let z : ◌≡◌ {A = ℕ} 0 1 = cc in omega arith);
+          table = λ cs next e b. absurd (cc);
         }
 
-    pub constants_done : (kinds : List ℕ) → true ≡ distinct (constants_of n words) → Kinds (earlier s k) k (constants_of n words) true kinds
-        → ConstantsRight s k at n (place.At next) kinds
+    pub constants_done : (kinds : List element.Kind) → true ≡ distinct (constants_of n words) → Kinds (earlier s k) k (constants_of n words) true kinds
+        → ConstantsRight s k at n (Some next) kinds
     unfolding constants_told constants_fine
     constants_done kinds d w =
         let e = w.told in
@@ -89,23 +92,23 @@ module _ (s : List ℕ) (k at n : ℕ) (words : List ℕ) where
 -- ## The code
 
 counted_is : (kind : ℕ → Kind) (u size next : ℕ) (d : Option (List Instruction))
-    → counted (judged_code kind u size d) next ≡ (if code_fine kind u size d then done.Is (Checker.instructions d) next else done.Bad)
+    → counted (judged_code kind u size d) next ≡ (if code_fine kind u size d then Some (Checker.instructions d, next) else None)
 unfolding judged_code counted code_fine Checker.instructions
 counted_is kind u size next none = refl
 counted_is kind u size next (some is) = by (code_right kind u size is)
   where
-    by : (b : Bool) → counted (if b then verdict.Yes (length is) else verdict.No) next ≡ (if b then done.Is (length is) next else done.Bad)
+    by : (b : Bool) → counted (if b then Some (length is) else None) next ≡ (if b then Some (length is, next) else None)
     by true = refl
     by false = refl
 
-yes_few : (kind : ℕ → Kind) (u size n : ℕ) (d : Option (List Instruction)) → verdict.Yes n ≡ judged_code kind u size d → n ≤ length (Table.instructions d)
+yes_few : (kind : ℕ → Kind) (u size n : ℕ) (d : Option (List Instruction)) → Some n ≡ judged_code kind u size d → n ≤ length (Table.instructions d)
 unfolding judged_code Table.instructions
-yes_few kind u size n none e = absurd (let z : ◌≡◌ {A = ℕ} 0 1 = cc in omega arith)
+yes_few kind u size n none e = absurd (cc)
 yes_few kind u size n (some is) e = by (code_right kind u size is) e
   where
-    by : (b : Bool) → verdict.Yes n ≡ (if b then verdict.Yes (length is) else verdict.No) → n ≤ length is
+    by : (b : Bool) → Some n ≡ (if b then Some (length is) else None) → n ≤ length is
     by true e = let z : n ≡ length is = cc in omega arith
-    by false e = absurd (let z : ◌≡◌ {A = ℕ} 0 1 = cc in omega arith)
+    by false e = absurd (cc)
 
 -- a part of a slice, as the code has it
 part_is : (s : List ℕ) (first size end : ℕ) → end ≡ first + size → take (end - first) (drop first s) ≡ take size (drop first s)
@@ -121,22 +124,22 @@ part_wide s first size room w p h =
     w p (omega arith)
 
 module _ (s : List ℕ) (kind : ℕ → Kind) (u sum size at : ℕ) where
-  abbrev told : Done
+  abbrev told : answer.Option (ℕ × ℕ)
   told = code_done kind u sum size s (code_told s size at)
 
-  pub code_none : place.Bad ≡ code_told s size at → done.Bad ≡ told
+  pub code_none : None ≡ code_told s size at → None ≡ told
   unfolding code_done
   code_none e = ap (code_done kind u sum size s) e
 
-  module _ (first : ℕ) (e : place.At first ≡ code_told s size at) where
+  module _ (first : ℕ) (e : Some first ≡ code_told s size at) where
     pub code_within : first + size ≤ length s
     code_within = (coded s size at first e).within
 
-    pub code_other : (sum ≡ size → ⊥) → done.Bad ≡ told
+    pub code_other : (sum ≡ size → ⊥) → None ≡ told
     unfolding code_done
     code_other n = sym (ap (code_done kind u sum size s) (sym e) ∙ rw (ne_eqb _ _ n) refl)
 
-    module _ (same : sum ≡ size) (end : ℕ) (is-end : end ≡ first + size) (r : Verdict) (part : List ℕ) (is-part : part ≡ take (end - first) (drop first s))
+    module _ (same : sum ≡ size) (end : ℕ) (is-end : end ≡ first + size) (r : answer.Option ℕ) (part : List ℕ) (is-part : part ≡ take (end - first) (drop first s))
         (judged : r ≡ judged_code kind u (length part) (divide kind 0 0 part)) where
       part_at : part ≡ take size (drop first s)
       part_at = is-part ∙ part_is s first size end is-end
@@ -150,15 +153,15 @@ module _ (s : List ℕ) (kind : ℕ → Kind) (u sum size at : ℕ) where
       unfolding code_done
       told_by = ap (code_done kind u sum size s) (sym e) ∙ rw (eq-eqb _ _ same, ← is-end, ← judged_at) refl
 
-      pub code_refused : r ≡ verdict.No → done.Bad ≡ told
+      pub code_refused : r ≡ None → None ≡ told
       unfolding counted
-      code_refused q = sym (told_by ∙ ap (λ (v : Verdict). counted v end) q)
+      code_refused q = sym (told_by ∙ ap (λ (v : answer.Option ℕ). counted v end) q)
 
-      pub code_counted : (n : ℕ) → r ≡ verdict.Yes n → done.Is n end ≡ told
+      pub code_counted : (n : ℕ) → r ≡ Some n → Some (n, end) ≡ told
       unfolding counted
-      code_counted n q = sym (told_by ∙ ap (λ (v : Verdict). counted v end) q)
+      code_counted n q = sym (told_by ∙ ap (λ (v : answer.Option ℕ). counted v end) q)
 
-      pub code_few : (n : ℕ) → r ≡ verdict.Yes n → (m next : ℕ) → done.Is n end ≡ done.Is m next → (at + m ≤ next) × (next ≤ length s)
+      pub code_few : (n : ℕ) → r ≡ Some n → (m next : ℕ) → done n end ≡ done m next → (at + m ≤ next) × (next ≤ length s)
       code_few n q m next f =
           let a : n ≤ length (Table.instructions (divide kind 0 0 (take size (drop first s)))) =
           yes_few kind u size n _ (sym q ∙ judged_at) in
@@ -166,12 +169,11 @@ module _ (s : List ℕ) (kind : ℕ → Kind) (u sum size at : ℕ) where
           let c = part_length s first size code_within in
           let d = (coded s size at first e).on in
           let w = code_within in
-          let x : n ≡ m = cc in
-          let y : end ≡ next = cc in
+          let x = done_same n end m next f in
           (omega arith, omega arith)
 
-pub bad_few : (at size m next : ℕ) → done.Bad ≡ done.Is m next → (at + m ≤ next) × (next ≤ size)
-bad_few at size m next e = absurd (let z : ◌≡◌ {A = ℕ} 0 1 = cc in omega arith)
+pub bad_few : (at size m next : ℕ) → None ≡ done m next → (at + m ≤ next) × (next ≤ size)
+bad_few at size m next e = absurd (cc)
 
 -- ## The function
 
@@ -179,20 +181,20 @@ module _ (s : List ℕ) (k at : ℕ) where
   abbrev before : List ObjectFunction
   before = earlier s k
 
-  abbrev judgement : Done
+  abbrev judgement : answer.Option (ℕ × ℕ)
   judgement = function_done before (read_function s at)
 
-  fails_done : Fails (read_function s at) → done.Bad ≡ judgement
+  fails_done : Fails (read_function s at) → None ≡ judgement
   unfolding function_done
   fails_done f = sym (ap (function_done before) f.is)
 
-  pub judged_bad : done.Bad ≡ judgement → Judged s k at done.Bad
+  pub judged_bad : None ≡ judgement → Judged s k at None
   judged_bad e = record { told = e; grows = bad_few at (length s) }
 
-  pub headless : head.Bad ≡ head_at s at → Judged s k at done.Bad
+  pub headless : None ≡ head_at s at → Judged s k at None
   headless e = judged_bad (fails_done (head_fails s at e))
 
-  module _ (h : Header) (is-head : head.Is h ≡ head_at s at) where
+  module _ (h : Header) (is-head : Some h ≡ head_at s at) where
     abbrev b : Headed s at h
     b = headed s at h is-head
 
@@ -204,16 +206,16 @@ module _ (s : List ℕ) (k at : ℕ) where
     body f next e = body_of s b.name b.arity h.upvalues h.constants h.runs h.code (at + 17) f next (sym b.is ∙ e)
 
     wrong_done : (r : Read ObjectFunction) → read_function s at ≡ r → ((f : ObjectFunction) (next : ℕ) → r ≡ got f next → right before f ≡ false)
-        → done.Bad ≡ function_done before r
+        → None ≡ function_done before r
     unfolding function_done
     wrong_done (bad fault) e w = refl
     wrong_done (got f next) e w = rw (w f next refl) refl
 
-    wrong : ((f : ObjectFunction) (next : ℕ) → read_function s at ≡ got f next → right before f ≡ false) → done.Bad ≡ judgement
+    wrong : ((f : ObjectFunction) (next : ℕ) → read_function s at ≡ got f next → right before f ≡ false) → None ≡ judgement
     wrong w = wrong_done (read_function s at) refl w
 
     module _ (number_of_lem : length before ≡ k) where
-      constants_by : (r : Read (List Constant)) → many h.constants (read_constant s) (at + 17) ≡ r → place.Bad ≡ constants_told k r → done.Bad ≡ judgement
+      constants_by : (r : Read (List Constant)) → many h.constants (read_constant s) (at + 17) ≡ r → None ≡ constants_told k r → None ≡ judgement
       unfolding constants_told right
       constants_by (bad fault) e b' = fails_done (at_constants s at h b (record { fault = fault; is = e }))
       constants_by (got cs next) e b' =
@@ -225,11 +227,11 @@ module _ (s : List ℕ) (k at : ℕ) where
           ap (λ (m : ℕ). constants_fine m cs) number_of_lem ∙ unfine (constants_fine k cs) b' in
           rw z refl)
         where
-          unfine : (t : Bool) → place.Bad ≡ (if t then place.At next else place.Bad) → t ≡ false
-          unfine true e = absurd (let z : ◌≡◌ {A = ℕ} 0 1 = cc in omega arith)
+          unfine : (t : Bool) → None ≡ (if t then Some next else None) → t ≡ false
+          unfine true e = absurd (cc)
           unfine false e = refl
 
-      pub constants_bad : (n : ℕ) → n ≡ h.constants → place.Bad ≡ constants_told k (many n (read_constant s) (at + 17)) → Judged s k at done.Bad
+      pub constants_bad : (n : ℕ) → n ≡ h.constants → None ≡ constants_told k (many n (read_constant s) (at + 17)) → Judged s k at None
       constants_bad n q e =
           judged_bad (constants_by (many h.constants (read_constant s) (at + 17)) refl (e ∙ ap (λ (m : ℕ). constants_told k (many m (read_constant s) (at + 17))) q))
 
@@ -239,21 +241,21 @@ module _ (s : List ℕ) (k at : ℕ) where
         pub are : many h.constants (read_constant s) (at + 17) ≡ got cs runs_at
         pub fine : constants_fine k cs ≡ true
 
-      constants_got : (runs_at : ℕ) (r : Read (List Constant)) → many h.constants (read_constant s) (at + 17) ≡ r → place.At runs_at ≡ constants_told k r → ConstantsAre runs_at
+      constants_got : (runs_at : ℕ) (r : Read (List Constant)) → many h.constants (read_constant s) (at + 17) ≡ r → Some runs_at ≡ constants_told k r → ConstantsAre runs_at
       unfolding constants_told
-      constants_got runs_at (bad fault) e t = absurd (let z : ◌≡◌ {A = ℕ} 0 1 = cc in omega arith)
+      constants_got runs_at (bad fault) e t = absurd (cc)
       constants_got runs_at (got cs next) e t = by (constants_fine k cs) refl t
         where
-          by : (t : Bool) → constants_fine k cs ≡ t → place.At runs_at ≡ (if t then place.At next else place.Bad) → ConstantsAre runs_at
+          by : (t : Bool) → constants_fine k cs ≡ t → Some runs_at ≡ (if t then Some next else None) → ConstantsAre runs_at
           by true f t = let q : next ≡ runs_at = cc in record { cs = cs; are = e ∙ ap (got cs) q; fine = f }
-          by false f t = absurd (let z : ◌≡◌ {A = ℕ} 0 1 = cc in omega arith)
+          by false f t = absurd (cc)
 
-      pub constants_are : (runs_at n : ℕ) → n ≡ h.constants → place.At runs_at ≡ constants_told k (many n (read_constant s) (at + 17)) → ConstantsAre runs_at
+      pub constants_are : (runs_at n : ℕ) → n ≡ h.constants → Some runs_at ≡ constants_told k (many n (read_constant s) (at + 17)) → ConstantsAre runs_at
       constants_are runs_at n q e =
           constants_got runs_at (many h.constants (read_constant s) (at + 17)) refl (e ∙ ap (λ (m : ℕ). constants_told k (many m (read_constant s) (at + 17))) q)
 
       module _ (runs_at : ℕ) (c : ConstantsAre runs_at) where
-        runs_by : (r : Read (List Run)) → many h.runs (read_run s) runs_at ≡ r → summed.Bad ≡ runs_told r → done.Bad ≡ judgement
+        runs_by : (r : Read (List Run)) → many h.runs (read_run s) runs_at ≡ r → None ≡ runs_told r → None ≡ judgement
         unfolding runs_told right
         runs_by (bad fault) e b' = fails_done (at_runs s at h b c.cs runs_at c.are (record { fault = fault; is = e }))
         runs_by (got rs next) e b' =
@@ -266,11 +268,11 @@ module _ (s : List ℕ) (k at : ℕ) where
             ap (λ (l : List Run). all run_fits l && runs_apart l) (sym q) ∙ unfine (all run_fits rs && runs_apart rs) b' in
             rw (z, and_false (constants_fine (length before) f.chunk.constants)) refl)
           where
-            unfine : (t : Bool) → summed.Bad ≡ (if t then summed.Are (total rs) next else summed.Bad) → t ≡ false
-            unfine true e = absurd (let z : ◌≡◌ {A = ℕ} 0 1 = cc in omega arith)
+            unfine : (t : Bool) → None ≡ (if t then done (total rs) next else None) → t ≡ false
+            unfine true e = absurd (cc)
             unfine false e = refl
 
-        pub runs_bad : (n : ℕ) → n ≡ h.runs → summed.Bad ≡ runs_told (many n (read_run s) runs_at) → Judged s k at done.Bad
+        pub runs_bad : (n : ℕ) → n ≡ h.runs → None ≡ runs_told (many n (read_run s) runs_at) → Judged s k at None
         runs_bad n q e =
             judged_bad (runs_by (many h.runs (read_run s) runs_at) refl (e ∙ ap (λ (m : ℕ). runs_told (many m (read_run s) runs_at)) q))
 
@@ -280,20 +282,20 @@ module _ (s : List ℕ) (k at : ℕ) where
           pub fine : (all run_fits rs && runs_apart rs) ≡ true
           pub summed : sum ≡ total rs
 
-        runs_got : (sum code_at : ℕ) (r : Read (List Run)) → many h.runs (read_run s) runs_at ≡ r → summed.Are sum code_at ≡ runs_told r → RunsAre sum code_at
+        runs_got : (sum code_at : ℕ) (r : Read (List Run)) → many h.runs (read_run s) runs_at ≡ r → Some (sum, code_at) ≡ runs_told r → RunsAre sum code_at
         unfolding runs_told
-        runs_got sum code_at (bad fault) e t = absurd (let z : ◌≡◌ {A = ℕ} 0 1 = cc in omega arith)
+        runs_got sum code_at (bad fault) e t = absurd (cc)
         runs_got sum code_at (got rs next) e t = by (all run_fits rs && runs_apart rs) refl t
           where
-            by : (t : Bool) → (all run_fits rs && runs_apart rs) ≡ t → summed.Are sum code_at ≡ (if t then summed.Are (total rs) next else summed.Bad) → RunsAre sum code_at
-            by true f t = let q : next ≡ code_at = cc in let z : sum ≡ total rs = cc in record { rs = rs; are = e ∙ ap (got rs) q; fine = f; summed = z }
-            by false f t = absurd (let z : ◌≡◌ {A = ℕ} 0 1 = cc in omega arith)
+            by : (t : Bool) → (all run_fits rs && runs_apart rs) ≡ t → done sum code_at ≡ (if t then done (total rs) next else None) → RunsAre sum code_at
+            by true f t = let z = done_same sum code_at (total rs) next t in record { rs = rs; are = e ∙ ap (got rs) (sym z.1); fine = f; summed = z.0 }
+            by false f t = absurd (cc)
 
-        pub runs_are : (sum code_at n : ℕ) → n ≡ h.runs → summed.Are sum code_at ≡ runs_told (many n (read_run s) runs_at) → RunsAre sum code_at
+        pub runs_are : (sum code_at n : ℕ) → n ≡ h.runs → Some (sum, code_at) ≡ runs_told (many n (read_run s) runs_at) → RunsAre sum code_at
         runs_are sum code_at n q e =
             runs_got sum code_at (many h.runs (read_run s) runs_at) refl (e ∙ ap (λ (m : ℕ). runs_told (many m (read_run s) runs_at)) q)
 
-        module _ (sum code_at : ℕ) (r : RunsAre sum code_at) (bytes : (i : ℕ) → get_or s i 0 < 256) (kinds : List ℕ)
+        module _ (sum code_at : ℕ) (r : RunsAre sum code_at) (bytes : (i : ℕ) → get_or s i 0 < 256) (kinds : List element.Kind)
             (table : (p : ℕ) → p < 256 → kinds_in kinds p ≡ kind_at before c.cs p) where
           abbrev ops : ℕ → List ℕ
           ops first = take h.code (drop first s)
@@ -321,11 +323,11 @@ module _ (s : List ℕ) (k at : ℕ) where
               let f : constants_fine (length before) c.cs ≡ true = ap (λ (m : ℕ). constants_fine m c.cs) number_of_lem ∙ c.fine in
               rw (f, r.fine, part_length s first h.code w, ← r.summed) refl
 
-          split : (a d : Bool) (n next : ℕ) → (if a && d then done.Is n next else done.Bad) ≡ (if a then (if d then done.Is n next else done.Bad) else done.Bad)
+          split : (a d : Bool) (n next : ℕ) → (if a && d then done n next else None) ≡ (if a then (if d then done n next else None) else None)
           split true d n next = refl
           split false d n next = refl
 
-          whole_done : (first : ℕ) → place.At first ≡ code_told s h.code code_at → code_done (kinds_in kinds) h.upvalues sum h.code s (place.At first) ≡ judgement
+          whole_done : (first : ℕ) → Some first ≡ code_told s h.code code_at → code_done (kinds_in kinds) h.upvalues sum h.code s (Some first) ≡ judgement
           unfolding function_done code_done division
           whole_done first e =
               let d = coded s h.code code_at first e in
@@ -333,16 +335,16 @@ module _ (s : List ℕ) (k at : ℕ) where
               whole_function s at h b c.cs runs_at c.are r.rs code_at r.are first d in
               sym
               (ap (function_done before) read ∙
-              ap (λ (t : Bool). if t then done.Is (Checker.instructions (divide (kind_at before c.cs) 0 0 (ops first))) (first + h.code) else done.Bad) (right_is first d.within) ∙
+              ap (λ (t : Bool). if t then Some (Checker.instructions (divide (kind_at before c.cs) 0 0 (ops first)), first + h.code) else None) (right_is first d.within) ∙
               split (eqb sum h.code) _ _ _ ∙
-              ap (λ (x : Done). if eqb sum h.code then x else done.Bad)
+              ap (λ (x : answer.Option (ℕ × ℕ)). if eqb sum h.code then x else None)
               (sym (counted_is (kind_at before c.cs) h.upvalues h.code (first + h.code) (divide (kind_at before c.cs) 0 0 (ops first))) ∙
-              ap (λ (v : Verdict). counted v (first + h.code)) (sym (same_judged (kinds_in kinds) (kind_at before c.cs) table h.upvalues h.code (ops first) (ops_bytes first)))))
+              ap (λ (v : answer.Option ℕ). counted v (first + h.code)) (sym (same_judged (kinds_in kinds) (kind_at before c.cs) table h.upvalues h.code (ops first) (ops_bytes first)))))
 
-          code_by : (p : Place) → p ≡ code_told s h.code code_at → code_done (kinds_in kinds) h.upvalues sum h.code s p ≡ judgement
+          code_by : (p : answer.Option ℕ) → p ≡ code_told s h.code code_at → code_done (kinds_in kinds) h.upvalues sum h.code s p ≡ judgement
           unfolding code_done
-          code_by place.Bad e = fails_done (at_code s at h b c.cs runs_at c.are r.rs code_at r.are e)
-          code_by (place.At first) e = whole_done first e
+          code_by None e = fails_done (at_code s at h b c.cs runs_at c.are r.rs code_at r.are e)
+          code_by (Some first) e = whole_done first e
 
           further : at ≤ code_at
           further =
@@ -350,9 +352,9 @@ module _ (s : List ℕ) (k at : ℕ) where
               let y = forward_many (read_run s) (forward_run s) h.runs runs_at code_at r.rs r.are in
               omega arith
 
-          pub function_judged : (result : Done) (size u : ℕ) → size ≡ h.code → u ≡ h.upvalues
+          pub function_judged : (result : answer.Option (ℕ × ℕ)) (size u : ℕ) → size ≡ h.code → u ≡ h.upvalues
               → result ≡ code_done (kinds_in kinds) u sum size s (code_told s size code_at)
-              → ((n next : ℕ) → result ≡ done.Is n next → (code_at + n ≤ next) × (next ≤ length s))
+              → ((n next : ℕ) → result ≡ Some (n, next) → (code_at + n ≤ next) × (next ≤ length s))
               → Judged s k at result
           function_judged result size u q v e grows =
               record {
@@ -361,7 +363,3 @@ module _ (s : List ℕ) (k at : ℕ) where
                     ap (λ (m : ℕ). code_done (kinds_in kinds) m sum h.code s (code_told s h.code code_at)) v ∙ code_by (code_told s h.code code_at) refl;
                 grows = λ n next f. (let g = grows n next f in let w = further in (omega arith, g.1));
               }
-
-pub blank_size : (n : ℕ) → length {A = ℕ} (replicate n 0) ≡ n
-blank_size zero = refl
-blank_size (suc n) = ap suc (blank_size n)

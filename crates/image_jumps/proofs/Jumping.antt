@@ -14,7 +14,7 @@ use Rattle.image_code.proofs.Turns.{goes_on, all_here, fits_in, all_done}
 use Rattle.image_jumps.specs.Ring.{Filled, Near, all_land}
 
 -- the jumps before `at` land, in a code that divides, and the ring is filled up to `lead`
-pub record Jumping (kind : ℕ → Kind) (code ring : List ℕ) (at skip lead lead-skip : ℕ) : Type 0 where
+pub record Jumping (kind : ℕ → Kind) (code : List ℕ) (ring : List Bool) (at skip lead lead-skip : ℕ) : Type 0 where
   pub within : at ≤ length code
   pub divides : is_some (from kind code at skip) ≡ true
   pub left : all_land kind code (instructions (from kind code 0 0)) ≡ all_land kind code (instructions (from kind code at skip))
@@ -23,11 +23,11 @@ pub record Jumping (kind : ℕ → Kind) (code ring : List ℕ) (at skip lead le
   pub lead_near : lead ≤ at + 65539
 
 module _ (kind : ℕ → Kind) (code : List ℕ) where
-  pub near_of : (ring : List ℕ) (at lead lead-skip : ℕ) → Filled kind code ring lead lead-skip → lead ≤ at + 65539
+  pub near_of : (ring : List Bool) (at lead lead-skip : ℕ) → Filled kind code ring lead lead-skip → lead ≤ at + 65539
       → ((p : ℕ) → p < length code → p < at + 65539 → p < lead) → Near kind code ring at
   near_of ring at lead s f h least = record { near = λ p l u v. f.window p (least p l (omega arith)) (omega arith) }
 
-  pub jump_begin : (ring : List ℕ) → Wide (length code) (length ring) → is_some (from kind code 0 0) ≡ true → Jumping kind code ring 0 0 0 0
+  pub jump_begin : (ring : List Bool) → Wide (length code) (length ring) → is_some (from kind code 0 0) ≡ true → Jumping kind code ring 0 0 0 0
   jump_begin ring l d =
       record {
         within = omega arith;
@@ -39,7 +39,7 @@ module _ (kind : ℕ → Kind) (code : List ℕ) where
         lead_near = omega arith;
       }
 
-  pub jump_skip : (ring : List ℕ) (at skip s lead lead-skip : ℕ) → Jumping kind code ring at skip lead lead-skip → at < length code → skip ≡ suc s
+  pub jump_skip : (ring : List Bool) (at skip s lead lead-skip : ℕ) → Jumping kind code ring at skip lead lead-skip → at < length code → skip ≡ suc s
       → Jumping kind code ring (at + 1) s lead lead-skip
   jump_skip ring at skip s lead lead-skip j h e =
       let same = passed kind code at skip s h e in
@@ -52,7 +52,7 @@ module _ (kind : ℕ → Kind) (code : List ℕ) where
         lead_near = omega (arith, j.lead_near);
       }
 
-  module _ (ring : List ℕ) (at skip w lead lead-skip : ℕ) (j : Jumping kind code ring at skip lead lead-skip) (z : skip ≡ 0) (h : at < length code)
+  module _ (ring : List Bool) (at skip w lead lead-skip : ℕ) (j : Jumping kind code ring at skip lead lead-skip) (z : skip ≡ 0) (h : at < length code)
       (e : w ≡ width kind (get_or code at 0) (drop (at + 1) code)) where
     abbrev good : Bool
     good = lands (instructions (from kind code 0 0)) (length code) (instruction_at kind code at)
@@ -68,7 +68,7 @@ module _ (kind : ℕ → Kind) (code : List ℕ) where
         let p = jump_width in
         sym (j.left ∙ all_here kind code at skip w (w - 1) z h e (omega arith) _ j.divides ∙ rw (← b) refl)
 
-    pub jump_on : (ring' : List ℕ) (lead' skip' : ℕ) → Filled kind code ring' lead' skip' → lead' ≤ length code → lead' ≤ at + 65539
+    pub jump_on : (ring' : List Bool) (lead' skip' : ℕ) → Filled kind code ring' lead' skip' → lead' ≤ length code → lead' ≤ at + 65539
         → true ≡ good → Jumping kind code ring' (at + 1) (w - 1) lead' skip'
     jump_on ring' lead' skip' f l n b =
         let p = jump_width in
@@ -82,14 +82,11 @@ module _ (kind : ℕ → Kind) (code : List ℕ) where
           lead_near = omega arith;
         }
 
-  pub jump_done : (ring : List ℕ) (at skip lead lead-skip : ℕ) → Jumping kind code ring at skip lead lead-skip → length code ≤ at
+  pub jump_done : (ring : List Bool) (at skip lead lead-skip : ℕ) → Jumping kind code ring at skip lead lead-skip → length code ≤ at
       → true ≡ all_land kind code (instructions (from kind code 0 0))
   jump_done ring at skip lead lead-skip j h = sym (j.left ∙ all_done kind code at skip _ j.within h j.divides)
 
-  pub lead_least : (ring : List ℕ) (at skip lead lead-skip : ℕ) → Jumping kind code ring at skip lead lead-skip → at < length code
+  pub lead_least : (ring : List Bool) (at skip lead lead-skip : ℕ) → Jumping kind code ring at skip lead lead-skip → at < length code
       → (want : ℕ) → ((p : ℕ) → p < length code → p < at + 65539 → p < want) → lead ≤ want
   lead_least ring at skip zero s j h want least = omega arith
   lead_least ring at skip (suc lead) s j h want least = least lead (omega (arith, j.lead_within)) (omega (arith, j.lead_near))
-
-  pub filled_as : (ring : List ℕ) (lead lead' s : ℕ) → lead' ≡ lead → Filled kind code ring lead s → Filled kind code ring lead' s
-  filled_as ring lead lead' s e f = rw e f

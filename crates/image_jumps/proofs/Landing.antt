@@ -18,7 +18,9 @@ use Rattle.image_code.specs.Forms.{operands_by, form, form_of, width}
 use Rattle.image_code.proofs.Computes.{computes}
 use Rattle.image_code.proofs.Forms.{ahead_only, back_only, ahead_form, back_form}
 use Rattle.image_code.specs.Table.{instruction_at, from, instructions, window_size}
-use Rattle.image_jumps.specs.Ring.{bit, start_at, Near}
+use Rattle.image_code.specs.declared.Form.TheVariants as variant
+use Rattle.std.specs.Prelude.{Some}
+use Rattle.image_jumps.specs.Ring.{start_at, Near}
 use Rattle.image_code.proofs.Steps.{onto_other, none_start, divide_none, divide_op}
 
 word_is : (l : List ℕ) → word (take 2 l) ≡ word l
@@ -29,7 +31,7 @@ word_is (x ∷ y ∷ l) = refl
 get_or_from : (l : List ℕ) (n i m : ℕ) → n + i ≡ m → get_or (drop n l) i 0 ≡ get_or l m 0
 get_or_from l n i m e = get_or-drop n l i 0 ∙ ap (λ (k : ℕ). get_or l k 0) e
 
-other_lands : (is : List Instruction) (size at : ℕ) (o : Option Operands) (bytes : List ℕ) → (form o ≡ 6 → ⊥) → (form o ≡ 7 → ⊥)
+other_lands : (is : List Instruction) (size at : ℕ) (o : Option Operands) (bytes : List ℕ) → (form o ≡ Some variant.Ahead → ⊥) → (form o ≡ Some variant.Back → ⊥)
     → true ≡ lands_by is size at (operands_by (form o)) bytes
 unfolding computes form lands_by
 other_lands is size at none b n m = refl
@@ -50,11 +52,6 @@ or_true false = refl
 or_false : (b : Bool) → (b || false) ≡ b
 or_false true = refl
 or_false false = refl
-
-bit_is : (b : Bool) → eqb (bit b) 1 ≡ b
-unfolding bit
-bit_is true = refl
-bit_is false = refl
 
 module _ (kind : ℕ → Kind) where
   -- no instruction starts behind the end
@@ -94,28 +91,28 @@ module _ (kind : ℕ → Kind) where
       no_jump n =
           rw (← known)
           (other_lands is (length code) at (operands_of op) _
-          (λ (e : form_of op ≡ 6). let a = ahead_only op e in n a.0 (omega (arith, a.1)))
-          (λ (e : form_of op ≡ 7). let a = back_only op e in n (omega arith) (omega arith)))
+          (λ (e : form_of op ≡ Some variant.Ahead). let a = ahead_only op e in n a.0 (omega (arith, a.1)))
+          (λ (e : form_of op ≡ Some variant.Back). let a = back_only op e in n (omega arith) (omega arith)))
 
-      six : (g : ℕ) → form_of g ≡ 6 → width kind g (drop (at + 1) code) ≡ 3
+      six : (g : ℕ) → form_of g ≡ Some variant.Ahead → width kind g (drop (at + 1) code) ≡ 3
       unfolding computes width
       six g e = rw e refl
 
-      seven : (g : ℕ) → form_of g ≡ 7 → width kind g (drop (at + 1) code) ≡ 3
+      seven : (g : ℕ) → form_of g ≡ Some variant.Back → width kind g (drop (at + 1) code) ≡ 3
       unfolding computes width
       seven g e = rw e refl
 
-      ahead_at : Op.JUMP ≤ op → op < Op.LOOP → form_of (get_or code at 0) ≡ 6
+      ahead_at : Op.JUMP ≤ op → op < Op.LOOP → form_of (get_or code at 0) ≡ Some variant.Ahead
       ahead_at l h = rw (← known) (ahead_form op l h)
 
-      back_at : op ≡ Op.LOOP → form_of (get_or code at 0) ≡ 7
+      back_at : op ≡ Op.LOOP → form_of (get_or code at 0) ≡ Some variant.Back
       back_at e = rw (← known) (back_form op e)
 
-      ahead_is : form_of (get_or code at 0) ≡ 6 → verdict ≡ (is_start is (at + 3 + far) || eqb (at + 3 + far) (length code))
+      ahead_is : form_of (get_or code at 0) ≡ Some variant.Ahead → verdict ≡ (is_start is (at + 3 + far) || eqb (at + 3 + far) (length code))
       unfolding computes instruction_at lands lands_by
       ahead_is g = rw (six (get_or code at 0) g, g, far_is) refl
 
-      back_is : form_of (get_or code at 0) ≡ 7 → verdict ≡ (leb far (at + 3) && is_start is (at + 3 - far))
+      back_is : form_of (get_or code at 0) ≡ Some variant.Back → verdict ≡ (leb far (at + 3) && is_start is (at + 3 - far))
       unfolding computes instruction_at lands lands_by
       back_is g = rw (seven (get_or code at 0) g, g, far_is) refl
 
@@ -134,11 +131,11 @@ module _ (kind : ℕ → Kind) where
             let n : at + 3 + d ≡ length code → ⊥ = λ q. omega arith in
             sym (ahead_is (ahead_at l u) ∙ rw (← is-far, ne_eqb _ _ n, no_start (at + 3 + d) (omega arith)) refl)
 
-        pub ahead_near : (ring : List ℕ) → Near kind code ring at → d ≤ 65535 → Op.JUMP ≤ op → op < Op.LOOP → at + 3 + d < length code
-            → eqb (get_or ring ((at + 3 + d) % window_size) 0) 1 ≡ verdict
+        pub ahead_near : (ring : List Bool) → Near kind code ring at → d ≤ 65535 → Op.JUMP ≤ op → op < Op.LOOP → at + 3 + d < length code
+            → get_or ring ((at + 3 + d) % window_size) false ≡ verdict
         ahead_near ring near small l u h =
             let n : at + 3 + d ≡ length code → ⊥ = λ q. omega arith in
-            sym (ahead_is (ahead_at l u) ∙ rw (← is-far, ne_eqb _ _ n, near.near (at + 3 + d) h (omega arith) (omega arith), bit_is) (or_false (start_at kind code (at + 3 + d))))
+            sym (ahead_is (ahead_at l u) ∙ rw (← is-far, ne_eqb _ _ n, near.near (at + 3 + d) h (omega arith) (omega arith)) (or_false (start_at kind code (at + 3 + d))))
 
         pub back_far : op ≡ Op.LOOP → at + 3 < d → false ≡ verdict
         back_far e h = sym (back_is (back_at e) ∙ rw (← is-far, lt-leb _ _ h) refl)
@@ -146,7 +143,7 @@ module _ (kind : ℕ → Kind) where
         pub back_past : op ≡ Op.LOOP → d ≤ at + 3 → length code ≤ at + 3 - d → false ≡ verdict
         back_past e l h = sym (back_is (back_at e) ∙ rw (← is-far, le-leb _ _ l, no_start (at + 3 - d) h) refl)
 
-        pub back_near : (ring : List ℕ) → Near kind code ring at → d ≤ 65535 → op ≡ Op.LOOP → d ≤ at + 3 → at + 3 - d < length code
-            → eqb (get_or ring ((at + 3 - d) % window_size) 0) 1 ≡ verdict
+        pub back_near : (ring : List Bool) → Near kind code ring at → d ≤ 65535 → op ≡ Op.LOOP → d ≤ at + 3 → at + 3 - d < length code
+            → get_or ring ((at + 3 - d) % window_size) false ≡ verdict
         back_near ring near small e l h =
-            sym (back_is (back_at e) ∙ rw (← is-far, le-leb _ _ l, near.near (at + 3 - d) h (omega arith) (omega arith), bit_is) refl)
+            sym (back_is (back_at e) ∙ rw (← is-far, le-leb _ _ l, near.near (at + 3 - d) h (omega arith) (omega arith)) refl)

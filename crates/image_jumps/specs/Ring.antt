@@ -4,24 +4,20 @@ use Rattle.rules.specs.Base.{all}
 use Rattle.rules.specs.Division.{Kind, Instruction, is_start, lands}
 use Rattle.image_code.specs.Table.{from, instructions, is_some, window_size, Wide}
 
-unfoldable pub bit : Bool → ℕ
-bit false = 0
-bit true = 1
-
 abbrev pub start_at : (ℕ → Kind) → List ℕ → ℕ → Bool
 start_at kind code p = is_start (instructions (from kind code 0 0)) p
 
 -- the ring holds the starts of the last bytes before `at`
-pub record Filled (kind : ℕ → Kind) (code ring : List ℕ) (at skip : ℕ) : Type 0 where
+pub record Filled (kind : ℕ → Kind) (code : List ℕ) (ring : List Bool) (at skip : ℕ) : Type 0 where
   pub room : Wide (length code) (length ring)
   pub divides : is_some (from kind code at skip) ≡ true
   pub ahead : (p : ℕ) → at ≤ p → start_at kind code p ≡ is_start (instructions (from kind code at skip)) p
-  pub window : (p : ℕ) → p < at → at ≤ p + window_size → get_or ring (p % window_size) 0 ≡ bit (start_at kind code p)
+  pub window : (p : ℕ) → p < at → at ≤ p + window_size → get_or ring (p % window_size) false ≡ start_at kind code p
   pub within : at + skip ≤ length code
 
 -- the ring tells the starts that a jump at `at` can reach
-pub record Near (kind : ℕ → Kind) (code ring : List ℕ) (at : ℕ) : Type 0 where
-  pub near : (p : ℕ) → p < length code → at ≤ p + 65532 → p ≤ at + 65538 → get_or ring (p % window_size) 0 ≡ bit (start_at kind code p)
+pub record Near (kind : ℕ → Kind) (code : List ℕ) (ring : List Bool) (at : ℕ) : Type 0 where
+  pub near : (p : ℕ) → p < length code → at ≤ p + 65532 → p ≤ at + 65538 → get_or ring (p % window_size) false ≡ start_at kind code p
 
 abbrev pub all_land : (ℕ → Kind) → List ℕ → List Instruction → Bool
 all_land kind code is = all (lands (instructions (from kind code 0 0)) (length code)) is

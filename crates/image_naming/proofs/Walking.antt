@@ -14,9 +14,7 @@ use Rattle.rules.specs.Chunk.{Constant, ObjectFunction}
 use Rattle.rules.specs.ImageFile.{read_constant, read_function}
 use Rattle.rules.specs.Checker.{names, names_in_all, named_once}
 use Rattle.image_code.proofs.Once.{below_false, below_same}
-use Rattle.image_records.specs.declared.Place.{Place}
-use Rattle.image_records.specs.declared.Place.TheVariants.{At, Bad}
-use Rattle.image_records.specs.declared.Head.TheVariants as head
+use Rattle.std.proofs.Common.{Option, Some, None}
 use Rattle.image_records.specs.declared.Header.{Header}
 use Rattle.image_records.specs.Told.{place_told, head_at}
 use Rattle.image_records.proofs.Many.{Fails, got_bad, same_got, fails_bad, place_bad, place_at, many_none, many_more, passed_none, skip_stops, skip_goes, skip_none, Nth, nth_of}
@@ -51,7 +49,7 @@ module _ (s : List ℕ) (begin n base : ℕ) (first : List ℕ) where
       }
 
   module _ (seen : List ℕ) (at i : ℕ) (g : Noting s begin n base first seen at i) where
-    pub noting_stop : i < n → Fails (read_constant s at) → ConstantsNoted s begin n base Bad first seen
+    pub noting_stop : i < n → Fails (read_constant s at) → ConstantsNoted s begin n base None first seen
     noting_stop h f =
         record {
           told = skip_stops (read_constant s) n i at h f ∙ sym g.left;
@@ -75,7 +73,7 @@ module _ (s : List ℕ) (begin n base : ℕ) (first : List ℕ) where
           left = g.left ∙ skip_goes (read_constant s) n i at next c.value h c.is;
         }
 
-    pub noting_done : n ≤ i → ConstantsNoted s begin n base (At at) first seen
+    pub noting_done : n ≤ i → ConstantsNoted s begin n base (Some at) first seen
     noting_done h =
         let q : i ≡ n = omega (arith, g.within) in
         record {
@@ -91,30 +89,28 @@ module _ (s : List ℕ) (begin n base : ℕ) (first : List ℕ) where
 -- ## A function
 
 module _ (s : List ℕ) (at base : ℕ) (first : List ℕ) where
-  function_none : (seen : List ℕ) → Fails (read_function s at) → FunctionNoted s at base Bad first seen
+  function_none : (seen : List ℕ) → Fails (read_function s at) → FunctionNoted s at base None first seen
   function_none seen f = record { told = fails_bad f; noted = λ g next e. absurd (got_bad f e) }
 
-  pub function_headless : (seen : List ℕ) → head.Bad ≡ head_at s at → FunctionNoted s at base Bad first seen
+  pub function_headless : (seen : List ℕ) → None ≡ head_at s at → FunctionNoted s at base None first seen
   function_headless seen b = function_none seen (head_fails s at b)
 
-  module _ (h : Header) (b : head.Is h ≡ head_at s at) (n : ℕ) (q : n ≡ h.constants) (seen : List ℕ) (r : Place) (c : ConstantsNoted s (at + 17) n base r first seen) where
+  module _ (h : Header) (b : Some h ≡ head_at s at) (seen : List ℕ) (r : Option ℕ) (c : ConstantsNoted s (at + 17) h.constants base r first seen) where
     abbrev d : Headed s at h
     d = headed s at h b
 
-    pub function_cut : r ≡ Bad → FunctionNoted s at base Bad first seen
+    pub function_cut : r ≡ None → FunctionNoted s at base None first seen
     function_cut e =
-        let f = place_bad (many n (read_constant s) (at + 17)) (sym e ∙ c.told) in
-        function_none seen
-        (at_constants s at h d (record { fault = f.fault; is = ap (λ (m : ℕ). many m (read_constant s) (at + 17)) (sym q) ∙ f.is }))
+        function_none seen (at_constants s at h d (place_bad (many h.constants (read_constant s) (at + 17)) (sym e ∙ c.told)))
 
-    pub function_done : (p : Place) → p ≡ place_told (read_function s at) → FunctionNoted s at base p first seen
+    pub function_done : (p : Option ℕ) → p ≡ place_told (read_function s at) → FunctionNoted s at base p first seen
     function_done p e =
         record {
           told = e;
           noted =
               λ f next g. (let o = body_of s d.name d.arity h.upvalues h.constants h.runs h.code (at + 17) f next (sym d.is ∙ g) in
               let z : o.cs ≡ f.chunk.constants = ap (λ (x : ObjectFunction). x.chunk.constants) (sym o.is) in
-              as_of f.chunk.constants (c.noted o.cs o.runs_at (ap (λ (m : ℕ). many m (read_constant s) (at + 17)) q ∙ o.constants_are)) z);
+              as_of f.chunk.constants (c.noted o.cs o.runs_at o.constants_are) z);
         }
       where
         as_of : {l : List Constant} (m : List Constant) → Noted base (λ x. names x l) first seen → l ≡ m → Noted base (λ x. names x m) first seen
@@ -150,10 +146,10 @@ module _ (s : List ℕ) (count base : ℕ) (first : List ℕ) (all-got : is_got 
       here : read_function s at ≡ got nth.value nth.next
       here = ap (read_function s) (same_got g.place nth.before).1 ∙ nth.is
 
-      pub all_lost : {A : Type 0} (after : List ℕ) → FunctionNoted s at base Bad seen after → A
+      pub all_lost : {A : Type 0} (after : List ℕ) → FunctionNoted s at base None seen after → A
       all_lost after f = absurd (got_bad (place_bad (read_function s at) f.told) here)
 
-      pub all_on : (next : ℕ) (r : Place) → r ≡ At next → (after : List ℕ) → FunctionNoted s at base r seen after → NotingAll s count base first after next (i + 1)
+      pub all_on : (next : ℕ) (r : Option ℕ) → r ≡ Some next → (after : List ℕ) → FunctionNoted s at base r seen after → NotingAll s count base first after next (i + 1)
       all_on next r q after f =
           let p = place_at (read_function s at) next (sym q ∙ f.told) in
           let e : nth.next ≡ next = (same_got here p.is).1 in

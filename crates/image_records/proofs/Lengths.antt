@@ -19,8 +19,8 @@ use Rattle.rules.specs.Image.{join, constant_bytes, run_bytes, function_bytes, i
 use Rattle.rules.specs.ImageFile.{ConstantMark, number_mark, string_mark, function_mark, constant_marks}
 use Rattle.rules.specs.ImageFile.{constant_fields, read_constant, read_run, read_function}
 use Rattle.fields.proofs.Reading.{found, a_u8, a_u16, a_u32, a_u64, a_mark, a_span, bad_got, marked}
-use Rattle.image_records.specs.declared.Head.{Head}
-use Rattle.image_records.specs.declared.Head.TheVariants as head
+use Rattle.image_records.specs.declared.Header.{Header}
+use Rattle.std.proofs.Common.{Option as Told, Some, None}
 use Rattle.image_records.specs.Told.{head_at}
 use Rattle.image_records.proofs.Many.{onto, got_bad, many_first, many_none, many_goes}
 use Rattle.image_records.proofs.Records.{then_of, headed, head_fails, body_of}
@@ -137,9 +137,9 @@ module _ (s : List ℕ) where
   bytes_joined [] = refl
   bytes_joined (b ∷ bs) = ap (λ (l : List ℕ). b ∷ l) (bytes_joined bs)
 
-  function_by : (at next : ℕ) (f : ObjectFunction) (h : Head) → h ≡ head_at s at → read_function s at ≡ got f next → next ≡ at + length (function_bytes f)
-  function_by at next f head.Bad e r = absurd (got_bad (head_fails s at e) r)
-  function_by at next f (head.Is h) e r =
+  function_by : (at next : ℕ) (f : ObjectFunction) (h : Told Header) → h ≡ head_at s at → read_function s at ≡ got f next → next ≡ at + length (function_bytes f)
+  function_by at next f None e r = absurd (got_bad (head_fails s at e) r)
+  function_by at next f (Some h) e r =
       let b = headed s at h e in
       let o = body_of s b.name b.arity h.upvalues h.constants h.runs h.code (at + 17) f next (sym b.is ∙ r) in
       let c = takes_many (read_constant s) constant_bytes constant_takes h.constants (at + 17) o.runs_at o.cs o.constants_are in

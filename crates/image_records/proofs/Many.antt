@@ -10,7 +10,7 @@ use lib.Seq.{drop-cons}
 use Rattle.rules.specs.declared.Refusal.{Refusal}
 use Rattle.rules.specs.Reader.{Read, got, bad, Reader, go_on, ◌>>=◌, return, many, u8}
 use Rattle.fields.proofs.Reading.{a_u8}
-use Rattle.image_records.specs.declared.Place.TheVariants.{At, Bad}
+use Rattle.std.proofs.Common.{Option, Some, None}
 use Rattle.image_records.specs.Told.{place_told}
 
 -- a refusal, whichever
@@ -29,19 +29,26 @@ got_bad f e = let z = sym f.is ∙ e in let y : ◌≡◌ {A = ℕ} 0 1 = cc in 
 pub same_got : {A : Type 0} {r : Read A} {a b : A} {m n : ℕ} → r ≡ got a m → r ≡ got b n → (a ≡ b) × (m ≡ n)
 same_got e f = let z = sym e ∙ f in (cc, cc)
 
-pub place_bad : {A : Type 0} (r : Read A) → Bad ≡ place_told r → Fails r
+pub none_some : {A : Type 0} {a : A} → ◌≡◌ {A = Option A} None (Some a) → ⊥
+none_some e = let z : ◌≡◌ {A = ℕ} 0 1 = cc in omega arith
+
+pub place_bad : {A : Type 0} (r : Read A) → None ≡ place_told r → Fails r
 unfolding place_told
 place_bad (bad fault) e = record { fault = fault; is = refl }
 place_bad (got a n) e = let z : ◌≡◌ {A = ℕ} 0 1 = cc in absurd (omega arith)
 
-pub fails_bad : {A : Type 0} {r : Read A} → Fails r → Bad ≡ place_told r
+pub fails_bad : {A : Type 0} {r : Read A} → Fails r → None ≡ place_told r
 unfolding place_told
 fails_bad f = sym (ap place_told f.is)
+
+pub gives_at : {A : Type 0} {r : Read A} {a : A} {next : ℕ} → r ≡ got a next → Some next ≡ place_told r
+unfolding place_told
+gives_at e = sym (ap place_told e)
 
 pub fails_as : {A : Type 0} {r q : Read A} → r ≡ q → Fails q → Fails r
 fails_as e f = record { fault = f.fault; is = e ∙ f.is }
 
-pub place_at : {A : Type 0} (r : Read A) (next : ℕ) → At next ≡ place_told r → Gives r next
+pub place_at : {A : Type 0} (r : Read A) (next : ℕ) → Some next ≡ place_told r → Gives r next
 unfolding place_told
 place_at (bad fault) next e = let z : ◌≡◌ {A = ℕ} 0 1 = cc in absurd (omega arith)
 place_at (got a n) next e = let m : n ≡ next = cc in record { value = a; is = ap (got a) m }
@@ -131,16 +138,23 @@ module _ {A : Type 0} (one : Reader A) where
   pub left_none : (n i at : ℕ) → n ≤ i → many (n - i) one at ≡ got [] at
   left_none n i at h = many_none (n - i) at (omega arith)
 
-  pub skip_stops : (n i at : ℕ) → i < n → Fails (one at) → Bad ≡ place_told (many (n - i) one at)
+  pub skip_stops : (n i at : ℕ) → i < n → Fails (one at) → None ≡ place_told (many (n - i) one at)
   unfolding place_told
   skip_stops n i at h f = sym (ap place_told (left_stops n i at h f).is)
 
   pub skip_goes : (n i at next : ℕ) (a : A) → i < n → one at ≡ got a next → place_told (many (n - i) one at) ≡ place_told (many (n - (i + 1)) one next)
   skip_goes n i at next a h f = ap place_told (left_goes n i at next a h f) ∙ onto_place a (many (n - (i + 1)) one next)
 
-  pub skip_none : (n i at : ℕ) → n ≤ i → At at ≡ place_told (many (n - i) one at)
+  pub skip_none : (n i at : ℕ) → n ≤ i → Some at ≡ place_told (many (n - i) one at)
   unfolding place_told
   skip_none n i at h = sym (ap place_told (left_none n i at h))
+
+  -- by the place that was told of one of them
+  pub skip_ends : (n i at : ℕ) → i < n → None ≡ place_told (one at) → None ≡ place_told (many (n - i) one at)
+  skip_ends n i at h e = skip_stops n i at h (place_bad (one at) e)
+
+  pub skip_over : (n i at next : ℕ) → i < n → Some next ≡ place_told (one at) → place_told (many (n - i) one at) ≡ place_told (many (n - (i + 1)) one next)
+  skip_over n i at next h e = let t = place_at (one at) next e in skip_goes n i at next t.value h t.is
 
 -- ## Which they are
 

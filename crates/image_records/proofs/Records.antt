@@ -16,10 +16,7 @@ use Rattle.rules.specs.Chunk.{Constant, CN, CS, CF, same_constant, Run, ObjectFu
 use Rattle.rules.specs.ImageFile.{ConstantMark, number_mark, string_mark, function_mark, constant_marks, constant_fields, read_constant, read_run, read_function}
 use Rattle.fields.specs.Words.{word8, word16, word32, word64, letters}
 use Rattle.fields.proofs.Reading.{Field, then_on, then_bad, a_u8, a_u16, a_u32, a_u64, a_mark, mark_is_it, mark_is_not, mark_is_cut, marked}
-use Rattle.image_records.specs.declared.Word.{Word}
-use Rattle.image_records.specs.declared.Word.TheVariants as word
-use Rattle.image_records.specs.declared.Place.TheVariants as place
-use Rattle.image_records.specs.declared.Head.TheVariants as head
+use Rattle.std.proofs.Common.{Option, Some, None}
 use Rattle.image_records.specs.declared.Header.{Header}
 use Rattle.image_records.specs.Told.{word_of, constant_told, head_at, code_told}
 use Rattle.image_records.proofs.Many.{Fails, fails_as, bytes_whole, bytes_short}
@@ -56,12 +53,14 @@ pub record ConstantIs (r : Read Constant) (w next : ℕ) : Type 0 where
   pub is : r ≡ got value next
   pub coded : w ≡ word_of value
 
-pub constant_is : (r : Read Constant) (w next : ℕ) → word.Is w next ≡ constant_told r → ConstantIs r w next
+pub constant_is : (r : Read Constant) (w next : ℕ) → Some (w, next) ≡ constant_told r → ConstantIs r w next
 unfolding constant_told
 constant_is (bad fault) w next e = let z : ◌≡◌ {A = ℕ} 0 1 = cc in absurd (omega arith)
-constant_is (got c n) w next e = let m : n ≡ next = cc in record { value = c; is = ap (got c) m; coded = cc }
+constant_is (got c n) w next e =
+    let p : (w, next) ≡ (word_of c, n) = cc in
+    record { value = c; is = ap (got c) (sym (ap (λ (x : ℕ × ℕ). x.1) p)); coded = ap (λ (x : ℕ × ℕ). x.0) p }
 
-pub constant_fails : (r : Read Constant) → word.Bad ≡ constant_told r → Fails r
+pub constant_fails : (r : Read Constant) → None ≡ constant_told r → Fails r
 unfolding constant_told
 constant_fails (bad fault) e = record { fault = fault; is = refl }
 constant_fails (got c n) e = let z : ◌≡◌ {A = ℕ} 0 1 = cc in absurd (omega arith)
@@ -69,39 +68,39 @@ constant_fails (got c n) e = let z : ◌≡◌ {A = ℕ} 0 1 = cc in absurd (ome
 module _ (s : List ℕ) (at : ℕ) where
   -- ## A constant's fields, behind its mark
 
-  abbrev fields : ConstantMark → Word
+  abbrev fields : ConstantMark → Option (ℕ × ℕ)
   fields kind = constant_told (constant_fields s kind (at + 2))
 
-  pub number_short : length s < at + 10 → word.Bad ≡ fields number_mark
+  pub number_short : length s < at + 10 → None ≡ fields number_mark
   unfolding constant_fields ◌>>=◌ go_on constant_told
   number_short h = rw ((a_u64 s).short ImageRefused (at + 2) (omega arith)) refl
 
-  pub number_large : at + 10 ≤ length s → max_bits < word64 s (at + 2) → word.Bad ≡ fields number_mark
+  pub number_large : at + 10 ≤ length s → max_bits < word64 s (at + 2) → None ≡ fields number_mark
   unfolding constant_fields ◌>>=◌ ◌>>◌ go_on need constant_told
   number_large h l = rw ((a_u64 s).whole ImageRefused (at + 2) (omega arith), lt-leb _ _ l) refl
 
-  pub number_whole : (bits : ℕ) → bits ≡ word64 s (at + 2) → at + 10 ≤ length s → bits ≤ max_bits → word.Is (2 * bits) (at + 10) ≡ fields number_mark
+  pub number_whole : (bits : ℕ) → bits ≡ word64 s (at + 2) → at + 10 ≤ length s → bits ≤ max_bits → Some (2 * bits, at + 10) ≡ fields number_mark
   unfolding constant_fields ◌>>=◌ ◌>>◌ go_on need return constant_told word_of
   number_whole bits e h l =
       let m : word64 s (at + 2) ≤ max_bits = omega arith in
       let p : at + 2 + 8 ≡ at + 10 = omega arith in
       rw ((a_u64 s).whole ImageRefused (at + 2) (omega arith), le-leb _ _ m, p, e) refl
 
-  pub string_short : length s < at + 4 → word.Bad ≡ fields string_mark
+  pub string_short : length s < at + 4 → None ≡ fields string_mark
   unfolding constant_fields ◌>>=◌ go_on constant_told
   string_short h = rw ((a_u16 s).short ImageRefused (at + 2) (omega arith)) refl
 
-  pub string_whole : (name : ℕ) → name ≡ word16 s (at + 2) → at + 4 ≤ length s → word.Is (4 * name + 1) (at + 4) ≡ fields string_mark
+  pub string_whole : (name : ℕ) → name ≡ word16 s (at + 2) → at + 4 ≤ length s → Some (4 * name + 1, at + 4) ≡ fields string_mark
   unfolding constant_fields ◌>>=◌ go_on return constant_told word_of
   string_whole name e h =
       let p : at + 2 + 2 ≡ at + 4 = omega arith in
       rw ((a_u16 s).whole ImageRefused (at + 2) (omega arith), p, e) refl
 
-  pub function_short : length s < at + 6 → word.Bad ≡ fields function_mark
+  pub function_short : length s < at + 6 → None ≡ fields function_mark
   unfolding constant_fields ◌>>=◌ go_on constant_told
   function_short h = rw ((a_u32 s).short ImageRefused (at + 2) (omega arith)) refl
 
-  pub function_whole : (number : ℕ) → number ≡ word32 s (at + 2) → at + 6 ≤ length s → word.Is (4 * number + 3) (at + 6) ≡ fields function_mark
+  pub function_whole : (number : ℕ) → number ≡ word32 s (at + 2) → at + 6 ≤ length s → Some (4 * number + 3, at + 6) ≡ fields function_mark
   unfolding constant_fields ◌>>=◌ go_on return constant_told word_of
   function_whole number e h =
       let p : at + 2 + 4 ≡ at + 6 = omega arith in
@@ -109,10 +108,10 @@ module _ (s : List ℕ) (at : ℕ) where
 
   -- ## A constant by its mark
 
-  abbrev told : Word
+  abbrev told : Option (ℕ × ℕ)
   told = constant_told (read_constant s at)
 
-  pub constant_cut : length s < at + 2 → word.Bad ≡ told
+  pub constant_cut : length s < at + 2 → None ≡ told
   unfolding read_constant ◌>>=◌ go_on constant_told
   constant_cut h = rw ((a_mark s).short ImageRefused at h) refl
 
@@ -129,7 +128,7 @@ module _ (s : List ℕ) (at : ℕ) where
     unfolding read_constant ◌>>=◌ go_on one_of known return constant_marks lookup
     by_function q = let p : letters s at ≡ 0x4346 = sym e ∙ q in rw ((a_mark s).whole ImageRefused at h, p) refl
 
-    pub by_none : (m ≡ 0x434E → ⊥) → (m ≡ 0x4353 → ⊥) → (m ≡ 0x4346 → ⊥) → word.Bad ≡ told
+    pub by_none : (m ≡ 0x434E → ⊥) → (m ≡ 0x4353 → ⊥) → (m ≡ 0x4346 → ⊥) → None ≡ told
     unfolding read_constant ◌>>=◌ go_on one_of known refuse constant_marks lookup constant_told
     by_none a b c = rw ((a_mark s).whole ImageRefused at h, ← e, ne_eqb _ _ a, ne_eqb _ _ b, ne_eqb _ _ c) refl
 
@@ -263,13 +262,13 @@ module _ (s : List ℕ) where
 
   -- ## The header as it is told
 
-  head_bool : (at : ℕ) (t u : Bool) → leb (at + 17) (length s) ≡ t → eqb (letters s at) 0x464E ≡ u → head.Bad ≡ head_at s at → Fails (read_function s at)
+  head_bool : (at : ℕ) (t u : Bool) → leb (at + 17) (length s) ≡ t → eqb (letters s at) 0x464E ≡ u → None ≡ head_at s at → Fails (read_function s at)
   unfolding head_at
   head_bool at true true e f b = absurd (let z = rw (e, f) at b in let y : ◌≡◌ {A = ℕ} 0 1 = cc in omega arith)
   head_bool at true false e f b = let l : at + 17 ≤ length s = leb-true _ _ e in head_unmarked at (omega arith) (eqb-false _ _ f)
   head_bool at false u e f b = head_short at (leb-false _ _ e)
 
-  pub head_fails : (at : ℕ) → head.Bad ≡ head_at s at → Fails (read_function s at)
+  pub head_fails : (at : ℕ) → None ≡ head_at s at → Fails (read_function s at)
   head_fails at b = head_bool at _ _ refl refl b
 
   pub record Headed (at : ℕ) (h : Header) : Type 0 where
@@ -278,7 +277,7 @@ module _ (s : List ℕ) where
     pub whole : at + 17 ≤ length s
     pub is : read_function s at ≡ body_read name arity h.upvalues h.constants h.runs h.code (at + 17)
 
-  head_told : (at : ℕ) (h : Header) (t u : Bool) → leb (at + 17) (length s) ≡ t → eqb (letters s at) 0x464E ≡ u → head.Is h ≡ head_at s at → Headed at h
+  head_told : (at : ℕ) (h : Header) (t u : Bool) → leb (at + 17) (length s) ≡ t → eqb (letters s at) 0x464E ≡ u → Some h ≡ head_at s at → Headed at h
   unfolding head_at
   head_told at h true true e f b =
       let w = leb-true _ _ e in
@@ -293,7 +292,7 @@ module _ (s : List ℕ) where
   head_told at h true false e f b = absurd (let z = rw (e, f) at b in let y : ◌≡◌ {A = ℕ} 0 1 = cc in omega arith)
   head_told at h false u e f b = absurd (let z = rw e at b in let y : ◌≡◌ {A = ℕ} 0 1 = cc in omega arith)
 
-  pub headed : (at : ℕ) (h : Header) → head.Is h ≡ head_at s at → Headed at h
+  pub headed : (at : ℕ) (h : Header) → Some h ≡ head_at s at → Headed at h
   headed at h b = head_told at h _ _ refl refl b
 
   -- ## The code as it is told
@@ -304,7 +303,7 @@ module _ (s : List ℕ) where
     pub marked : letters s at ≡ 0x4344
 
   coded_by : (size at start : ℕ) (t u v : Bool) → leb (at + 2) (length s) ≡ t → eqb (letters s at) 0x4344 ≡ u → leb (at + 2 + size) (length s) ≡ v
-      → place.At start ≡ code_told s size at → Coded size at start
+      → Some start ≡ code_told s size at → Coded size at start
   unfolding code_told
   coded_by size at start true true true e f g b =
       let z = rw (e, f, g) at b in
@@ -315,7 +314,7 @@ module _ (s : List ℕ) where
   coded_by size at start true false v e f g b = absurd (let z = rw (e, f) at b in let y : ◌≡◌ {A = ℕ} 0 1 = cc in omega arith)
   coded_by size at start false u v e f g b = absurd (let z = rw e at b in let y : ◌≡◌ {A = ℕ} 0 1 = cc in omega arith)
 
-  pub coded : (size at start : ℕ) → place.At start ≡ code_told s size at → Coded size at start
+  pub coded : (size at start : ℕ) → Some start ≡ code_told s size at → Coded size at start
   coded size at start b = coded_by size at start _ _ _ refl refl refl b
 
   module _ (name arity upvalues : ℕ) (size at : ℕ) (cs : List Constant) (rs : List Run) where
@@ -327,14 +326,14 @@ module _ (s : List ℕ) where
         code_there name arity upvalues size at cs rs (omega arith) c.marked (omega arith) ∙ rw (← o) refl
 
     uncoded_by : (t u v : Bool) → leb (at + 2) (length s) ≡ t → eqb (letters s at) 0x4344 ≡ u → leb (at + 2 + size) (length s) ≡ v
-        → place.Bad ≡ code_told s size at → Fails (code_read name arity upvalues size cs rs at)
+        → None ≡ code_told s size at → Fails (code_read name arity upvalues size cs rs at)
     unfolding code_told
     uncoded_by true true true e f g b = absurd (let z = rw (e, f, g) at b in let y : ◌≡◌ {A = ℕ} 0 1 = cc in omega arith)
     uncoded_by true true false e f g b = code_short name arity upvalues size at cs rs (leb-true _ _ e) (eqb-true _ _ f) (leb-false _ _ g)
     uncoded_by true false v e f g b = code_unmarked name arity upvalues size at cs rs (leb-true _ _ e) (eqb-false _ _ f)
     uncoded_by false u v e f g b = code_cut name arity upvalues size at cs rs (leb-false _ _ e)
 
-    pub uncoded : place.Bad ≡ code_told s size at → Fails (code_read name arity upvalues size cs rs at)
+    pub uncoded : None ≡ code_told s size at → Fails (code_read name arity upvalues size cs rs at)
     uncoded b = uncoded_by _ _ _ refl refl refl b
 
 -- ## A whole function, step by step
@@ -357,7 +356,7 @@ module _ (s : List ℕ) (at : ℕ) (h : Header) (b : Headed s at h) where
       pub past_runs : read_function s at ≡ code_read s b.name b.arity h.upvalues h.code cs rs code_at
       past_runs = past_constants ∙ runs_goes s b.name b.arity h.upvalues h.runs h.code runs_at code_at cs rs r
 
-      pub at_code : place.Bad ≡ code_told s h.code code_at → Fails (read_function s at)
+      pub at_code : None ≡ code_told s h.code code_at → Fails (read_function s at)
       at_code f = fails_as past_runs (uncoded s b.name b.arity h.upvalues h.code code_at cs rs f)
 
       pub whole_function : (start : ℕ) → Coded s h.code code_at start

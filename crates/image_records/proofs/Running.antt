@@ -1,26 +1,26 @@
 -- Laws of runs: what one record gives, and what is left of the sum after it.
 use mathlib.Core.Path.{◌≡◌, refl, sym, ap, ◌∙◌}
-use mathlib.Core.Bool.{Bool, true, false, not, ◌&&◌}
+use mathlib.Core.Bool.{Bool, true, false, ◌&&◌}
 use mathlib.Core.List.{List, ◌∷◌, []}
 use Prim.Native.Nat.{ℕ, ◌+◌, ◌-◌, ◌≤◌, ◌<◌}
 use native.Mathlib.Omega.{arith}
 use lib.ListN.{length}
 use lib.Dec.{leb, eqb}
-use borrow.Author.Tests.{le-leb, lt-leb, eq-eqb, ne_eqb, leb-true, leb-false, eqb-true, eqb-false}
+use borrow.Author.Tests.{le-leb, lt-leb, leb-true, leb-false, eqb-true, eqb-false}
 use Rattle.rules.specs.Base.{all}
 use Rattle.std.specs.Prelude.{if◌then◌else◌}
 use Rattle.rules.specs.declared.Refusal.TheVariants.{ImageRefused}
 use Rattle.rules.specs.Reader.{Read, got, bad, go_on, ◌>>=◌, ◌>>◌, return, many}
+use Rattle.rules.specs.declared.Span.{Span}
 use Rattle.rules.specs.Chunk.{Run, same_span, total}
 use Rattle.rules.specs.Division.{run_fits}
 use Rattle.rules.specs.Checker.{runs_apart}
 use Rattle.rules.specs.ImageFile.{read_run}
 use Rattle.fields.specs.Words.{word8, word32, letters, span_of}
 use Rattle.fields.proofs.Reading.{a_u8, a_span, mark_is_it, mark_is_not, mark_is_cut}
-use Rattle.image_records.specs.declared.Summed.{Summed}
-use Rattle.image_records.specs.declared.Summed.TheVariants.{Are, Bad}
-use Rattle.image_records.specs.Told.{runs_after, runs_told}
-use Rattle.image_records.proofs.Many.{Fails, onto, left_goes, left_stops, left_none, passed_none}
+use Rattle.std.proofs.Common.{Option, Some, None}
+use Rattle.image_records.specs.Told.{place_told, runs_after, runs_told}
+use Rattle.image_records.proofs.Many.{Fails, fails_bad, gives_at, none_some, onto, left_goes, left_stops, left_none, passed_none}
 
 abbrev pub run_of : (start end count : ℕ) → Run
 run_of start end count = record { span = record { start = start; end = end }; count = count }
@@ -78,6 +78,27 @@ module _ (s : List ℕ) (at : ℕ) where
   pub run_short : length s < at + 11 → Fails (read_run s at)
   run_short h = short_by _ _ _ refl refl refl h
 
+  -- what the place after a run says of it
+  pub record Marked (next : ℕ) : Type 0 where
+    pub whole : at + 11 ≤ length s
+    pub marked : letters s at ≡ 0x5255
+    pub on : next ≡ at + 11
+
+  marked_by : (next : ℕ) (t u : Bool) → leb (at + 11) (length s) ≡ t → eqb (letters s at) 0x5255 ≡ u → Some next ≡ place_told (read_run s at) → Marked next
+  marked_by next true true e f b =
+      let w = leb-true (at + 11) (length s) e in
+      let m = eqb-true _ _ f in
+      let g = gives_at (run_there w m) in
+      let z : Some next ≡ Some (at + 11) = b ∙ sym g in
+      record { whole = w; marked = m; on = cc }
+  marked_by next true false e f b =
+      let w = leb-true (at + 11) (length s) e in
+      absurd (none_some (fails_bad (run_unmarked (omega arith) (eqb-false _ _ f)) ∙ sym b))
+  marked_by next false u e f b = absurd (none_some (fails_bad (run_short (leb-false _ _ e)) ∙ sym b))
+
+  pub run_marked : (next : ℕ) → Some next ≡ place_told (read_run s at) → Marked next
+  run_marked next b = marked_by next _ _ refl refl b
+
 -- ## One run more
 
 abbrev pub may_follow : Run → Run → Bool
@@ -101,12 +122,12 @@ module _ (run next : Run) (sum : ℕ) where
       let p : sum + (next.count + total rs) ≡ sum + next.count + total rs = omega arith in
       rw (third (run_fits next) (all run_fits rs) (may_follow run next) (runs_apart (next ∷ rs)) e f, p) refl
 
-  run_unfit_on : (r : Read (List Run)) → run_fits next ≡ false → Bad ≡ runs_after run sum (onto next r)
+  run_unfit_on : (r : Read (List Run)) → run_fits next ≡ false → None ≡ runs_after run sum (onto next r)
   unfolding runs_after onto all
   run_unfit_on (bad fault) e = refl
   run_unfit_on (got rs n) e = rw e refl
 
-  run_near_on : (r : Read (List Run)) → may_follow run next ≡ false → Bad ≡ runs_after run sum (onto next r)
+  run_near_on : (r : Read (List Run)) → may_follow run next ≡ false → None ≡ runs_after run sum (onto next r)
   unfolding runs_after onto runs_apart
   run_near_on (bad fault) e = refl
   run_near_on (got rs n) e = rw (e, both_false (all run_fits (next ∷ rs)) (runs_apart (next ∷ rs))) refl
@@ -120,33 +141,37 @@ unfolding run_fits
 fits_none run e = let l : run.count < 1 = omega arith in rw (lt-leb _ _ l) refl
 
 module _ (s : List ℕ) (n i at : ℕ) (run : Run) (sum : ℕ) where
-  abbrev pub left : Summed
+  abbrev pub left : Option (ℕ × ℕ)
   left = runs_after run sum (many (n - i) (read_run s) at)
 
-  pub runs_stop : i < n → Fails (read_run s at) → Bad ≡ left
+  pub runs_stop : i < n → Fails (read_run s at) → None ≡ left
   unfolding runs_after
   runs_stop h f = sym (ap (runs_after run sum) (left_stops (read_run s) n i at h f).is)
 
-  pub runs_done : n ≤ i → Are sum at ≡ left
+  pub runs_done : n ≤ i → Some (sum, at) ≡ left
   unfolding runs_after all runs_apart total
   runs_done h = let p : sum + 0 ≡ sum = omega arith in rw (left_none (read_run s) n i at h, p) refl
 
-  module _ (a e c : ℕ) (h : i < n) (room : at + 11 ≤ length s) (marked : letters s at ≡ 0x5255)
-      (is-a : a ≡ word32 s (at + 2)) (is-e : e ≡ word32 s (at + 6)) (is_c : c ≡ word8 s (at + 10)) where
-    abbrev next : Run
-    next = run_of a e c
+  module _ (span : Span) (c next : ℕ) (h : i < n) (b : Some next ≡ place_told (read_run s at))
+      (is_span : span ≡ span_of s (at + 2)) (is_c : c ≡ word8 s (at + 10)) where
+    abbrev this : Run
+    this = record { span = span; count = c }
 
-    goes : many (n - i) (read_run s) at ≡ onto next (many (n - (i + 1)) (read_run s) (at + 11))
-    goes = left_goes (read_run s) n i at (at + 11) next h (run_there s at room marked ∙ rw (is-a, is-e, is_c) refl)
+    goes : many (n - i) (read_run s) at ≡ onto this (many (n - (i + 1)) (read_run s) next)
+    unfolding span_of
+    goes =
+        let m = run_marked s at next b in
+        let p6 : at + 2 + 4 ≡ at + 6 = omega arith in
+        left_goes (read_run s) n i at next this h (run_there s at m.whole m.marked ∙ rw (m.on, is_span, is_c, p6) refl)
 
-    pub run_zero : c ≡ 0 → Bad ≡ left
-    run_zero z = run_unfit_on run next sum _ (fits_none next z) ∙ sym (ap (runs_after run sum) goes)
+    pub run_zero : c ≡ 0 → None ≡ left
+    run_zero z = run_unfit_on run this sum _ (fits_none this z) ∙ sym (ap (runs_after run sum) goes)
 
-    pub run_near : false ≡ may_follow run next → Bad ≡ left
-    run_near b = run_near_on run next sum _ (sym b) ∙ sym (ap (runs_after run sum) goes)
+    pub run_near : false ≡ may_follow run this → None ≡ left
+    run_near f = run_near_on run this sum _ (sym f) ∙ sym (ap (runs_after run sum) goes)
 
-    pub run_on : 1 ≤ c → c < 256 → true ≡ may_follow run next → left ≡ runs_after next (sum + c) (many (n - (i + 1)) (read_run s) (at + 11))
-    run_on l u b = ap (runs_after run sum) goes ∙ run_good_on run next sum _ (fits_one next l (omega arith)) (sym b)
+    pub run_on : 1 ≤ c → c < 256 → true ≡ may_follow run this → left ≡ runs_after this (sum + c) (many (n - (i + 1)) (read_run s) next)
+    run_on l u f = ap (runs_after run sum) goes ∙ run_good_on run this sum _ (fits_one this l (omega arith)) (sym f)
 
 either_true : (b : Bool) → (if b then true else true) ≡ true
 either_true true = refl
@@ -164,25 +189,3 @@ told_after (got rs n) = let p : 0 + total rs ≡ total rs = omega arith in rw (a
 
 pub runs_begin : (s : List ℕ) (n at : ℕ) → runs_told (many n (read_run s) at) ≡ runs_after (run_of 0 0 255) 0 (many (n - 0) (read_run s) at)
 runs_begin s n at = told_after (many n (read_run s) at) ∙ ap (runs_after (run_of 0 0 255) 0) (passed_none (read_run s) n at)
-
--- ## What `follows` tells
-
-same_turn : (a b : ℕ) (t : Bool) → eqb a b ≡ t → eqb b a ≡ t
-same_turn a b true e = let q : a ≡ b = eqb-true _ _ e in eq-eqb _ _ (sym q)
-same_turn a b false e = let q : a ≡ b → ⊥ = eqb-false _ _ e in ne_eqb _ _ (λ p. q (sym p))
-
-module _ (start end count a e : ℕ) where
-  abbrev verdict : Bool
-  verdict = if same_span (record { start = start; end = end }) (record { start = a; end = e }) then eqb count 255 else true
-
-  pub follows_full : count ≡ 255 → true ≡ verdict
-  follows_full f = sym (rw (eq-eqb _ _ f) (either_true (same_span (record { start = start; end = end }) (record { start = a; end = e }))))
-
-  pub follows_start : (a ≡ start → ⊥) → true ≡ verdict
-  unfolding same_span
-  follows_start f = rw (ne_eqb start a (λ q. f (sym q))) refl
-
-  pub follows_end : (count ≡ 255 → ⊥) → a ≡ start → (b : Bool) → eqb e end ≡ b → not b ≡ verdict
-  unfolding same_span
-  follows_end f q true g = rw (ne_eqb _ _ f, eq-eqb start a (sym q), same_turn e end true g) refl
-  follows_end f q false g = rw (ne_eqb _ _ f, eq-eqb start a (sym q), same_turn e end false g) refl

@@ -10,6 +10,7 @@ use borrow.Author.Tests.{lt-ltb, le-ltb}
 use native.Mathlib.Omega.{arith}
 use Rattle.std.specs.Prelude.{if◌then◌else◌}
 use Rattle.rules.specs.declared.Answer.{Answer}
+use Rattle.rules.specs.declared.Refusal.TheVariants.{NoSuchByte}
 use Rattle.rules.specs.Answer.{refusal}
 use Rattle.rules.specs.Checker.{span_of}
 use Rattle.spans.specs.declared.Run.{Run}
@@ -21,18 +22,15 @@ span_at runs k = span_of (runs_in runs) k
 abbrev pub found : Run → Answer
 found r = record { number = 0; at = r.start; end = r.end; name = 0; length = 0; function = 0; around = 0 }
 
-abbrev pub no_such_byte : Answer
-no_such_byte = record { number = 42; at = 0; end = 0; name = 0; length = 0; function = 0; around = 0 }
-
 abbrev pub none : Run
 none = record { start = 0; end = 0; count = 0 }
 
-empty : (rs : List Run) (k : ℕ) → length rs ≡ 0 → span_at rs k ≡ no_such_byte
-unfolding span_of runs_in refusal
+empty : (rs : List Run) (k : ℕ) → length rs ≡ 0 → span_at rs k ≡ refusal NoSuchByte
+unfolding span_of runs_in
 empty [] k e = refl
 empty (r ∷ rs) k e = absurd (omega (arith, e))
 
-pub ends : (ys : List Run) (i k : ℕ) → length ys ≤ i → span_at (drop i ys) k ≡ no_such_byte
+pub ends : (ys : List Run) (i k : ℕ) → length ys ≤ i → span_at (drop i ys) k ≡ refusal NoSuchByte
 ends ys i k over = empty (drop i ys) k (simp length-drop (omega arith))
 
 module _ (ys : List Run) (i k : ℕ) (inside : i < length ys) where

@@ -14,15 +14,15 @@ use rules::{Answer, Refusal};
 pub fn span_of_words(words: &[u32], offset: usize) -> Answer
     ensures { result ≡ span_of (runs_of words.now) offset }
 {
-    let mut at: usize = 0;
+    let mut runs = words;
     let mut left = offset;
-    while at + 2 < words.len() {
-        let count = fields::wide32(words[at + 2]);
+    while let [start, end, count, rest @ ..] = runs {
+        let count = *count as usize;
         if left < count {
             return Answer {
                 number: 0,
-                at: fields::long32(words[at]),
-                end: fields::long32(words[at + 1]),
+                at: *start as u64,
+                end: *end as u64,
                 name: 0,
                 length: 0,
                 function: 0,
@@ -30,7 +30,7 @@ pub fn span_of_words(words: &[u32], offset: usize) -> Answer
             };
         }
         left -= count;
-        at += 3;
+        runs = rest;
     }
     refused(Refusal::NoSuchByte)
 }
@@ -44,41 +44,25 @@ pub struct Run {
     pub count: u8,
 }
 
-// The number of `refusal NoSuchByte`.
-const NO_SUCH_BYTE: u64 = 42;
-
 // The same over a lent slice of runs.
 pub fn span_of(runs: &[Run], offset: usize) -> Answer
     ensures { result ≡ Checker.span_of (runs_in runs.now) offset }
 {
-    let mut i = 0;
     let mut left = offset;
-    while i < runs.len() {
-        let r = runs[i];
-        let n = r.count as usize;
-        let a = r.start as u64;
-        let e = r.end as u64;
-        if left < n {
+    for run in runs {
+        let count = run.count as usize;
+        if left < count {
             return Answer {
                 number: 0,
-                at: a,
-                end: e,
+                at: run.start as u64,
+                end: run.end as u64,
                 name: 0,
                 length: 0,
                 function: 0,
                 around: 0,
             };
         }
-        left = left - n;
-        i = i + 1;
+        left -= count;
     }
-    Answer {
-        number: NO_SUCH_BYTE,
-        at: 0,
-        end: 0,
-        name: 0,
-        length: 0,
-        function: 0,
-        around: 0,
-    }
+    refused(Refusal::NoSuchByte)
 }

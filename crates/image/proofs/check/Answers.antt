@@ -9,4 +9,4 @@ returns-in_default c =
 
 pub returns : goal.returns
 returns c =
-    c.accepted.ensures ∙ check_yes c.args.image.now _ _ (sym c.in-Is.is ∙ c.count_of.ensures)
+    c.accepted.ensures ∙ check_yes c.args.image.now _ _ (sym c.in-Some.is ∙ c.count_of.ensures)

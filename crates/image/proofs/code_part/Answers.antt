@@ -14,28 +14,28 @@ returns-in_default c =
 
 pub u32_at-requires : goal.u32_at-requires
 u32_at-requires c =
-    (accepted_is c.args.image.now c.in-Is.n c.in-Is.end (sym c.in-Is.is ∙ c.count_of.ensures)).room
+    (accepted_is c.args.image.now c.in-Some.n c.in-Some.end (sym c.in-Some.is ∙ c.count_of.ensures)).room
 
-pub returns-then-k-wide32 : goal.returns-then-k-wide32
-returns-then-k-wide32 c =
-    let a = accepted_is c.args.image.now c.in-Is.n c.in-Is.end (sym c.in-Is.is ∙ c.count_of.ensures) in
-    let h : word32 c.args.image.now 2 ≤ c.args.k = omega (arith, c.if-k-wide32.true, c.wide32.ensures.0, c.u32_at.ensures) in
-    let t = told_refused _ _ _ (c.refused-then-k-wide32.ensures ∙ answer_past _ c.args.k a h) (no_function _ c.args.k a h) in
+pub returns-then-k-u32_at : goal.returns-then-k-u32_at
+returns-then-k-u32_at c =
+    let a = accepted_is c.args.image.now c.in-Some.n c.in-Some.end (sym c.in-Some.is ∙ c.count_of.ensures) in
+    let h : word32 c.args.image.now 2 ≤ c.args.k = omega (arith, c.if-k-u32_at.true, c.u32_at.ensures) in
+    let t = told_refused _ _ _ (c.refused-then-k-u32_at.ensures ∙ answer_past _ c.args.k a h) (no_function _ c.args.k a h) in
     record { value = t.is; lies = t.lies }
 
 pub returns-in_default-function_place : goal.returns-in_default-function_place
 returns-in_default-function_place c =
     let image = c.args.image.now in
     let k = c.args.k in
-    let is = accepted_is image c.in-Is.n c.in-Is.end (sym c.in-Is.is ∙ c.count_of.ensures) in
-    let there : k < word32 image 2 = omega (arith, c.if-k-wide32.false, c.wide32.ensures.0, c.u32_at.ensures) in
+    let is = accepted_is image c.in-Some.n c.in-Some.end (sym c.in-Some.is ∙ c.count_of.ensures) in
+    let there : k < word32 image 2 = omega (arith, c.if-k-u32_at.false, c.u32_at.ensures) in
     lost image k is there (sym c.in_default-function_place.is ∙ c.function_place.ensures)
 
 pub returns : goal.returns
 returns c =
     let image = c.args.image.now in
     let k = c.args.k in
-    let is = accepted_is image c.in-Is.n c.in-Is.end (sym c.in-Is.is ∙ c.count_of.ensures) in
-    let there : k < word32 image 2 = omega (arith, c.if-k-wide32.false, c.wide32.ensures.0, c.u32_at.ensures) in
-    let t = told_record image k is there _ (sym c.in-At.is ∙ c.function_place.ensures) _ c.record_part.ensures in
+    let is = accepted_is image c.in-Some.n c.in-Some.end (sym c.in-Some.is ∙ c.count_of.ensures) in
+    let there : k < word32 image 2 = omega (arith, c.if-k-u32_at.false, c.u32_at.ensures) in
+    let t = told_record image k is there _ (sym c.in-Some-function_place.is ∙ c.function_place.ensures) _ c.record_part.ensures in
     record { value = t.is; lies = t.lies }

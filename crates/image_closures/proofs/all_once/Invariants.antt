@@ -1,5 +1,4 @@
 -- `all_once` meets its contract.
-use Prim.Native.Nat.{◌-◌, ◌≤◌}
 use mathlib.Core.Path.{◌≡◌}
 use mathlib.Core.Bool.{true}
 use Rattle.rules.specs.Base.{all_below}
@@ -7,7 +6,4 @@ use Rattle.image_closures.proofs.Named.{once_in}
 use Rattle.image_closures.proofs.all_once.Given as goal
 
 abbrev pub invariant-loop-i : goal.invariant-loop-i
-invariant-loop-i l = (l.i ≤ 256) × (all_below l.i (once_in l.kinds l.named) ≡ true)
-
-abbrev pub decreases-loop-i : goal.decreases-loop-i
-decreases-loop-i l = 256 - l.i
+invariant-loop-i l = all_below l.i (once_in l.kinds l.named) ≡ true

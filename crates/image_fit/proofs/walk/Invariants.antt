@@ -1,5 +1,5 @@
 -- `walk` meets its contract.
-use Prim.Native.Nat.{◌+◌, ◌-◌, ◌≤◌}
+use Prim.Native.Nat.{◌+◌, ◌≤◌}
 use mathlib.Core.Path.{◌≡◌}
 use lib.ListN.{length}
 use Rattle.image_code.specs.Table.{division}
@@ -11,6 +11,3 @@ abbrev pub invariant-loop-at : goal.invariant-loop-at
 invariant-loop-at l =
     (l.at + l.skip ≤ length l.code) × (l.n ≤ l.at) × (judged (operands_fit (kinds_in l.kinds) l.upvalues) 0 (division (kinds_in l.kinds) l.code) ≡ judged
     (operands_fit (kinds_in l.kinds) l.upvalues) l.n (from (kinds_in l.kinds) l.code l.at l.skip))
-
-abbrev pub decreases-loop-at : goal.decreases-loop-at
-decreases-loop-at l = length l.code - l.at

@@ -11,7 +11,7 @@ returns-in_default c =
 pub returns-then-k-counts : goal.returns-then-k-counts
 returns-then-k-counts c =
     note_set c.args.s.now c.args.k c.args.at c.args.counts.now
-    c.requires.counts c.requires.next_is c.in-Is.h (sym c.in-Is.is ∙ c.head_of.ensures) c.if-k-counts.true
+    c.requires.counts c.requires.next_is c.in-Some.h (sym c.in-Some.is ∙ c.head_of.ensures) c.if-k-counts.true
 
 pub returns-else-k-counts : goal.returns-else-k-counts
 returns-else-k-counts c =

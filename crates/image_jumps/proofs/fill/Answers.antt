@@ -8,64 +8,41 @@ use Rattle.image_jumps.proofs.Ring.{fill_skip, fill_start, fill_width, filled_to
 use Rattle.image_jumps.proofs.fill.Goals as goal
 
 pub loop-at-init : goal.loop-at-init
-loop-at-init c = (c.requires.at_le_want.0, c.requires.at_le_want.1, c.requires.filled, refl)
+loop-at-init c = (c.requires.at_le_want.1, c.requires.filled, refl)
 
 pub bounds-ring-slot : goal.bounds-ring-slot
-bounds-ring-slot c = c.loop-at.invariant.2.room c.loop-at.at (omega arith)
-
-pub overflow_sub-skip : goal.overflow_sub-skip
-overflow_sub-skip c = omega arith
-
-pub overflow_add-at : goal.overflow_add-at
-overflow_add-at c = omega arith
-
-pub loop-at-smaller-then-skip-gt0 : goal.loop-at-smaller-then-skip-gt0
-loop-at-smaller-then-skip-gt0 c = omega arith
+bounds-ring-slot c = c.loop-at.invariant.1.room c.loop-at.at (omega arith)
 
 pub loop-at-preserved-then-skip-gt0 : goal.loop-at-preserved-then-skip-gt0
 loop-at-preserved-then-skip-gt0 c = (
-  omega arith,
-  c.loop-at.invariant.1,
-  fill_skip (kinds_in c.args.kinds.now) c.args.code.now
-      c.loop-at.ring c.loop-at.at c.loop-at.skip (c.loop-at.skip - 1) c.loop-at.invariant.2 (omega arith) (omega arith),
-  length-set c.loop-at.ring _ _ ∙ c.loop-at.invariant.3,
+  c.loop-at.invariant.0,
+  fill_skip (kinds_in c.args.kinds.now) c.args.code.now c.loop-at.ring c.loop-at.at c.loop-at.skip (c.loop-at.skip - 1) c.loop-at.invariant.1 (omega arith) (omega arith),
+  length-set c.loop-at.ring _ _ ∙ c.loop-at.invariant.2,
 )
 
-pub bounds-ring-slot-else-skip-gt0 : goal.bounds-ring-slot-else-skip-gt0
-bounds-ring-slot-else-skip-gt0 c = c.loop-at.invariant.2.room c.loop-at.at (omega arith)
+pub bounds-ring-slot-in-loop-at : goal.bounds-ring-slot-in-loop-at
+bounds-ring-slot-in-loop-at c = c.loop-at.invariant.1.room c.loop-at.at (omega arith)
 
-pub width_at-skip-requires : goal.width_at-skip-requires
-width_at-skip-requires c = omega arith
-
-pub overflow_sub-skip-else-skip-gt0 : goal.overflow_sub-skip-else-skip-gt0
-overflow_sub-skip-else-skip-gt0 c =
+pub overflow_sub-skip-in-loop-at : goal.overflow_sub-skip-in-loop-at
+overflow_sub-skip-in-loop-at c =
     fill_width (kinds_in c.args.kinds.now) c.args.code.now c.loop-at.ring
-    c.loop-at.at c.loop-at.skip c.width_at-skip.result (omega arith) c.loop-at.invariant.2 (omega arith) c.width_at-skip.ensures
-
-pub overflow_add-at-else-skip-gt0 : goal.overflow_add-at-else-skip-gt0
-overflow_add-at-else-skip-gt0 c = omega arith
-
-pub loop-at-smaller : goal.loop-at-smaller
-loop-at-smaller c = omega arith
+    c.loop-at.at c.loop-at.skip c.width_at-skip.result (omega arith) c.loop-at.invariant.1 (omega arith) c.width_at-skip.ensures
 
 pub loop-at-preserved : goal.loop-at-preserved
 loop-at-preserved c =
     let w = fill_width (kinds_in c.args.kinds.now) c.args.code.now c.loop-at.ring
     c.loop-at.at c.loop-at.skip c.width_at-skip.result (omega arith)
-    c.loop-at.invariant.2 (omega arith) c.width_at-skip.ensures in (
-      omega arith,
-      c.loop-at.invariant.1,
-      fill_start (kinds_in c.args.kinds.now)
-          c.args.code.now c.loop-at.ring c.loop-at.at
-          c.loop-at.skip c.width_at-skip.result (c.width_at-skip.result - 1) (omega arith) c.loop-at.invariant.2
+    c.loop-at.invariant.1 (omega arith) c.width_at-skip.ensures in (
+      c.loop-at.invariant.0,
+      fill_start (kinds_in c.args.kinds.now) c.args.code.now c.loop-at.ring c.loop-at.at
+          c.loop-at.skip c.width_at-skip.result (c.width_at-skip.result - 1) (omega arith) c.loop-at.invariant.1
           (omega arith) c.width_at-skip.ensures (omega arith),
-      length-set c.loop-at.ring _ _ ∙ c.loop-at.invariant.3,
+      length-set c.loop-at.ring _ _ ∙ c.loop-at.invariant.2,
     )
 
 pub shape_of-ring : goal.shape_of-ring
-shape_of-ring c = c.loop-at.invariant.3
+shape_of-ring c = c.loop-at.invariant.2
 
 pub returns : goal.returns
 returns c =
-    filled_to (kinds_in c.args.kinds.now) c.args.code.now c.loop-at.ring
-    c.loop-at.at c.loop-at.skip c.args.want (omega arith) c.loop-at.invariant.2
+    filled_to (kinds_in c.args.kinds.now) c.args.code.now c.loop-at.ring c.loop-at.at c.loop-at.skip c.args.want (omega arith) c.loop-at.invariant.1

@@ -1,5 +1,5 @@
 -- `fill` meets its contract.
-use Prim.Native.Nat.{◌-◌, ◌≤◌}
+use Prim.Native.Nat.{◌≤◌}
 use mathlib.Core.Path.{◌≡◌}
 use lib.ListN.{length}
 use Rattle.image_code.specs.Table.{kinds_in}
@@ -7,7 +7,4 @@ use Rattle.image_jumps.specs.Ring.{Filled}
 use Rattle.image_jumps.proofs.fill.Given as goal
 
 abbrev pub invariant-loop-at : goal.invariant-loop-at
-invariant-loop-at l = (l.at ≤ l.want) × (l.want ≤ length l.code) × Filled (kinds_in l.kinds) l.code l.ring l.at l.skip × (length l.ring ≡ length l.initial.ring)
-
-abbrev pub decreases-loop-at : goal.decreases-loop-at
-decreases-loop-at l = l.want - l.at
+invariant-loop-at l = (l.want ≤ length l.code) × Filled (kinds_in l.kinds) l.code l.ring l.at l.skip × (length l.ring ≡ length l.initial.ring)

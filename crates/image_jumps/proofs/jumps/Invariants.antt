@@ -1,5 +1,4 @@
 -- `jumps` meets its contract.
-use Prim.Native.Nat.{◌-◌}
 use mathlib.Core.Path.{◌≡◌}
 use lib.ListN.{length}
 use Rattle.image_code.specs.Table.{kinds_in}
@@ -8,6 +7,3 @@ use Rattle.image_jumps.proofs.jumps.Given as goal
 
 abbrev pub invariant-loop-at : goal.invariant-loop-at
 invariant-loop-at l = Jumping (kinds_in l.kinds) l.code l.ring l.at l.skip l.lead.at l.lead.skip × (length l.ring ≡ length l.initial.ring)
-
-abbrev pub decreases-loop-at : goal.decreases-loop-at
-decreases-loop-at l = length l.code - l.at

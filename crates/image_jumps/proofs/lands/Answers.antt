@@ -1,7 +1,7 @@
 -- `lands` meets its contract.
 use Prim.Native.Nat.{◌+◌, ◌*◌, ◌≤◌}
 use native.Mathlib.Omega.{arith}
-use mathlib.Core.Path.{◌≡◌, refl}
+use mathlib.Core.Path.{refl}
 use lib.ListN.{get_or}
 use Rattle.image_code.specs.Table.{kinds_in}
 use Rattle.image_jumps.proofs.Landing.{no_jump, jump_room, ahead_end, ahead_past, ahead_near, back_far, back_past, back_near}
@@ -15,8 +15,8 @@ pub returns-then-op-gt-LOOP : goal.returns-then-op-gt-LOOP
 returns-then-op-gt-LOOP c =
     no_jump (kinds_in c.args.kinds.now) c.args.code.now c.args.at _ refl (λ l u. omega (arith, c.if-op-gt-LOOP.true))
 
-pub overflow_add-at : goal.overflow_add-at
-overflow_add-at c =
+pub overflow_add-far : goal.overflow_add-far
+overflow_add-far c =
     let r = jump_room (kinds_in c.args.kinds.now) c.args.code.now c.args.at _ refl c.if-op-lt-JUMP.false c.if-op-gt-LOOP.false c.requires.code_in_bounds in
     omega (arith, r)
 
@@ -25,8 +25,8 @@ bounds-code-at-2 c =
     let r = jump_room (kinds_in c.args.kinds.now) c.args.code.now c.args.at _ refl c.if-op-lt-JUMP.false c.if-op-gt-LOOP.false c.requires.code_in_bounds in
     omega (arith, r)
 
-pub overflow_add-at-2 : goal.overflow_add-at-2
-overflow_add-at-2 c =
+pub overflow_add-far-2 : goal.overflow_add-far-2
+overflow_add-far-2 c =
     let r = jump_room (kinds_in c.args.kinds.now) c.args.code.now c.args.at _ refl c.if-op-lt-JUMP.false c.if-op-gt-LOOP.false c.requires.code_in_bounds in
     omega (arith, r)
 
@@ -37,11 +37,11 @@ bounds-code-at-3 c =
 
 pub overflow_mul-far : goal.overflow_mul-far
 overflow_mul-far c =
-    omega (arith, c.wide.ensures.1, c.wide-2.ensures.1)
+    omega (arith, c.type_inv.code (c.args.at + 1), c.type_inv.code (c.args.at + 2))
 
-pub overflow_add-far : goal.overflow_add-far
-overflow_add-far c =
-    omega (arith, c.wide.ensures.1, c.wide-2.ensures.1)
+pub overflow_add-far-3 : goal.overflow_add-far-3
+overflow_add-far-3 c =
+    omega (arith, c.type_inv.code (c.args.at + 1), c.type_inv.code (c.args.at + 2))
 
 pub overflow_add-next : goal.overflow_add-next
 overflow_add-next c =
@@ -50,23 +50,19 @@ overflow_add-next c =
 
 pub overflow_add-to : goal.overflow_add-to
 overflow_add-to c =
-    let far = c.wide.result + 256 * c.wide-2.result in
+    let far = get_or c.args.code.now (c.args.at + 1) 0 + 256 * get_or c.args.code.now (c.args.at + 2) 0 in
     let r = jump_room (kinds_in c.args.kinds.now) c.args.code.now c.args.at _ refl c.if-op-lt-JUMP.false c.if-op-gt-LOOP.false c.requires.code_in_bounds in
-    omega (arith, r, c.wide.ensures.1, c.wide-2.ensures.1)
+    omega (arith, r, c.type_inv.code (c.args.at + 1), c.type_inv.code (c.args.at + 2))
 
 pub returns-then-to-code : goal.returns-then-to-code
 returns-then-to-code c =
-    let far = c.wide.result + 256 * c.wide-2.result in
-    let is-far : far ≡ get_or c.args.code.now (c.args.at + 1) 0 + 256 * get_or c.args.code.now (c.args.at + 2) 0 =
-    omega (arith, c.wide.ensures.0, c.wide-2.ensures.0) in
-    ahead_end (kinds_in c.args.kinds.now) c.args.code.now c.args.at _ refl far is-far c.if-op-lt-JUMP.false c.if-op-lt-LOOP.true c.if-to-code.true
+    let far = get_or c.args.code.now (c.args.at + 1) 0 + 256 * get_or c.args.code.now (c.args.at + 2) 0 in
+    ahead_end (kinds_in c.args.kinds.now) c.args.code.now c.args.at _ refl far refl c.if-op-lt-JUMP.false c.if-op-lt-LOOP.true c.if-to-code.true
 
 pub returns-then-to-code-2 : goal.returns-then-to-code-2
 returns-then-to-code-2 c =
-    let far = c.wide.result + 256 * c.wide-2.result in
-    let is-far : far ≡ get_or c.args.code.now (c.args.at + 1) 0 + 256 * get_or c.args.code.now (c.args.at + 2) 0 =
-    omega (arith, c.wide.ensures.0, c.wide-2.ensures.0) in
-    ahead_past (kinds_in c.args.kinds.now) c.args.code.now c.args.at _ refl far is-far c.if-op-lt-JUMP.false c.if-op-lt-LOOP.true c.if-to-code-2.true
+    let far = get_or c.args.code.now (c.args.at + 1) 0 + 256 * get_or c.args.code.now (c.args.at + 2) 0 in
+    ahead_past (kinds_in c.args.kinds.now) c.args.code.now c.args.at _ refl far refl c.if-op-lt-JUMP.false c.if-op-lt-LOOP.true c.if-to-code-2.true
 
 pub bounds-ring-to : goal.bounds-ring-to
 bounds-ring-to c =
@@ -74,26 +70,20 @@ bounds-ring-to c =
 
 pub returns-then-op-lt-LOOP : goal.returns-then-op-lt-LOOP
 returns-then-op-lt-LOOP c =
-    let far = c.wide.result + 256 * c.wide-2.result in
-    let is-far : far ≡ get_or c.args.code.now (c.args.at + 1) 0 + 256 * get_or c.args.code.now (c.args.at + 2) 0 =
-    omega (arith, c.wide.ensures.0, c.wide-2.ensures.0) in
-    let small : far ≤ 65535 = omega (arith, c.wide.ensures.1, c.wide-2.ensures.1) in
-    ahead_near (kinds_in c.args.kinds.now) c.args.code.now c.args.at _ refl far is-far c.args.ring.now c.requires.near.0 small c.if-op-lt-JUMP.false
+    let far = get_or c.args.code.now (c.args.at + 1) 0 + 256 * get_or c.args.code.now (c.args.at + 2) 0 in
+    let small : far ≤ 65535 = omega (arith, c.type_inv.code (c.args.at + 1), c.type_inv.code (c.args.at + 2)) in
+    ahead_near (kinds_in c.args.kinds.now) c.args.code.now c.args.at _ refl far refl c.args.ring.now c.requires.near.0 small c.if-op-lt-JUMP.false
     c.if-op-lt-LOOP.true (omega arith)
 
 pub returns-then-far-next : goal.returns-then-far-next
 returns-then-far-next c =
-    let far = c.wide.result + 256 * c.wide-2.result in
-    let is-far : far ≡ get_or c.args.code.now (c.args.at + 1) 0 + 256 * get_or c.args.code.now (c.args.at + 2) 0 =
-    omega (arith, c.wide.ensures.0, c.wide-2.ensures.0) in
-    back_far (kinds_in c.args.kinds.now) c.args.code.now c.args.at _ refl far is-far (omega (arith, c.if-op-gt-LOOP.false, c.if-op-lt-LOOP.false)) c.if-far-next.true
+    let far = get_or c.args.code.now (c.args.at + 1) 0 + 256 * get_or c.args.code.now (c.args.at + 2) 0 in
+    back_far (kinds_in c.args.kinds.now) c.args.code.now c.args.at _ refl far refl (omega (arith, c.if-op-gt-LOOP.false, c.if-op-lt-LOOP.false)) c.if-far-next.true
 
 pub returns-then-to-code-3 : goal.returns-then-to-code-3
 returns-then-to-code-3 c =
-    let far = c.wide.result + 256 * c.wide-2.result in
-    let is-far : far ≡ get_or c.args.code.now (c.args.at + 1) 0 + 256 * get_or c.args.code.now (c.args.at + 2) 0 =
-    omega (arith, c.wide.ensures.0, c.wide-2.ensures.0) in
-    back_past (kinds_in c.args.kinds.now) c.args.code.now c.args.at _ refl far is-far
+    let far = get_or c.args.code.now (c.args.at + 1) 0 + 256 * get_or c.args.code.now (c.args.at + 2) 0 in
+    back_past (kinds_in c.args.kinds.now) c.args.code.now c.args.at _ refl far refl
     (omega (arith, c.if-op-gt-LOOP.false, c.if-op-lt-LOOP.false)) c.if-far-next.false c.if-to-code-3.true
 
 pub bounds-ring-to-2 : goal.bounds-ring-to-2
@@ -102,9 +92,7 @@ bounds-ring-to-2 c =
 
 pub returns : goal.returns
 returns c =
-    let far = c.wide.result + 256 * c.wide-2.result in
-    let is-far : far ≡ get_or c.args.code.now (c.args.at + 1) 0 + 256 * get_or c.args.code.now (c.args.at + 2) 0 =
-    omega (arith, c.wide.ensures.0, c.wide-2.ensures.0) in
-    let small : far ≤ 65535 = omega (arith, c.wide.ensures.1, c.wide-2.ensures.1) in
-    back_near (kinds_in c.args.kinds.now) c.args.code.now c.args.at _ refl far is-far c.args.ring.now c.requires.near.0 small
+    let far = get_or c.args.code.now (c.args.at + 1) 0 + 256 * get_or c.args.code.now (c.args.at + 2) 0 in
+    let small : far ≤ 65535 = omega (arith, c.type_inv.code (c.args.at + 1), c.type_inv.code (c.args.at + 2)) in
+    back_near (kinds_in c.args.kinds.now) c.args.code.now c.args.at _ refl far refl c.args.ring.now c.requires.near.0 small
     (omega (arith, c.if-op-gt-LOOP.false, c.if-op-lt-LOOP.false)) c.if-far-next.false c.if-to-code-3.false

@@ -7,9 +7,6 @@ use Rattle.image_records.specs.Told.{runs_after, runs_told}
 use Rattle.image_records.proofs.Running.{run_of}
 use Rattle.image_records.proofs.runs.Given as goal
 
-abbrev pub invariant-loop-i : goal.invariant-loop-i
-invariant-loop-i l =
-    (l.i ≤ l.n) × (l.sum ≤ 255 * l.i) × (runs_told (many l.n (read_run l.s) l.begin) ≡ runs_after (run_of l.start l.end l.count) l.sum (many (l.n - l.i) (read_run l.s) l.at))
-
-abbrev pub decreases-loop-i : goal.decreases-loop-i
-decreases-loop-i l = l.n - l.i
+abbrev pub invariant-loop : goal.invariant-loop
+invariant-loop l =
+    (l.sum ≤ 255 * l.counter) × (runs_told (many l.n (read_run l.s) l.begin) ≡ runs_after (run_of l.last.start l.last.end l.count) l.sum (many (l.n - l.counter) (read_run l.s) l.at))
