@@ -15,8 +15,8 @@ use Rattle.rules.specs.Division.{kind_of, kind_at}
 use Rattle.rules.specs.ImageFile.{read_constant}
 use Rattle.rules.specs.Checker.{names_earlier}
 use Rattle.image_code.proofs.Steps.{no_true}
-use Rattle.image_records.specs.declared.Place.{Place}
-use Rattle.image_records.specs.declared.Place.TheVariants as place
+use Rattle.std.proofs.Common.{Option, Some, None}
+use Rattle.image_code.specs.declared.Kind as table
 use Rattle.image_records.specs.Told.{place_told}
 use Rattle.image_records.proofs.Many.{onto, many_none, many_goes, many_first, many_length, same_got}
 use Rattle.image_constants.specs.Words.{constants_of, Gathered}
@@ -112,7 +112,7 @@ least_taken {A} n first l e f = by (ltb n 256) refl
 
 -- ## What `constants` does
 
-no_place : (next : ℕ) → place.Bad ≡ place.At next → ⊥
+no_place : (next : ℕ) → ◌≡◌ {A = Option ℕ} None (Some next) → ⊥
 no_place next e = let z : ◌≡◌ {A = ℕ} 0 1 = cc in omega arith
 
 module _ (s : List ℕ) (k at n first : ℕ) (f : First n first) (words : List ℕ) where
@@ -122,29 +122,29 @@ module _ (s : List ℕ) (k at n first : ℕ) (f : First n first) (words : List �
         split_of (read_constant s) first (n - first) at next cs
         (ap (λ (m : ℕ). many m (read_constant s) at) (let w = f.within in omega arith) ∙ are)
 
-    gathered_at : (r : Place) → Gathered s at first r words → r ≡ place.At parts.middle
+    gathered_at : (r : Option ℕ) → Gathered s at first r words → r ≡ Some parts.middle
     unfolding place_told
     gathered_at r g = g.told ∙ ap place_told parts.front
 
-    words_are : (r : Place) → Gathered s at first r words → constants_of first words ≡ take 256 cs
+    words_are : (r : Option ℕ) → Gathered s at first r words → constants_of first words ≡ take 256 cs
     words_are r g =
         (same_got (g.are parts.middle (gathered_at r g)) parts.front).0 ∙
         least_taken n first cs (many_length (read_constant s) n at next cs are) f
 
-    found_at : (r q : Place) (middle : ℕ) → Gathered s at first r words → r ≡ place.At middle
-        → q ≡ place_told (many (n - first) (read_constant s) middle) → q ≡ place.At next
+    found_at : (r q : Option ℕ) (middle : ℕ) → Gathered s at first r words → r ≡ Some middle
+        → q ≡ place_told (many (n - first) (read_constant s) middle) → q ≡ Some next
     unfolding place_told
     found_at r q middle g e t =
-        let z : place.At middle ≡ place.At parts.middle = sym e ∙ gathered_at r g in
+        let z : ◌≡◌ {A = Option ℕ} (Some middle) (Some parts.middle) = sym e ∙ gathered_at r g in
         let m : middle ≡ parts.middle = cc in
         t ∙ ap (λ (x : ℕ). place_told (many (n - first) (read_constant s) x)) m ∙ ap place_told parts.others
 
-  pub known_stop : (r : Place) (words' kinds : List ℕ) → r ≡ place.Bad → Gathered s at first r words → ConstantsKnown s k at n first place.Bad words' kinds
+  pub known_stop : (r : Option ℕ) (words' : List ℕ) (kinds : List table.Kind) → r ≡ None → Gathered s at first r words → ConstantsKnown s k at n first None words' kinds
   known_stop r words' kinds e g =
       record { told = λ cs next are fine. absurd (no_place _ (sym e ∙ gathered_at cs next are r g)) }
 
-  pub known_wrong : (r : Place) (kinds : List ℕ) → Gathered s at first r words → Kinds (earlier s k) k (constants_of first words) false kinds
-      → (words' : List ℕ) → ConstantsKnown s k at n first place.Bad words' kinds
+  pub known_wrong : (r : Option ℕ) (kinds : List table.Kind) → Gathered s at first r words → Kinds (earlier s k) k (constants_of first words) false kinds
+      → (words' : List ℕ) → ConstantsKnown s k at n first None words' kinds
   known_wrong r kinds g w words' =
       record {
         told =
@@ -152,7 +152,7 @@ module _ (s : List ℕ) (k at n first : ℕ) (f : First n first) (words : List �
             (no_true (w.told ∙ ap (kinds_right k) (words_are cs next are r g) ∙ right_taken k cs fine));
       }
 
-  pub known_done : (r q : Place) (middle : ℕ) (kinds : List ℕ) → Gathered s at first r words → r ≡ place.At middle
+  pub known_done : (r q : Option ℕ) (middle : ℕ) (kinds : List table.Kind) → Gathered s at first r words → r ≡ Some middle
       → Kinds (earlier s k) k (constants_of first words) true kinds → q ≡ place_told (many (n - first) (read_constant s) middle)
       → ConstantsKnown s k at n first q words kinds
   known_done r q middle kinds g e w t =

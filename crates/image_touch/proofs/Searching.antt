@@ -18,7 +18,7 @@ use Rattle.rules.specs.Touch.{Standing, touches, standing, standing_in, all_stan
 use Rattle.fields.specs.Words.{word32}
 use Rattle.image_code.specs.Table.{instructions, is_some}
 use Rattle.image_code.proofs.Steps.{no_true}
-use Rattle.image_records.proofs.Many.{First, many_none, many_first, left_none, passed_none, same_got}
+use Rattle.image_records.proofs.Many.{none_some, First, many_none, many_first, left_none, passed_none, same_got}
 use Rattle.image_constants.specs.Earlier.{functions_in, is_got, earlier, Counts}
 use Rattle.image_functions.specs.Judged.{right, NextIs, right_all}
 use Rattle.image_functions.proofs.All.{read_is, earlier_more, one_more}
@@ -27,42 +27,47 @@ use Rattle.image.proofs.Sound.{and_of, sound_is, one_from, same_division}
 use Rattle.image.proofs.Whole.{bytes_of}
 use Rattle.image.proofs.Lookup.{Accepted, accepted_is}
 use Rattle.image_touch.specs.declared.Found.{Found}
-use Rattle.image_touch.specs.declared.Step.TheVariants.{Is, Bad}
+use Rattle.std.proofs.Common.{Some, None}
+use Rattle.std.proofs.Common.{Option as Told}
 use Rattle.image_touch.specs.Walked.{of_function, walked, is_right, step_of, Sound}
 use Rattle.image_touch.proofs.Knowing.{both}
 use Rattle.image_touch.proofs.Stepping.{divides_it}
 
+-- a step, of what it found and where it ends
+abbrev to : (found : Found) (next : ℕ) → Told (Found × ℕ)
+to found next = Some (found, next)
+
 -- ## One function's instructions, and those behind it
 
-abbrev pub hit_in : Found → (k : ℕ) → Answer
-hit_in found k = record { number = 0; at = found.at; end = found.at + 2; name = k; length = found.read; function = 0; around = 0 }
+abbrev pub hit_in : (at read k : ℕ) → Answer
+hit_in at read k = record { number = 0; at = at; end = at + 2; name = k; length = read; function = 0; around = 0 }
 
 module _ (name k : ℕ) (cs : List Constant) (more : List Standing) where
-  found_hit : (read : ℕ) (is : List Instruction) → (walked name read cs is).hit ≡ true
-      → search name read (standing k cs is ++ more) ≡ hit_in (walked name read cs is) k
+  found_hit : (place read : ℕ) (is : List Instruction) → (walked name read cs is).at ≡ Some place
+      → search name read (standing k cs is ++ more) ≡ hit_in place (walked name read cs is).read k
   unfolding walked standing search touches
-  found_hit read [] e = absurd (no_true e)
-  found_hit read (i ∷ is) e = by (touches name (of_function cs i)) e (λ f. found_hit (read + 1) is f)
+  found_hit place read [] e = absurd (none_some e)
+  found_hit place read (i ∷ is) e = by (touches name (of_function cs i)) e (λ f. found_hit place (read + 1) is f)
     where
-      by : (t : Bool) → (if t then (record { hit = true; at = i.at; read = read + 1 }) else walked name (read + 1) cs is).hit ≡ true
-          → ((walked name (read + 1) cs is).hit ≡ true → search name (read + 1) (standing k cs is ++ more) ≡ hit_in (walked name (read + 1) cs is) k)
+      by : (t : Bool) → (if t then (record { at = Some i.at; read = read + 1 }) else walked name (read + 1) cs is).at ≡ Some place
+          → ((walked name (read + 1) cs is).at ≡ Some place → search name (read + 1) (standing k cs is ++ more) ≡ hit_in place (walked name (read + 1) cs is).read k)
           → (if t then (record { number = 0; at = i.at; end = i.at + 2; name = k; length = read + 1; function = 0; around = 0 }) else search name (read + 1) (standing k cs is ++ more))
-          ≡ hit_in (if t then (record { hit = true; at = i.at; read = read + 1 }) else walked name (read + 1) cs is) k
-      by true e later = refl
+          ≡ hit_in place (if t then (record { at = Some i.at; read = read + 1 }) else walked name (read + 1) cs is).read k
+      by true e later = let q : i.at ≡ place = cc in rw q refl
       by false e later = later e
 
-  found_none : (read : ℕ) (is : List Instruction) → (walked name read cs is).hit ≡ false
+  found_none : (read : ℕ) (is : List Instruction) → (walked name read cs is).at ≡ None
       → search name read (standing k cs is ++ more) ≡ search name (walked name read cs is).read more
   unfolding walked standing search touches
   found_none read [] e = refl
   found_none read (i ∷ is) e = by (touches name (of_function cs i)) e (λ f. found_none (read + 1) is f)
     where
-      by : (t : Bool) → (if t then (record { hit = true; at = i.at; read = read + 1 }) else walked name (read + 1) cs is).hit ≡ false
-          → ((walked name (read + 1) cs is).hit ≡ false
+      by : (t : Bool) → (if t then (record { at = Some i.at; read = read + 1 }) else walked name (read + 1) cs is).at ≡ None
+          → ((walked name (read + 1) cs is).at ≡ None
           → search name (read + 1) (standing k cs is ++ more) ≡ search name (walked name (read + 1) cs is).read more)
           → (if t then (record { number = 0; at = i.at; end = i.at + 2; name = k; length = read + 1; function = 0; around = 0 }) else search name (read + 1) (standing k cs is ++ more))
-          ≡ search name (if t then (record { hit = true; at = i.at; read = read + 1 }) else walked name (read + 1) cs is).read more
-      by true e later = absurd (no_true (sym e))
+          ≡ search name (if t then (record { at = Some i.at; read = read + 1 }) else walked name (read + 1) cs is).read more
+      by true e later = absurd (none_some (sym e))
       by false e later = later e
 
 standing_is : (k : ℕ) (f : ObjectFunction) (d : Option (List Instruction)) → is_some d ≡ true
@@ -74,7 +79,7 @@ standing_is k f (some is) e = refl
 -- ## The loop
 
 -- `k` functions were passed, and `rest` are left from `at` on
-pub record Searching (s : List ℕ) (count name room : ℕ) (counts words : List ℕ) (at k read : ℕ) : Type 0 where
+pub record Searching (s : List ℕ) (count name : ℕ) (counts : List ℕ) (at k read : ℕ) : Type 0 where
   pub within : k ≤ count
   pub counts_are : Counts s k counts
   pub place : many k (read_function s) 6 ≡ got (earlier s k) at
@@ -86,13 +91,11 @@ pub record Searching (s : List ℕ) (count name room : ℕ) (counts words : List
   pub whole : earlier s k ++ rest ≡ earlier s count
   pub fine : right_all (earlier s k) rest ≡ true
   pub left : touch s name ≡ search name read (all_standing (earlier s count) k rest)
-  pub counts_size : length counts ≡ room
-  pub words_size : length words ≡ 256
 
 module _ (s : List ℕ) (count name : ℕ) (o : Sound s count) where
-  pub search_begin : (counts words : List ℕ) → length words ≡ 256 → Searching s count name (length counts) counts words 6 0 0
+  pub search_begin : (counts : List ℕ) → Searching s count name counts 6 0 0
   unfolding earlier functions_in is_got touch touch_verdict
-  search_begin counts words w =
+  search_begin counts =
       let z = many_none (read_function s) 0 6 refl in
       let e : earlier s 0 ≡ [] = ap functions_in z in
       let r = read_is (many count (read_function s) 6) o.read in
@@ -108,11 +111,9 @@ module _ (s : List ℕ) (count name : ℕ) (o : Sound s count) where
         whole = ap (λ (l : List ObjectFunction). l ++ earlier s count) e;
         fine = ap (λ (l : List ObjectFunction). right_all l (earlier s count)) e ∙ o.fine;
         left = ap (touch_verdict name) o.is;
-        counts_size = refl;
-        words_size = w;
       }
 
-  module _ (room : ℕ) (counts words : List ℕ) (at k read : ℕ) (g : Searching s count name room counts words at k read) where
+  module _ (counts : List ℕ) (at k read : ℕ) (g : Searching s count name counts at k read) where
     module _ (h : k < count) where
       abbrev t : First (read_function s) (count - (k + 1)) at g.end g.rest
       t =
@@ -134,24 +135,27 @@ module _ (s : List ℕ) (count name : ℕ) (o : Sound s count) where
       unfolding is_got
       next_is = record { place = g.place; there = ap is_got t.is }
 
-      pub not_lost : Bad ≡ step_of name read (earlier s k) (read_function s at) → ⊥
+      pub not_lost : None ≡ step_of name read (earlier s k) (read_function s at) → ⊥
       unfolding step_of
       not_lost e =
-          let x : Bad ≡ Is (walked name read f.chunk.constants (instructions (division (earlier s k) f))) t.next =
-          e ∙ ap (step_of name read (earlier s k)) t.is in
-          let z : ◌≡◌ {A = ℕ} 0 1 = cc in
-          omega arith
+          none_some (e ∙ ap (step_of name read (earlier s k)) t.is)
 
-      module _ (bytes : (i : ℕ) → get_or s i 0 < 256) (found : Found) (next : ℕ) (e : Is found next ≡ step_of name read (earlier s k) (read_function s at)) where
-        told : Is found next ≡ Is (walked name read f.chunk.constants (instructions (division (earlier s k) f))) t.next
+      module _ (bytes : (i : ℕ) → get_or s i 0 < 256) (found : Found) (next : ℕ) (e : to found next ≡ step_of name read (earlier s k) (read_function s at)) where
+        told : to found next ≡ to (walked name read f.chunk.constants (instructions (division (earlier s k) f))) t.next
         unfolding step_of
         told = e ∙ ap (step_of name read (earlier s k)) t.is
 
         found_is : found ≡ walked name read f.chunk.constants (instructions (division (earlier s k) f))
-        found_is = let z = told in cc
+        found_is =
+            let z = told in
+            let p : ◌≡◌ {A = Found × ℕ} (found, next) (walked name read f.chunk.constants (instructions (division (earlier s k) f)), t.next) = cc in
+            ap (λ (x : Found × ℕ). x.0) p
 
         same_next : next ≡ t.next
-        same_next = let z = told in cc
+        same_next =
+            let z = told in
+            let p : ◌≡◌ {A = Found × ℕ} (found, next) (walked name read f.chunk.constants (instructions (division (earlier s k) f)), t.next) = cc in
+            ap (λ (x : Found × ℕ). x.1) p
 
         -- the functions before are enough
         divisions : division (earlier s k) f ≡ division (earlier s count) f
@@ -173,16 +177,15 @@ module _ (s : List ℕ) (count name : ℕ) (o : Sound s count) where
             ap (all_standing (earlier s count) k) t.all ∙ ap (λ (x : Option (List Instruction)). standing_in k f x ++ more) (sym divisions) ∙
             ap (λ (l : List Standing). l ++ more) (standing_is k f (division (earlier s k) f) (divides_it (earlier s k) f rights.0))
 
-        pub search_hit : found.hit ≡ true → hit_in found k ≡ touch s name
-        search_hit q =
+        pub search_hit : (place : ℕ) → found.at ≡ Some place → hit_in place found.read k ≡ touch s name
+        search_hit place q =
             sym
-            (g.left ∙ ap (search name read) here ∙ found_hit name k f.chunk.constants more read is (ap (λ (x : Found). x.hit) (sym found_is) ∙ q) ∙
-            ap (λ (x : Found). hit_in x k) (sym found_is))
+            (g.left ∙ ap (search name read) here ∙ found_hit name k f.chunk.constants more place read is (ap (λ (x : Found). x.at) (sym found_is) ∙ q) ∙
+            ap (λ (x : Found). hit_in place x.read k) (sym found_is))
 
-        pub search_on : found.hit ≡ false → (at + found.read ≤ next + read) × ((found.at ≤ next) × (next ≤ length s))
-            → (counts' words' : List ℕ) → Counts s (k + 1) counts' → length counts' ≡ room → length words' ≡ 256
-            → Searching s count name room counts' words' next (k + 1) found.read
-        search_on q grows counts' words' c z w =
+        pub search_on : found.at ≡ None → (at + found.read ≤ next + read) × (((place : ℕ) → found.at ≡ Some place → place ≤ next) × (next ≤ length s))
+            → (counts' : List ℕ) → Counts s (k + 1) counts' → Searching s count name counts' next (k + 1) found.read
+        search_on q grows counts' c =
             let a : read_function s at ≡ got f next = t.is ∙ ap (got f) (sym same_next) in
             let m = earlier_more s k at next f g.place a in
             record {
@@ -200,10 +203,8 @@ module _ (s : List ℕ) (count name : ℕ) (o : Sound s count) where
               fine = ap (λ (l : List ObjectFunction). right_all l t.others) m ∙ rights.1;
               left =
                   g.left ∙ ap (search name read) here ∙
-                  found_none name k f.chunk.constants more read is (ap (λ (x : Found). x.hit) (sym found_is) ∙ q) ∙
+                  found_none name k f.chunk.constants more read is (ap (λ (x : Found). x.at) (sym found_is) ∙ q) ∙
                   ap (λ (x : Found). search name x.read more) (sym found_is);
-              counts_size = z;
-              words_size = w;
             }
 
     pub search_done : count ≤ k → accepted read ≡ touch s name

@@ -19,9 +19,9 @@ use Rattle.rules.specs.Touch.{names_global, is_string, touches}
 use Rattle.image_code.specs.Table.{kinds_in, from, instructions, is_some}
 use Rattle.image_code.proofs.Steps.{no_true}
 use Rattle.image_code.proofs.Below.{low, low_in, same_divide}
-use Rattle.image_records.specs.declared.Place.{Place}
-use Rattle.image_records.specs.declared.Place.TheVariants as place
-use Rattle.image_records.specs.declared.Head.TheVariants as head
+use Rattle.std.proofs.Common.{Some, None}
+use Rattle.std.proofs.Common.{Option as Told}
+use Rattle.image_code.specs.declared.Kind as table
 use Rattle.image_records.specs.declared.Header.{Header}
 use Rattle.image_records.specs.Told.{place_told, head_at, code_told}
 use Rattle.image_records.proofs.Many.{got_bad, same_got}
@@ -31,7 +31,6 @@ use Rattle.image_constants.specs.Words.{constants_of}
 use Rattle.image_constants.specs.Earlier.{earlier, kinds_right}
 use Rattle.image_functions.specs.Judged.{constants_fine, code_fine, right}
 use Rattle.image_touch.specs.declared.Found.{Found}
-use Rattle.image_touch.specs.declared.Step.TheVariants.{Is}
 use Rattle.image_touch.specs.Walked.{of_function, walked, Known, ConstantsKnown, is_right, step_of, Stepped}
 use Rattle.image_touch.proofs.Knowing.{elem_in, both}
 
@@ -103,7 +102,7 @@ some_is (some is) e = refl
 -- ## The code, once it is placed
 
 -- the code of function `k`, which begins at `at`, is `size` bytes from `start` on
-pub record Placed (s : List ℕ) (k at first : ℕ) (words kinds : List ℕ) (start size : ℕ) : Type 0 where
+pub record Placed (s : List ℕ) (k at first : ℕ) (words : List ℕ) (kinds : List table.Kind) (start size : ℕ) : Type 0 where
   pub f : ObjectFunction
   pub next : ℕ
   pub is : read_function s at ≡ got f next
@@ -114,7 +113,7 @@ pub record Placed (s : List ℕ) (k at first : ℕ) (words kinds : List ℕ) (st
   pub within : start + size ≤ length s
   pub far : at + 17 ≤ start
 
-module _ (s : List ℕ) (k at first : ℕ) (words kinds : List ℕ) (start size : ℕ) (d : Placed s k at first words kinds start size)
+module _ (s : List ℕ) (k at first : ℕ) (words : List ℕ) (kinds : List table.Kind) (start size : ℕ) (d : Placed s k at first words kinds start size)
     (bytes : (i : ℕ) → get_or s i 0 < 256) (end : ℕ) (is-end : end ≡ start + size) (part : List ℕ) (is-part : part ≡ take (end - start) (drop start s)) where
   abbrev cs : List Constant
   cs = d.f.chunk.constants
@@ -148,46 +147,46 @@ module _ (s : List ℕ) (k at first : ℕ) (words kinds : List ℕ) (start size 
 
   module _ (name before : ℕ) (found : Found)
       (is_found : found ≡ walked name before (constants_of first words) (instructions (from (kinds_in kinds) part 0 0)))
-      (few : (found.read ≤ before + length part) × (found.at ≤ length part)) where
+      (few : (found.read ≤ before + length part) × ((place : ℕ) → found.at ≡ Some place → place ≤ length part)) where
     found_is : found ≡ walked name before cs (instructions division_of)
     found_is =
         is_found ∙ ap (λ (x : Option (List Instruction)). walked name before (constants_of first words) (instructions x)) same_division ∙
         ap (λ (l : List Constant). walked name before l (instructions division_of)) d.known.are ∙
         walked_low name cs before (instructions division_of) all_low
 
-    pub stepped : Stepped name before s k at (Is found end)
+    pub stepped : Stepped name before s k at (Some (found, end))
     unfolding step_of
     stepped =
         record {
           told =
-              ap (λ (x : Found). Is x end) found_is ∙ ap (Is (walked name before cs (instructions division_of))) (is-end ∙ sym d.ends) ∙
+              ap (λ (x : Found). Some (x, end)) found_is ∙ ap (λ (m : ℕ). Some (walked name before cs (instructions division_of), m)) (is-end ∙ sym d.ends) ∙
               sym (ap (step_of name before (earlier s k)) d.is);
           grows =
               λ g next z. (
-              let a : found ≡ g = cc in
-              let b : end ≡ next = cc in
+              let p : (found, end) ≡ (g, next) = cc in
+              let a : found ≡ g = ap (λ (x : Found × ℕ). x.0) p in
+              let b : end ≡ next = ap (λ (x : Found × ℕ). x.1) p in
               let l = part_length in
               let w = d.within in
               let t = d.far in
               let u : found.read ≡ g.read = ap (λ (x : Found). x.read) a in
-              let v : found.at ≡ g.at = ap (λ (x : Found). x.at) a in
-              (omega arith, (omega arith, omega arith))
+              (omega arith, ((λ place q. (let v = few.1 place (ap (λ (x : Found). x.at) a ∙ q) in omega arith)), omega arith))
               );
         }
 
 -- ## The stages
 
-no_place : (next : ℕ) → place.Bad ≡ place.At next → ⊥
+no_place : (next : ℕ) → ◌≡◌ {A = Told ℕ} None (Some next) → ⊥
 no_place next e = let z : ◌≡◌ {A = ℕ} 0 1 = cc in omega arith
 
 module _ (s : List ℕ) (k at : ℕ) (number_of_lem : length (earlier s k) ≡ k) (y : is_right (earlier s k) (read_function s at) ≡ true) where
   abbrev d : RightIs (earlier s k) (read_function s at)
   d = right_is (earlier s k) (read_function s at) y
 
-  pub headless : head.Bad ≡ head_at s at → ⊥
+  pub headless : None ≡ head_at s at → ⊥
   headless e = got_bad (head_fails s at e) d.is
 
-  module _ (h : Header) (is-head : head.Is h ≡ head_at s at) where
+  module _ (h : Header) (is-head : Some h ≡ head_at s at) where
     abbrev b : Headed s at h
     b = headed s at h is-head
 
@@ -204,38 +203,38 @@ module _ (s : List ℕ) (k at : ℕ) (number_of_lem : length (earlier s k) ≡ k
     constants_right =
         sym (ap (λ (m : ℕ). kinds_right m d.f.chunk.constants) number_of_lem ∙ ap (kinds_right k) constants_are) ∙ kinds_fine (earlier s k) d.f d.fine
 
-    module _ (n first : ℕ) (is-n : n ≡ h.constants) (r : Place) (words kinds : List ℕ) (c : ConstantsKnown s k (at + 17) n first r words kinds) where
-      abbrev told : (r ≡ place.At o.runs_at) × Known s k o.cs first words kinds
-      told = c.told o.cs o.runs_at (ap (λ (m : ℕ). many m (read_constant s) (at + 17)) is-n ∙ o.constants_are) constants_right
+    module _ (first : ℕ) (r : Told ℕ) (words : List ℕ) (kinds : List table.Kind) (c : ConstantsKnown s k (at + 17) h.constants first r words kinds) where
+      abbrev told : (r ≡ Some o.runs_at) × Known s k o.cs first words kinds
+      told = c.told o.cs o.runs_at o.constants_are constants_right
 
-      pub constants_lost : r ≡ place.Bad → ⊥
+      pub constants_lost : r ≡ None → ⊥
       constants_lost e = no_place _ (sym e ∙ told.0)
 
-      module _ (runs_at : ℕ) (is-runs : r ≡ place.At runs_at) (m : ℕ) (is_m : m ≡ h.runs) (p : Place)
-          (p-told : p ≡ place_told (many m (read_run s) runs_at)) where
+      module _ (runs_at : ℕ) (is-runs : r ≡ Some runs_at) (p : Told ℕ)
+          (p-told : p ≡ place_told (many h.runs (read_run s) runs_at)) where
         same_runs : runs_at ≡ o.runs_at
-        same_runs = let z : place.At runs_at ≡ place.At o.runs_at = sym is-runs ∙ told.0 in cc
+        same_runs = let z : ◌≡◌ {A = Told ℕ} (Some runs_at) (Some o.runs_at) = sym is-runs ∙ told.0 in cc
 
-        p_is : p ≡ place.At o.code_at
+        p_is : p ≡ Some o.code_at
         unfolding place_told
         p_is =
-            p-told ∙ ap (λ (x : ℕ). place_told (many x (read_run s) runs_at)) is_m ∙
+            p-told ∙
             ap (λ (x : ℕ). place_told (many h.runs (read_run s) x)) same_runs ∙ ap place_told o.runs_are
 
-        pub runs_lost : p ≡ place.Bad → ⊥
+        pub runs_lost : p ≡ None → ⊥
         runs_lost e = no_place _ (sym e ∙ p_is)
 
-        module _ (mark-at : ℕ) (is-mark : p ≡ place.At mark-at) (size : ℕ) (is-size : size ≡ h.code) (q : Place) (q-told : q ≡ code_told s size mark-at) where
+        module _ (mark-at : ℕ) (is-mark : p ≡ Some mark-at) (q : Told ℕ) (q-told : q ≡ code_told s h.code mark-at) where
           q_is : q ≡ code_told s h.code o.code_at
           q_is =
-              let z : place.At mark-at ≡ place.At o.code_at = sym is-mark ∙ p_is in
+              let z : ◌≡◌ {A = Told ℕ} (Some mark-at) (Some o.code_at) = sym is-mark ∙ p_is in
               let w : mark-at ≡ o.code_at = cc in
-              q-told ∙ ap (λ (x : ℕ). code_told s x mark-at) is-size ∙ ap (code_told s h.code) w
+              q-told ∙ ap (code_told s h.code) w
 
-          pub code_lost : q ≡ place.Bad → ⊥
+          pub code_lost : q ≡ None → ⊥
           code_lost e = got_bad (at_code s at h b o.cs o.runs_at o.constants_are o.rs o.code_at o.runs_are (sym e ∙ q_is)) d.is
 
-          module _ (start : ℕ) (is_start : q ≡ place.At start) where
+          module _ (start : ℕ) (is_start : q ≡ Some start) where
             code_there : Coded s h.code o.code_at start
             code_there = coded s h.code o.code_at start (sym is_start ∙ q_is)
 
@@ -246,7 +245,7 @@ module _ (s : List ℕ) (k at : ℕ) (number_of_lem : length (earlier s k) ≡ k
                 let w = code_there.on in
                 omega arith
 
-            pub placed : Placed s k at first words kinds start size
+            pub placed : Placed s k at first words kinds start h.code
             placed =
                 let w = whole_function s at h b o.cs o.runs_at o.constants_are o.rs o.code_at o.runs_are start code_there in
                 let g = same_got d.is w in
@@ -256,8 +255,8 @@ module _ (s : List ℕ) (k at : ℕ) (number_of_lem : length (earlier s k) ≡ k
                   is = d.is;
                   fine = d.fine;
                   known = rw constants_are told.1;
-                  ops = ap (λ (x : ObjectFunction). x.chunk.ops) g.0 ∙ ap (λ (x : ℕ). take x (drop start s)) (sym is-size);
-                  ends = g.1 ∙ ap (λ (x : ℕ). start + x) (sym is-size);
-                  within = (let v = code_there.within in omega arith);
+                  ops = ap (λ (x : ObjectFunction). x.chunk.ops) g.0;
+                  ends = g.1;
+                  within = code_there.within;
                   far = start_far;
                 }

@@ -13,11 +13,16 @@ use Rattle.rules.specs.Chunk.{Constant, CS, same_constant}
 use Rattle.rules.specs.Division.{Kind, Instruction, followed_by}
 use Rattle.rules.proofs.Computes as rules
 use Rattle.rules.specs.Touch.{names_global, is_string, touches}
+use Rattle.std.proofs.Common.{Some, None}
+use Rattle.std.proofs.Common.{Option as Told}
+use Rattle.image_records.proofs.Many.{none_some}
+use Rattle.image_code.specs.declared.Form.TheVariants as variant
+use Rattle.image_code.specs.declared.Kind as element
 use Rattle.image_code.specs.Forms.{form, form_of, width}
 use Rattle.image_code.specs.Table.{kinds_in, instruction_at, from, instructions, is_some}
 use Rattle.image_code.proofs.Steps.{passed, ended, has_width, no_true}
 use Rattle.image_code.proofs.Turns.{begins, goes_on, fits_in}
-use Rattle.image_code.proofs.Fitting.{two_wide, first_is}
+use Rattle.image_code.proofs.Fitting.{has_operand, two_wide, first_is}
 use Rattle.image_records.specs.Told.{word_of}
 use Rattle.image_constants.specs.Words.{constant_of, constants_of}
 use Rattle.image_constants.proofs.Words.{constant_back, same_words}
@@ -26,28 +31,16 @@ use Rattle.image_touch.specs.Walked.{of_function, walked}
 -- ## The opcodes
 
 module _ (op : ℕ) where
-  pub global_get : op ≡ Op.GET_GLOBAL → true ≡ names_global op
-  unfolding names_global
-  global_get e = rw e refl
-
-  pub global_set : op ≡ Op.SET_GLOBAL → true ≡ names_global op
-  unfolding names_global
-  global_set e = rw e refl
-
-  pub global_last : (op ≡ Op.GET_GLOBAL → ⊥) → (op ≡ Op.SET_GLOBAL → ⊥) → eqb op Op.DEFINE_GLOBAL ≡ names_global op
-  unfolding names_global
-  global_last g s = rw (ne_eqb _ _ g, ne_eqb _ _ s) refl
-
   -- an operand follows
   by_test : (a b c : Bool) → eqb op Op.GET_GLOBAL ≡ a → eqb op Op.SET_GLOBAL ≡ b → eqb op Op.DEFINE_GLOBAL ≡ c → (a || (b || c)) ≡ true
-      → form_of op ≡ 4
+      → form_of op ≡ Some variant.Text
   unfolding rules.op form form_of
   by_test true b c e f g t = let q : op ≡ Op.GET_GLOBAL = eqb-true _ _ e in rw q refl
   by_test false true c e f g t = let q : op ≡ Op.SET_GLOBAL = eqb-true _ _ f in rw q refl
   by_test false false true e f g t = let q : op ≡ Op.DEFINE_GLOBAL = eqb-true _ _ g in rw q refl
   by_test false false false e f g t = absurd (no_true t)
 
-  pub global_form : names_global op ≡ true → form_of op ≡ 4
+  pub global_form : names_global op ≡ true → form_of op ≡ Some variant.Text
   unfolding names_global
   global_form t = by_test _ _ _ refl refl refl t
 
@@ -69,11 +62,14 @@ same_either : (a b : ℕ) (t : Bool) → eqb a b ≡ t → eqb b a ≡ t
 same_either a b true e = eq-eqb b a (sym (eqb-true a b e))
 same_either a b false e = ne_eqb b a (λ q. eqb-false a b e (sym q))
 
-module _ (words : List ℕ) (n name place : ℕ) where
-  string_there : place < n → place < length words → is_string name (get_elem? (constants_of n words) place) ≡ eqb (get_or words place 0) (4 * name + 1)
+module _ (words : List ℕ) (name place : ℕ) where
+  abbrev n : ℕ
+  n = length words
+
+  string_there : place < n → is_string name (get_elem? (constants_of n words) place) ≡ eqb (get_or words place 0) (4 * name + 1)
   unfolding constants_of is_string word_of
-  string_there h l =
-      ap (is_string name) (elem_taken n words place h l) ∙
+  string_there h =
+      ap (is_string name) (elem_taken n words place h h) ∙
       ap (λ (c : Constant). same_constant c (constant_of (get_or words place 0))) (sym (constant_back (CS name))) ∙
       same_words (4 * name + 1) (get_or words place 0) ∙ sym (same_either (4 * name + 1) (get_or words place 0) _ refl)
 
@@ -83,7 +79,7 @@ module _ (words : List ℕ) (n name place : ℕ) where
 
 -- ## One instruction
 
-module _ (code table words : List ℕ) (at n name : ℕ) where
+module _ (code : List ℕ) (table : List element.Kind) (words : List ℕ) (at name : ℕ) where
   abbrev kind : ℕ → Kind
   kind = kinds_in table
 
@@ -91,7 +87,7 @@ module _ (code table words : List ℕ) (at n name : ℕ) where
   op = get_or code at 0
 
   abbrev asked : Bool
-  asked = touches name (of_function (constants_of n words) (instruction_at kind code at))
+  asked = touches name (of_function (constants_of (length words) words) (instruction_at kind code at))
 
   pub other_op : names_global op ≡ false → false ≡ asked
   unfolding touches instruction_at
@@ -99,22 +95,24 @@ module _ (code table words : List ℕ) (at n name : ℕ) where
 
   module _ (g : names_global op ≡ true) (has : 0 < width kind op (drop (at + 1) code)) where
     two : 2 ≤ width kind op (drop (at + 1) code)
-    two = let f = global_form op g in two_wide table code at 0 (form_of op) refl (omega arith) has
+    unfolding has_operand
+    two = two_wide table code at 0 variant.Text (sym (global_form op g)) refl has
 
     pub operand_within : at + width kind op (drop (at + 1) code) ≤ length code → at + 1 < length code
     operand_within w = let t = two in omega arith
 
-    module _ (place : ℕ) (is-place : place ≡ get_or code (at + 1) 0) where
-      asked_is : asked ≡ is_string name (get_elem? (constants_of n words) place)
-      unfolding touches instruction_at
-      asked_is =
-          rw (g, first_is table code at 0 (form_of op) refl place (get_or table place 0) two is-place refl) refl
+    abbrev place : ℕ
+    place = get_or code (at + 1) 0
 
-      pub past_constants : n ≤ place → false ≡ asked
-      past_constants h = sym (asked_is ∙ string_past words n name place h)
+    asked_is : asked ≡ is_string name (get_elem? (constants_of (length words) words) place)
+    unfolding touches instruction_at
+    asked_is = rw (g, first_is table code at 0 variant.Text (sym (global_form op g)) two) refl
 
-      pub by_word : place < n → place < length words → eqb (get_or words place 0) (4 * name + 1) ≡ asked
-      by_word h l = sym (asked_is ∙ string_there words n name place h l)
+    pub past_constants : length words ≤ place → false ≡ asked
+    past_constants h = sym (asked_is ∙ string_past words name place h)
+
+    pub by_word : place < length words → eqb (get_or words place 0) (4 * name + 1) ≡ asked
+    by_word h = sym (asked_is ∙ string_there words name place h)
 
 -- ## The walk
 
@@ -131,7 +129,7 @@ onto_is i none h = absurd (no_true h)
 onto_is i (some is) h = refl
 
 module _ (name : ℕ) (constants : List Constant) (i : Instruction) (is : List Instruction) (read : ℕ) where
-  walked_hit : touches name (of_function constants i) ≡ true → walked name read constants (i ∷ is) ≡ record { hit = true; at = i.at; read = read + 1 }
+  walked_hit : touches name (of_function constants i) ≡ true → walked name read constants (i ∷ is) ≡ record { at = Some i.at; read = read + 1 }
   unfolding walked
   walked_hit e = rw e refl
 
@@ -177,7 +175,7 @@ module _ (name before : ℕ) (constants : List Constant) (kind : ℕ → Kind) (
           onto_is (instruction_at kind code at) (from kind code (at + w) 0) goes
 
       pub walk_hit : true ≡ touches name (of_function constants (instruction_at kind code at))
-          → record { hit = true; at = at; read = read + 1 } ≡ walked name before constants (instructions (from kind code 0 0))
+          → record { at = Some at; read = read + 1 } ≡ walked name before constants (instructions (from kind code 0 0))
       unfolding instruction_at
       walk_hit t = sym (g.left ∙ ap (walked name read constants) these ∙ walked_hit name constants _ _ read (sym t))
 
@@ -191,7 +189,15 @@ module _ (name before : ℕ) (constants : List Constant) (kind : ℕ → Kind) (
             left = g.left ∙ ap (walked name read constants) these ∙ walked_on name constants _ _ read (sym t);
           }
 
-    pub walk_done : length code ≤ at → record { hit = false; at = 0; read = read } ≡ walked name before constants (instructions (from kind code 0 0))
+    pub walk_done : length code ≤ at → record { at = None; read = read } ≡ walked name before constants (instructions (from kind code 0 0))
     unfolding walked instructions
     walk_done h =
         sym (g.left ∙ ap (λ (r : Option (List Instruction)). walked name read constants (instructions r)) (ended kind code at (omega (arith, g.within))))
+
+-- ## Where it ended
+
+pub walk_place : (at bound : ℕ) → at ≤ bound → (place : ℕ) → ◌≡◌ {A = Told ℕ} (Some at) (Some place) → place ≤ bound
+walk_place at bound h place e = let q : at ≡ place = cc in omega arith
+
+pub walk_nowhere : (bound : ℕ) (place : ℕ) → ◌≡◌ {A = Told ℕ} None (Some place) → place ≤ bound
+walk_nowhere bound place e = absurd (none_some e)

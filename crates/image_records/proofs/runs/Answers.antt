@@ -5,8 +5,9 @@ use mathlib.Core.Path.{sym, ◌∙◌, ap}
 use borrow.Author.Tests.{not-true, not-false}
 use Rattle.rules.specs.ImageFile.{read_run}
 use Rattle.image_records.proofs.Many.{place_bad}
-use Rattle.image_records.proofs.Running.{run_of, run_marked, runs_begin, runs_stop, runs_done, run_zero, run_near, run_on}
+use Rattle.image_records.proofs.Running.{run_of, Marked, run_marked, runs_begin, runs_stop, runs_done, run_zero, run_near, run_on}
 use Rattle.image_records.proofs.runs.Goals as goal
+use Rattle.image_records.proofs.runs.Goals.{In_ok-next}
 
 pub loop-init : goal.loop-init
 loop-init c = (omega arith, runs_begin c.args.s.now c.args.n c.args.begin)
@@ -17,17 +18,21 @@ returns-in_err-next c =
     (run_of c.loop.last.start c.loop.last.end c.loop.count) c.loop.sum c.loop-test.true
     (place_bad (read_run c.args.s.now c.loop.at) (sym c.in_err-next.was ∙ c.skip_run.ensures)) ∙ sym c.loop.invariant.1
 
+-- all of the run is there
+here : (c : In_ok-next) → Marked c.args.s.now c.loop.at c.in_ok-next.next
+here c = run_marked c.args.s.now c.loop.at c.in_ok-next.next (sym c.in_ok-next.was ∙ c.skip_run.ensures)
+
 pub overflow_add-at : goal.overflow_add-at
-overflow_add-at c = let m = run_marked c.args.s.now c.loop.at c.in_ok-next.next (sym c.in_ok-next.was ∙ c.skip_run.ensures) in omega (arith, m.whole, c.well_formed)
+overflow_add-at c = omega (arith, (here (goal.at.overflow_add-at c).In_ok-next).whole, c.well_formed)
 
 pub span_at-span-requires : goal.span_at-span-requires
-span_at-span-requires c = let m = run_marked c.args.s.now c.loop.at c.in_ok-next.next (sym c.in_ok-next.was ∙ c.skip_run.ensures) in omega (arith, m.whole)
+span_at-span-requires c = omega (arith, (here (goal.at.span_at-span-requires c).In_ok-next).whole)
 
 pub overflow_add-at-in-loop : goal.overflow_add-at-in-loop
-overflow_add-at-in-loop c = let m = run_marked c.args.s.now c.loop.at c.in_ok-next.next (sym c.in_ok-next.was ∙ c.skip_run.ensures) in omega (arith, m.whole, c.well_formed)
+overflow_add-at-in-loop c = omega (arith, (here (goal.at.overflow_add-at-in-loop c).In_ok-next).whole, c.well_formed)
 
 pub u8_at-c-requires : goal.u8_at-c-requires
-u8_at-c-requires c = let m = run_marked c.args.s.now c.loop.at c.in_ok-next.next (sym c.in_ok-next.was ∙ c.skip_run.ensures) in omega (arith, m.whole)
+u8_at-c-requires c = omega (arith, (here (goal.at.u8_at-c-requires c).In_ok-next).whole)
 
 pub returns-then-c-eq0 : goal.returns-then-c-eq0
 returns-then-c-eq0 c =

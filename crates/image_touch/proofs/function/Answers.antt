@@ -2,119 +2,82 @@
 use Prim.Native.Nat.{ℕ, ◌+◌}
 use native.Mathlib.Omega.{arith}
 use mathlib.Core.Path.{refl, sym, ◌∙◌}
+use lib.ListN.{length, take}
 use Rattle.image_constants.proofs.Kinding.{earlier_number}
-use Rattle.image_code.proofs.Closing.{zeros}
-use Rattle.image_touch.proofs.Stepping.{headless, head_within, constants_lost, runs_lost, code_lost, placed, part_length, divides, stepped}
+use Rattle.image_code.proofs.Closing.{blank}
+use Rattle.image_code.specs.declared.Kind.TheVariants.{Missing}
+use Rattle.image_touch.proofs.Stepping.{Placed, headless, head_within, constants_lost, runs_lost, code_lost, placed, part_length, divides, stepped}
 use Rattle.image_touch.proofs.function.Goals as goal
+use Rattle.image_touch.proofs.function.Goals.{In_ok-start}
 
-pub returns-in_default : goal.returns-in_default
-returns-in_default c =
-    let number = earlier_number c.args.s.now c.args.k c.requires.counts.0.there in
-    absurd (headless c.args.s.now c.args.k c.args.at number c.requires.at_value.0 (sym c.in_default.is ∙ c.head_of.ensures))
+pub returns-in_err-h : goal.returns-in_err-h
+returns-in_err-h c =
+    let number = earlier_number c.args.s.now c.args.k c.requires.counts.there in
+    absurd (headless c.args.s.now c.args.k c.args.at number c.requires.at_value.0 (sym c.in_err-h.was ∙ c.head_of.ensures))
 
 pub overflow_add-at : goal.overflow_add-at
 overflow_add-at c =
-    let number = earlier_number c.args.s.now c.args.k c.requires.counts.0.there in
-    let is-head = sym c.in-Is.is ∙ c.head_of.ensures in
-    let within = head_within c.args.s.now c.args.k c.args.at number c.requires.at_value.0 c.in-Is.h is-head in
-    omega (arith, within, c.well_formed)
+    let number = earlier_number c.args.s.now c.args.k c.requires.counts.there in
+    let is-head = sym c.in_ok-h.was ∙ c.head_of.ensures in
+    omega (arith, head_within c.args.s.now c.args.k c.args.at number c.requires.at_value.0 c.in_ok-h.h is-head, c.well_formed)
 
-pub constants-requires : goal.constants-requires
-constants-requires c =
-    let least = c.least-first.ensures in
-    record {
-      first = (record { within = least.upper_bound.0; small = least.upper_bound.1; least = least.by_index }, c.requires.counts.0);
-      words_len = (c.requires.counts.1, (refl, zeros 256));
-    }
+pub constants-requires-clause-kinds_len : goal.constants-requires-clause-kinds_len
+constants-requires-clause-kinds_len c = (refl, λ p. blank 256 p Missing)
 
-pub returns-in_default-constants : goal.returns-in_default-constants
-returns-in_default-constants c =
-    let number = earlier_number c.args.s.now c.args.k c.requires.counts.0.there in
-    let is-head = sym c.in-Is.is ∙ c.head_of.ensures in
-    absurd (constants_lost c.args.s.now c.args.k c.args.at number c.requires.at_value.0 c.in-Is.h is-head
-    c.wide16-n.result c.least-first.result c.wide16-n.ensures.0
-    c.constants.result c.constants.new.words c.constants.new.kinds c.constants.ensures.constants_known
-    c.in_default-constants.is)
+pub returns-in_err-runs_at : goal.returns-in_err-runs_at
+returns-in_err-runs_at c =
+    let number = earlier_number c.args.s.now c.args.k c.requires.counts.there in
+    let is-head = sym c.in_ok-h.was ∙ c.head_of.ensures in
+    absurd (constants_lost c.args.s.now c.args.k c.args.at number c.requires.at_value.0 c.in_ok-h.h is-head
+    _ c.constants.result c.constants.new.words c.constants.new.kinds c.constants.ensures c.in_err-runs_at.was)
 
-pub returns-in_default-skip_runs : goal.returns-in_default-skip_runs
-returns-in_default-skip_runs c =
-    let number = earlier_number c.args.s.now c.args.k c.requires.counts.0.there in
-    let is-head = sym c.in-Is.is ∙ c.head_of.ensures in
-    absurd (runs_lost c.args.s.now c.args.k c.args.at number c.requires.at_value.0 c.in-Is.h is-head
-    c.wide16-n.result c.least-first.result c.wide16-n.ensures.0
-    c.constants.result c.constants.new.words c.constants.new.kinds c.constants.ensures.constants_known
-    c.in-At.runs_at c.in-At.is c.wide32.result c.wide32.ensures.0 c.skip_runs.result c.skip_runs.ensures
-    c.in_default-skip_runs.is)
+pub returns-in_err-mark_at : goal.returns-in_err-mark_at
+returns-in_err-mark_at c =
+    let number = earlier_number c.args.s.now c.args.k c.requires.counts.there in
+    let is-head = sym c.in_ok-h.was ∙ c.head_of.ensures in
+    absurd (runs_lost c.args.s.now c.args.k c.args.at number c.requires.at_value.0 c.in_ok-h.h is-head
+    _ c.constants.result c.constants.new.words c.constants.new.kinds c.constants.ensures
+    c.in_ok-runs_at.runs_at c.in_ok-runs_at.was c.skip_runs.result c.skip_runs.ensures c.in_err-mark_at.was)
 
-pub returns-in_default-code_at : goal.returns-in_default-code_at
-returns-in_default-code_at c =
-    let number = earlier_number c.args.s.now c.args.k c.requires.counts.0.there in
-    let is-head = sym c.in-Is.is ∙ c.head_of.ensures in
-    absurd (code_lost c.args.s.now c.args.k c.args.at number c.requires.at_value.0 c.in-Is.h is-head
-    c.wide16-n.result c.least-first.result c.wide16-n.ensures.0
-    c.constants.result c.constants.new.words c.constants.new.kinds c.constants.ensures.constants_known
-    c.in-At.runs_at c.in-At.is c.wide32.result c.wide32.ensures.0 c.skip_runs.result c.skip_runs.ensures
-    c.in-At-skip_runs.mark_at c.in-At-skip_runs.is c.wide32-size.result c.wide32-size.ensures.0 c.code_at.result c.code_at.ensures
-    c.in_default-code_at.is)
+pub returns-in_err-start : goal.returns-in_err-start
+returns-in_err-start c =
+    let number = earlier_number c.args.s.now c.args.k c.requires.counts.there in
+    let is-head = sym c.in_ok-h.was ∙ c.head_of.ensures in
+    absurd (code_lost c.args.s.now c.args.k c.args.at number c.requires.at_value.0 c.in_ok-h.h is-head
+    _ c.constants.result c.constants.new.words c.constants.new.kinds c.constants.ensures
+    c.in_ok-runs_at.runs_at c.in_ok-runs_at.was c.skip_runs.result c.skip_runs.ensures
+    c.in_ok-mark_at.mark_at c.in_ok-mark_at.was c.code_at.result c.code_at.ensures c.in_err-start.was)
+
+-- the code, once it is placed
+code : (c : In_ok-start)
+    → Placed c.args.s.now c.args.k c.args.at (length (take c.min.result c.args.words.now)) c.constants.new.words c.constants.new.kinds c.in_ok-start.start c.in_ok-h.h.code
+code c =
+    let number = earlier_number c.args.s.now c.args.k c.requires.counts.there in
+    let is-head = sym c.in_ok-h.was ∙ c.head_of.ensures in
+    placed c.args.s.now c.args.k c.args.at number c.requires.at_value.0 c.in_ok-h.h is-head
+    _ c.constants.result c.constants.new.words c.constants.new.kinds c.constants.ensures
+    c.in_ok-runs_at.runs_at c.in_ok-runs_at.was c.skip_runs.result c.skip_runs.ensures
+    c.in_ok-mark_at.mark_at c.in_ok-mark_at.was c.code_at.result c.code_at.ensures
+    c.in_ok-start.start c.in_ok-start.was
 
 pub overflow_add-end : goal.overflow_add-end
-overflow_add-end c =
-    let number = earlier_number c.args.s.now c.args.k c.requires.counts.0.there in
-    let is-head = sym c.in-Is.is ∙ c.head_of.ensures in
-    let there = placed c.args.s.now c.args.k c.args.at number c.requires.at_value.0 c.in-Is.h is-head
-    c.wide16-n.result c.least-first.result c.wide16-n.ensures.0
-    c.constants.result c.constants.new.words c.constants.new.kinds c.constants.ensures.constants_known
-    c.in-At.runs_at c.in-At.is c.wide32.result c.wide32.ensures.0 c.skip_runs.result c.skip_runs.ensures
-    c.in-At-skip_runs.mark_at c.in-At-skip_runs.is c.wide32-size.result c.wide32-size.ensures.0 c.code_at.result c.code_at.ensures
-    c.in-At-code_at.start c.in-At-code_at.is in
-    omega (arith, there.within, c.well_formed)
+overflow_add-end c = omega (arith, (code (goal.at.overflow_add-end c).In_ok-start).within, c.well_formed)
 
 pub slice_bounds-walk-end : goal.slice_bounds-walk-end
-slice_bounds-walk-end c =
-    let number = earlier_number c.args.s.now c.args.k c.requires.counts.0.there in
-    let is-head = sym c.in-Is.is ∙ c.head_of.ensures in
-    let there = placed c.args.s.now c.args.k c.args.at number c.requires.at_value.0 c.in-Is.h is-head
-    c.wide16-n.result c.least-first.result c.wide16-n.ensures.0
-    c.constants.result c.constants.new.words c.constants.new.kinds c.constants.ensures.constants_known
-    c.in-At.runs_at c.in-At.is c.wide32.result c.wide32.ensures.0 c.skip_runs.result c.skip_runs.ensures
-    c.in-At-skip_runs.mark_at c.in-At-skip_runs.is c.wide32-size.result c.wide32-size.ensures.0 c.code_at.result c.code_at.ensures
-    c.in-At-code_at.start c.in-At-code_at.is in
-    there.within
+slice_bounds-walk-end c = (code (goal.at.slice_bounds-walk-end c).In_ok-start).within
 
 pub walk-found-requires : goal.walk-found-requires
 walk-found-requires c =
-    let number = earlier_number c.args.s.now c.args.k c.requires.counts.0.there in
-    let is-head = sym c.in-Is.is ∙ c.head_of.ensures in
-    let there = placed c.args.s.now c.args.k c.args.at number c.requires.at_value.0 c.in-Is.h is-head
-    c.wide16-n.result c.least-first.result c.wide16-n.ensures.0
-    c.constants.result c.constants.new.words c.constants.new.kinds c.constants.ensures.constants_known
-    c.in-At.runs_at c.in-At.is c.wide32.result c.wide32.ensures.0 c.skip_runs.result c.skip_runs.ensures
-    c.in-At-skip_runs.mark_at c.in-At-skip_runs.is c.wide32-size.result c.wide32-size.ensures.0 c.code_at.result c.code_at.ensures
-    c.in-At-code_at.start c.in-At-code_at.is in
-    let l = part_length c.args.s.now c.args.k c.args.at c.least-first.result c.constants.new.words c.constants.new.kinds
-    c.in-At-code_at.start c.wide32-size.result there (λ (i : ℕ). (c.type_inv.s i).fits) (c.in-At-code_at.start + c.wide32-size.result) refl _ refl in
-    record {
-      n_bound = (c.least-first.ensures.upper_bound.1, c.constants.ensures.words_len_2);
-      code_value = (
-        divides c.args.s.now c.args.k c.args.at c.least-first.result c.constants.new.words c.constants.new.kinds
-            c.in-At-code_at.start c.wide32-size.result there (λ (i : ℕ). (c.type_inv.s i).fits) (c.in-At-code_at.start + c.wide32-size.result) refl _ refl,
-        omega (arith, l, there.within, there.far, c.requires.at_value.1, c.well_formed),
-      );
-    }
+    let there = code (goal.at.walk-found-requires c).In_ok-start in
+    let l = part_length c.args.s.now c.args.k c.args.at _ c.constants.new.words c.constants.new.kinds c.in_ok-start.start c.in_ok-h.h.code there (λ (i : ℕ). (c.type_inv.s i).fits)
+    (c.in_ok-start.start + c.in_ok-h.h.code) refl _ refl in (
+      divides c.args.s.now c.args.k c.args.at _ c.constants.new.words c.constants.new.kinds c.in_ok-start.start c.in_ok-h.h.code there (λ (i : ℕ). (c.type_inv.s i).fits)
+          (c.in_ok-start.start + c.in_ok-h.h.code) refl _ refl,
+      omega (arith, l, there.within, there.far, c.requires.at_value.1, c.well_formed),
+    )
 
 pub returns : goal.returns
 returns c =
-    let number = earlier_number c.args.s.now c.args.k c.requires.counts.0.there in
-    let is-head = sym c.in-Is.is ∙ c.head_of.ensures in
-    let there = placed c.args.s.now c.args.k c.args.at number c.requires.at_value.0 c.in-Is.h is-head
-    c.wide16-n.result c.least-first.result c.wide16-n.ensures.0
-    c.constants.result c.constants.new.words c.constants.new.kinds c.constants.ensures.constants_known
-    c.in-At.runs_at c.in-At.is c.wide32.result c.wide32.ensures.0 c.skip_runs.result c.skip_runs.ensures
-    c.in-At-skip_runs.mark_at c.in-At-skip_runs.is c.wide32-size.result c.wide32-size.ensures.0 c.code_at.result c.code_at.ensures
-    c.in-At-code_at.start c.in-At-code_at.is in
-    record {
-      stepped = stepped c.args.s.now c.args.k c.args.at c.least-first.result c.constants.new.words c.constants.new.kinds
-          c.in-At-code_at.start c.wide32-size.result there (λ (i : ℕ). (c.type_inv.s i).fits) (c.in-At-code_at.start + c.wide32-size.result) refl _ refl
-          c.args.name c.args.before c.walk-found.result c.walk-found.ensures.value c.walk-found.ensures.read_bound;
-      words_len = c.constants.ensures.words_len_2;
-    }
+    stepped c.args.s.now c.args.k c.args.at _ c.constants.new.words c.constants.new.kinds c.in_ok-start.start c.in_ok-h.h.code (code (goal.at.returns c).In_ok-start) (λ (i : ℕ). (c.type_inv.s i).fits)
+    (c.in_ok-start.start + c.in_ok-h.h.code) refl _ refl
+    c.args.name c.args.before c.walk-found.result (rw c.constants.auto.words at c.walk-found.ensures.value) c.walk-found.ensures.read_bound
