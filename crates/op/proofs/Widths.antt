@@ -48,9 +48,6 @@ through (r ∷ rows) (suc n) op bytes l = through rows n op bytes (omega (arith,
 pub record Held (op : ℕ) (rows : List Row) (bytes place : ℕ) : Type 0 where
   pub same : from rows place op bytes ≡ from rows 0 op 0
 
-pub begun : (op : ℕ) (rows : List Row) → Held op rows 0 0
-begun op rows = record { same = refl }
-
 module _ {op bytes place next : ℕ} {rows : List Row} (h : Held op rows bytes place) (other : Row) (l : place < length rows) where
   pub taken : (get_or rows place other).0 ≡ op → next ≡ (get_or rows place other).1 → Held op rows next (place + 1)
   taken q e =

@@ -65,13 +65,10 @@ fn entry(op: u8) -> usize
 {
     let rows = WIDTHS;
     let mut bytes: usize = 0;
-    let mut place: usize = 0;
-    while place < OPCODES {
-        let row = rows[place];
+    for row in rows {
         if row.0 == op {
             bytes = row.1;
         }
-        place += 1;
     }
     bytes
 }

@@ -24,11 +24,6 @@ lt_or_le a zero = inr (omega arith)
 lt_or_le zero (suc b) = inl (omega arith)
 lt_or_le (suc a) (suc b) = ⊎_elim (λ (p : a < b). inl (omega arith)) (λ (q : b ≤ a). inr (omega arith)) (lt_or_le a b)
 
--- a downward scan: what holds from i on and at i - 1 holds from i - 1 on
-pub above_more : (P : ℕ → Type 0) (i n : ℕ) → ((j : ℕ) → i ≤ j → j < n → P j) → P (i - 1) → (j : ℕ) → i - 1 ≤ j → j < n → P j
-above_more P i n all here j l h =
-    ⊎_elim (λ (e : i - 1 ≡ j). subst P e here) (λ (lt : i - 1 < j). all j (omega arith) h) (eq-or-lt_of_le l)
-
 module _ {A : Type 0} where
   pub if_true : (b : Bool) (x y : A) → b ≡ true → (if b then x else y) ≡ x
   if_true b x y e = ap (λ (b : Bool). (if b then x else y)) e

@@ -1,21 +1,17 @@
 -- What each function of src/ answers and leaves, in the rules' own terms. Each record says which words it may have changed: every other is as it was,
 -- the image writer's among them.
-use Rattle.std.specs.Prelude.{◌≡◌, Bool, true, false, ◌&&◌, List, ◌∷◌, ℕ, suc, ◌+◌, ◌*◌, ◌-◌, ◌%◌, ◌≤◌, ◌<◌, length, get_or, ltb}
+use Rattle.std.specs.Prelude.{◌≡◌, Bool, true, false, ◌&&◌, List, ◌∷◌, ℕ, suc, ◌+◌, ◌*◌, ◌-◌, ◌%◌, ◌≤◌, ◌<◌, length, get_or, ltb, Option, Some, None, Result, Ok, Err, ⊤}
 use Rattle.rules.specs.declared.Span.{Span}
 use Rattle.rules.specs.declared.Refusal.TheVariants.{AccessInsideInitializer, TooManyUpvalues}
 use Rattle.rules.specs.Chunk.{Chunk, Run, same_span, write_u8, write_constant, Written, at_place, no_room}
 use Rattle.rules.specs.Compiler.{Local, Upvalue, CompilerCtx, new_ctx, Found, at_slot, uninitialized, no_local, find_local, capture, Resolved, captured, nowhere, failed, add_upvalue, resolve_upvalue, declared_here, initialize}
 use Rattle.state.specs.Layout.{levels, code_end_at, image_at, start_of_code, locals_of, constant_of, start_of_runs, end_of_code, end_of_runs, run_at, chunk_at, ctx_at, parents_of, type_of, Wf, Coded, upvalues_place, upvalue_count_place, constants_place, constant_count_place, depth_place, code_from_place, level_words, local_count_place}
-use Rattle.state.specs.declared.Slot.{Slot}
-use Rattle.state.specs.declared.Slot.TheVariants as slot
-use Rattle.state.specs.declared.Up.{Up}
-use Rattle.state.specs.declared.Up.TheVariants as up
-use Rattle.state.specs.declared.Emitted.{Emitted}
-use Rattle.state.specs.declared.Emitted.TheVariants as emitted
-use Rattle.state.specs.declared.Declared.{Declared}
-use Rattle.state.specs.declared.Declared.TheVariants as decl
-use Rattle.state.specs.declared.Constanted.{Constanted}
-use Rattle.state.specs.declared.Constanted.TheVariants as constanted
+use Rattle.state.specs.declared.Unready.{Unready}
+use Rattle.state.specs.declared.Uncaptured.{Uncaptured}
+use Rattle.state.specs.declared.Uncaptured.TheVariants as uncaptured
+use Rattle.state.specs.declared.Full.{Full}
+use Rattle.state.specs.declared.Undeclared.{Undeclared}
+use Rattle.state.specs.declared.Undeclared.TheVariants as undeclared
 
 -- t' is t but for the words from lo up to hi
 pub record Kept (lo hi : ℕ) (t t' : List ℕ) : Type 0 where
@@ -24,66 +20,62 @@ pub record Kept (lo hi : ℕ) (t t' : List ℕ) : Type 0 where
 
 -- ## Scans
 
--- the scan for the topmost local of a name: one more than its place, or 0
-pub record Topmost (t : List ℕ) (base n nm r : ℕ) : Type 0 where
-  pub within : r ≤ n
-  pub none : (j : ℕ) → r ≤ j → j < n → get_or t (base + j) 0 % 65536 ≡ nm → ⊥
-  pub here : (j : ℕ) → suc j ≡ r → get_or t (base + j) 0 % 65536 ≡ nm
+-- the scan for the topmost local of a name: its place
+abbrev pub Topmost : (locals : List ℕ) → (nm : ℕ) → Option ℕ → Type 0
+Topmost xs nm None = (j : ℕ) → j < length xs → get_or xs j 0 % 65536 ≡ nm → ⊥
+Topmost xs nm (Some i) = (i < length xs) × ((j : ℕ) → i < j → j < length xs → get_or xs j 0 % 65536 ≡ nm → ⊥) × (get_or xs i 0 % 65536 ≡ nm)
 
 -- none of the n words from base on is w
 abbrev pub Without : List ℕ → (base n w : ℕ) → Type 0
 Without t base n w = (j : ℕ) → j < n → get_or t (base + j) 0 ≡ w → ⊥
 
--- the scan for a word: the place of the first, or n
-pub record First (t : List ℕ) (base n w r : ℕ) : Type 0 where
-  pub within : r ≤ n
-  pub none : (j : ℕ) → j < r → get_or t (base + j) 0 ≡ w → ⊥
-  pub here : r < n → get_or t (base + r) 0 ≡ w
+-- the scan for a word: the place of the first
+abbrev pub First : (words : List ℕ) → (w : ℕ) → Option ℕ → Type 0
+First xs w None = Without xs 0 (length xs) w
+First xs w (Some i) = (i < length xs) × Without xs 0 i w × (get_or xs i 0 ≡ w)
 
 -- ## Names
 
-abbrev pub found : Slot → Found
-found (slot.At i) = at_slot i
-found slot.Nothing = no_local
-found slot.Unready = uninitialized
+abbrev pub found : Result (Option ℕ) Unready → Found
+found (Ok (Some i)) = at_slot i
+found (Ok None) = no_local
+found (Err _) = uninitialized
 
 -- what resolving leaves of the locals: a mark, where one was asked for and a local is found
-abbrev pub marked : Bool → Slot → ℕ → List Local → List Local
-marked true (slot.At i) nm ls = capture nm ls
-marked true slot.Nothing nm ls = ls
-marked true slot.Unready nm ls = ls
-marked false (slot.At i) nm ls = ls
-marked false slot.Nothing nm ls = ls
-marked false slot.Unready nm ls = ls
+abbrev pub marked : Bool → Result (Option ℕ) Unready → ℕ → List Local → List Local
+marked true (Ok (Some i)) nm ls = capture nm ls
+marked true (Ok None) nm ls = ls
+marked true (Err _) nm ls = ls
+marked false r nm ls = ls
 
-pub record Looked (t t' : List ℕ) (l nm : ℕ) (mark : Bool) (r : Slot) : Type 0 where
+pub record Looked (t t' : List ℕ) (l nm : ℕ) (mark : Bool) (r : Result (Option ℕ) Unready) : Type 0 where
   pub answer : found r ≡ find_local nm (locals_of t l)
   pub locals : locals_of t' l ≡ marked mark r nm (locals_of t l)
-  pub quiet : r ≡ slot.Nothing → t' ≡ t
+  pub quiet : r ≡ Ok None → t' ≡ t
   pub unmarked : mark ≡ false → t' ≡ t
   pub kept : Kept (l * level_words) (l * level_words + local_count_place) t t'
   pub wf : Wf t'
 
 -- an answer on upvalues, as the rules have it
-abbrev pub up_of : Span → ℕ → Up → CompilerCtx → List CompilerCtx → Resolved
-up_of span nm (up.At i) ctx parents = captured i ctx parents
-up_of span nm up.Nothing ctx parents = nowhere
-up_of span nm up.Unready ctx parents = failed (AccessInsideInitializer span nm)
-up_of span nm up.Full ctx parents = failed (TooManyUpvalues span)
+abbrev pub up_of : Span → ℕ → Result (Option ℕ) Uncaptured → CompilerCtx → List CompilerCtx → Resolved
+up_of span nm (Ok (Some i)) ctx parents = captured i ctx parents
+up_of span nm (Ok None) ctx parents = nowhere
+up_of span nm (Err uncaptured.Unready) ctx parents = failed (AccessInsideInitializer span nm)
+up_of span nm (Err uncaptured.Full) ctx parents = failed (TooManyUpvalues span)
 
 -- whatever the code is, and what is around
-pub record Added (t t' : List ℕ) (l : ℕ) (u : Upvalue) (r : Up) : Type 0 where
+pub record Added (t t' : List ℕ) (l : ℕ) (u : Upvalue) (r : Result (Option ℕ) Uncaptured) : Type 0 where
   pub does : (span : Span) (nm : ℕ) (code spans : List ℕ) (ce re : ℕ) (above : List CompilerCtx) → up_of span nm r (ctx_at t' code spans l ce re) above ≡
       add_upvalue u span (ctx_at t code spans l ce re) above
-  pub some : r ≡ up.Nothing → ⊥
+  pub some : r ≡ Ok None → ⊥
   pub kept : Kept (l * level_words + upvalues_place) (l * level_words + constants_place) t t'
   pub wf : Wf t'
 
 -- of the level and those around it only locals' marks and upvalues change
-pub record Captured (t t' : List ℕ) (l nm : ℕ) (r : Up) : Type 0 where
+pub record Captured (t t' : List ℕ) (l nm : ℕ) (r : Result (Option ℕ) Uncaptured) : Type 0 where
   pub does : (span : Span) (code spans : List ℕ) (ce re : ℕ) → up_of span nm r (ctx_at t' code spans l ce re) (parents_of t' code spans l) ≡ resolve_upvalue nm
       span (ctx_at t code spans l ce re) (parents_of t code spans l)
-  pub quiet : r ≡ up.Nothing → t' ≡ t
+  pub quiet : r ≡ Ok None → t' ≡ t
   pub kept : Kept 0 (l * level_words + constants_place) t t'
   pub rest : (k i : ℕ) → k ≤ l → constants_place ≤ i → i < level_words → get_or t' (k * level_words + i) 0 ≡ get_or t (k * level_words + i) 0
   pub wf : Wf t'
@@ -101,11 +93,11 @@ last_grows spans first m span = ltb first m && grows span (run_at spans (m - 1))
 abbrev pub top_chunk : (t code spans : List ℕ) → ℕ → Chunk
 top_chunk t code spans l = chunk_at t code spans l (end_of_code t) (end_of_runs t)
 
-abbrev pub WroteAs : (t code spans t' code' spans' : List ℕ) → (l limit byte : ℕ) → Span → Emitted → Type 0
-WroteAs t code spans t' code' spans' l limit byte span emitted.Done = (end_of_code t < limit) × (top_chunk t' code' spans' l ≡ write_u8 (top_chunk t code spans l) byte span)
-WroteAs t code spans t' code' spans' l limit byte span emitted.Full = limit ≤ end_of_code t
+abbrev pub WroteAs : (t code spans t' code' spans' : List ℕ) → (l limit byte : ℕ) → Span → Result ⊤ Full → Type 0
+WroteAs t code spans t' code' spans' l limit byte span (Ok _) = (end_of_code t < limit) × (top_chunk t' code' spans' l ≡ write_u8 (top_chunk t code spans l) byte span)
+WroteAs t code spans t' code' spans' l limit byte span (Err _) = limit ≤ end_of_code t
 
-pub record Wrote (t code spans t' code' spans' : List ℕ) (l limit byte : ℕ) (span : Span) (r : Emitted) : Type 0 where
+pub record Wrote (t code spans t' code' spans' : List ℕ) (l limit byte : ℕ) (span : Span) (r : Result ⊤ Full) : Type 0 where
   pub does : WroteAs t code spans t' code' spans' l limit byte span r
   pub code_kept : (i : ℕ) → i < end_of_code t → get_or code' i 0 ≡ get_or code i 0
   pub runs_kept : (i : ℕ) → i < start_of_runs t l * 3 → get_or spans' i 0 ≡ get_or spans i 0
@@ -113,26 +105,26 @@ pub record Wrote (t code spans t' code' spans' : List ℕ) (l limit byte : ℕ) 
   pub coded : Coded t' code' spans' l limit
   pub wf : Wf t'
 
-abbrev pub written_as : Constanted → Chunk → Written
-written_as (constanted.At i) c = at_place i c
-written_as constanted.Full c = no_room
+abbrev pub written_as : Result ℕ Full → Chunk → Written
+written_as (Ok i) c = at_place i c
+written_as (Err _) c = no_room
 
-pub record Constants (t t' : List ℕ) (l w : ℕ) (r : Constanted) : Type 0 where
+pub record Constants (t t' : List ℕ) (l w : ℕ) (r : Result ℕ Full) : Type 0 where
   pub does : (code spans : List ℕ) (ce re : ℕ) → written_as r (chunk_at t' code spans l ce re) ≡ write_constant (chunk_at t code spans l ce re) (constant_of w)
   pub kept : Kept (l * level_words + constants_place) (l * level_words + depth_place) t t'
   pub wf : Wf t'
 
 -- ## Locals
 
-abbrev pub DeclaredAs : (t t' : List ℕ) → (l nm : ℕ) → Declared → Type 0
-DeclaredAs t t' l nm decl.Already = declared_here (get_or t (l * level_words + depth_place) 0) nm (locals_of t l) ≡ true
-DeclaredAs t t' l nm decl.Full = (declared_here (get_or t (l * level_words + depth_place) 0) nm (locals_of t l) ≡ false) × (256 ≤ length (locals_of t l))
-DeclaredAs t t' l nm decl.Done =
+abbrev pub DeclaredAs : (t t' : List ℕ) → (l nm : ℕ) → Result ⊤ Undeclared → Type 0
+DeclaredAs t t' l nm (Err undeclared.Already) = declared_here (get_or t (l * level_words + depth_place) 0) nm (locals_of t l) ≡ true
+DeclaredAs t t' l nm (Err undeclared.Full) = (declared_here (get_or t (l * level_words + depth_place) 0) nm (locals_of t l) ≡ false) × (256 ≤ length (locals_of t l))
+DeclaredAs t t' l nm (Ok _) =
     (declared_here (get_or t (l * level_words + depth_place) 0) nm (locals_of t l) ≡ false)
     × (length (locals_of t l) < 256)
     × (locals_of t' l ≡ record { name = nm; depth = get_or t (l * level_words + depth_place) 0; is_initialized = false; is_captured = false } ∷ locals_of t l)
 
-pub record DeclaredAt (t t' : List ℕ) (l nm : ℕ) (r : Declared) : Type 0 where
+pub record DeclaredAt (t t' : List ℕ) (l nm : ℕ) (r : Result ⊤ Undeclared) : Type 0 where
   pub does : DeclaredAs t t' l nm r
   pub kept : Kept (l * level_words) (l * level_words + upvalues_place) t t'
   pub wf : Wf t'

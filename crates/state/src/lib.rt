@@ -1,6 +1,9 @@
-// Where the compiler's state lies in the table that the caller lends, and what its functions answer: they are in state_scan, state_names, state_code and
+// Where the compiler's state lies in the table that the caller lends, and why its functions refuse: they are in state_scan, state_names, state_code and
 // state_levels. specs/Layout.antt says how the state lies there, specs/Contracts.antt what each function does in the rules' terms.
 #![tactic(auto)]
+
+ghost use Rattle.std.specs.Prelude.{◌≡◌};
+ghost use Rattle.state.specs.Kinds.{number_of};
 
 use rules::Limit;
 
@@ -52,52 +55,42 @@ impl Table {
     pub const WORDS: usize = Table::CODE_END + 4;
 }
 
-// What a function is, as the table has it: `type_of` in specs/Layout.antt.
-#[derive(Drop)]
-pub struct Kind {
-    pub number: u8,
+// What a function is; the table has its number, of which `type_of` in specs/Layout.antt says what it means.
+#[derive(Clone, Copy, PartialEq, Eq, Drop)]
+pub enum Kind {
+    Script,
+    Function,
+    Method,
+    Initializer,
 }
 
 impl Kind {
-    pub const SCRIPT: u8 = 0;
-
-    pub const FUNCTION: u8 = 1;
-
-    pub const METHOD: u8 = 2;
-
-    pub const INITIALIZER: u8 = 3;
+    // As a word of the table.
+    pub fn number(self) -> u64
+        ensures { result ≡ number_of self }
+    {
+        self as u64
+    }
 }
 
+// A local of this name is there, and has no value yet.
 #[derive(Drop)]
-pub enum Slot {
-    At(u8),
-    Nothing,
+pub struct Unready;
+
+// There is no room for one more: of code bytes, of constants.
+#[derive(Drop)]
+pub struct Full;
+
+// Why a name of a function around is not captured: the local has no value yet, or there are as many upvalues as there may be.
+#[derive(Drop)]
+pub enum Uncaptured {
     Unready,
-}
-
-#[derive(Drop)]
-pub enum Up {
-    At(u8),
-    Nothing,
-    Unready,
     Full,
 }
 
+// Why a local is not declared: its scope has one of this name, or there are as many locals as there may be.
 #[derive(Drop)]
-pub enum Emitted {
-    Done,
-    Full,
-}
-
-#[derive(Drop)]
-pub enum Constanted {
-    At(u8),
-    Full,
-}
-
-#[derive(Drop)]
-pub enum Declared {
-    Done,
+pub enum Undeclared {
     Already,
     Full,
 }

@@ -14,7 +14,9 @@ use Rattle.rules.specs.Base.{position}
 use Rattle.rules.specs.Chunk.{Constant, CN, CS, CF, same_constant, written, write_constant, at_place}
 use Rattle.state.specs.Layout.{levels, constant_of, level_constants, chunk_at, Wf, constants_place, constant_count_place, depth_place, level_words}
 use Rattle.state.specs.Meaning.{Kept, First, Constants}
-use Rattle.state.specs.declared.Constanted.TheVariants as constanted
+use Rattle.state.specs.declared.Full.{Full}
+use Rattle.std.specs.Prelude.{Some, None, Ok, Err, slice_range}
+use Rattle.state_scan.proofs.Scan.{first_none, first_some}
 use Rattle.state.proofs.Laws.{length_row, position_at, position_none, push_vec, kept_set, kept_same, kept_then, if_true, if_false, lt_or_le, chunk_paths, wf_count, wf_plain}
 use Rattle.state.proofs.Words as words
 
@@ -51,29 +53,36 @@ apart v w ne =
     (λ gv. by_kind (λ (d : Constant). same_constant (CF (v - (2 ^ 63 + 2 ^ 32))) d ≡ false) w (λ hw. refl) (λ h g. refl)
     (λ g. ne_eqb (v - (2 ^ 63 + 2 ^ 32)) (w - (2 ^ 63 + 2 ^ 32)) (λ (e : v - (2 ^ 63 + 2 ^ 32) ≡ w - (2 ^ 63 + 2 ^ 32)). ne (omega arith))))
 
-module _ (t : List ℕ) (l w : ℕ) (low : l < levels) (wf : Wf t) (r : ℕ) (found : First t (l * level_words + constants_place) (get_or t (l * level_words + constant_count_place) 0) w r) where
+module _ (t : List ℕ) (l w : ℕ) (low : l < levels) (wf : Wf t) where
+  abbrev scanned : List ℕ
+  scanned = slice_range t (l * level_words + constants_place) (l * level_words + constants_place + get_or t (l * level_words + constant_count_place) 0)
+
+  room : l * level_words + constants_place + get_or t (l * level_words + constant_count_place) 0 ≤ length t
+  room = omega (arith, wf.size, wf.few_constants l low)
+
   by_place : (o : Option ℕ) → position (same_constant (constant_of w)) (level_constants t l) ≡ o → (code spans : List ℕ) (ce re : ℕ) → write_constant
       (chunk_at t code spans l ce re) (constant_of w) ≡ written o (chunk_at t code spans l ce re) (constant_of w)
   unfolding write_constant chunk_at
   by_place o e code spans ce re = ap (λ (x : Option ℕ). written x (chunk_at t code spans l ce re) (constant_of w)) e
 
-  pub there : r < get_or t (l * level_words + constant_count_place) 0 → Constants t t l w (constanted.At r)
+  pub there : (r : ℕ) → First scanned w (Some r) → Constants t t l w (Ok r)
   unfolding written
-  there h =
-      let e : position (same_constant (constant_of w)) (level_constants t l) ≡ some r = position_at _ _ r _ h (λ j g. apart w _ (found.none j g))
-      (ap (λ (x : ℕ). same_constant (constant_of w) (constant_of x)) (found.here h) ∙ same_self (constant_of w)) in
+  there r f =
+      let found = first_some t _ _ room _ r f in
+      let e : position (same_constant (constant_of w)) (level_constants t l) ≡ some r = position_at _ _ r _ found.0 (λ j g. apart w _ (found.1 j g))
+      (ap (λ (x : ℕ). same_constant (constant_of w) (constant_of x)) found.2 ∙ same_self (constant_of w)) in
       record { does = λ code spans ce re. sym (by_place (some r) e code spans ce re); kept = kept_same _ _ t; wf = wf }
 
-  module _ (h : get_or t (l * level_words + constant_count_place) 0 ≤ r) where
+  module _ (f : First scanned w None) where
     none : position (same_constant (constant_of w)) (level_constants t l) ≡ nothing
-    none = position_none _ _ _ (λ j g. apart w _ (found.none j (omega arith)))
+    none = position_none _ _ _ (λ j g. apart w _ (first_none t _ _ room _ f j g))
 
     counted : (b : Bool) → ltb (get_or t (l * level_words + constant_count_place) 0) 256 ≡ b → ltb (length (level_constants t l)) 256 ≡ b
     counted b e = ap (λ (k : ℕ). ltb k 256) (length_row _ _) ∙ e
 
-    pub full : 256 ≤ get_or t (l * level_words + constant_count_place) 0 → Constants t t l w constanted.Full
+    pub full : (e : Full) → 256 ≤ get_or t (l * level_words + constant_count_place) 0 → Constants t t l w (Err e)
     unfolding written chunk_at
-    full m = record {
+    full e m = record {
       does = λ code spans ce re. sym (by_place nothing none code spans ce re ∙ if_false _ _ _ (counted false (le-ltb _ _ m)));
       kept = kept_same _ _ t;
       wf = wf;
@@ -81,7 +90,7 @@ module _ (t : List ℕ) (l w : ℕ) (low : l < levels) (wf : Wf t) (r : ℕ) (fo
 
     pub pushed : get_or t (l * level_words + constant_count_place) 0 < 256 → Constants t
         (set (set t (l * level_words + constants_place + get_or t (l * level_words + constant_count_place) 0) w) (l * level_words + constant_count_place)
-        (get_or t (l * level_words + constant_count_place) 0 + 1)) l w (constanted.At (get_or t (l * level_words + constant_count_place) 0))
+        (get_or t (l * level_words + constant_count_place) 0 + 1)) l w (Ok (get_or t (l * level_words + constant_count_place) 0))
     unfolding written chunk_at
     pushed m =
         let n : ℕ = get_or t (l * level_words + constant_count_place) 0 in

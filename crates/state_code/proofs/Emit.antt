@@ -12,7 +12,8 @@ use Rattle.rules.specs.declared.Span.{Span}
 use Rattle.rules.specs.Chunk.{Run, same_span, push_span, write_u8}
 use Rattle.state.specs.Layout.{levels, code_end_at, runs_end_at, image_at, row, start_of_code, start_of_runs, end_of_code, end_of_runs, run_at, chunk_at, Wf, Coded, code_from_place, runs_from_place, level_words}
 use Rattle.state.specs.Meaning.{Kept, grows, last_grows, top_chunk, Wrote}
-use Rattle.state.specs.declared.Emitted.TheVariants as emitted
+use Rattle.state.specs.declared.Full.{Full}
+use Rattle.std.specs.Prelude.{Ok, Err}
 use Rattle.state.proofs.Laws.{row_cong, row_snoc, run_same, kept_set, kept_same, kept_off, kept_then, if_true, if_false, constants_same, chunk_paths, wf_plain}
 use Rattle.state.proofs.Words.{and_left, and_right}
 
@@ -147,8 +148,8 @@ runs_fresh spans rs m span h r g =
 -- ## emit_u8's ways out
 
 module _ (t code spans : List ℕ) (l limit byte : ℕ) (span : Span) (low : l < levels) (wf : Wf t) (ok : Coded t code spans l limit) where
-  pub full : limit ≤ end_of_code t → Wrote t code spans t code spans l limit byte span emitted.Full
-  full h = record {
+  pub full : (e : Full) → limit ≤ end_of_code t → Wrote t code spans t code spans l limit byte span (Err e)
+  full e h = record {
     does = h;
     code_kept = λ i z. refl;
     runs_kept = λ i z. refl;
@@ -191,7 +192,7 @@ module _ (t code spans : List ℕ) (l limit byte : ℕ) (span : Span) (low : l <
         }
 
     pub grown : last_grows spans (start_of_runs t l) (end_of_runs t) span ≡ true → Wrote t code spans (set t code_end_at (end_of_code t + 1)) (set code (end_of_code t) byte)
-        (set spans ((end_of_runs t - 1) * 3 + 2) (get_or spans ((end_of_runs t - 1) * 3 + 2) 0 + 1)) l limit byte span emitted.Done
+        (set spans ((end_of_runs t - 1) * 3 + 2) (get_or spans ((end_of_runs t - 1) * 3 + 2) 0 + 1)) l limit byte span (Ok tt)
     grown g =
         let t' : List ℕ = set t code_end_at (end_of_code t + 1) in
         let v : ℕ = get_or spans ((end_of_runs t - 1) * 3 + 2) 0 + 1 in
@@ -213,7 +214,7 @@ module _ (t code spans : List ℕ) (l limit byte : ℕ) (span : Span) (low : l <
 
     pub fresh : last_grows spans (start_of_runs t l) (end_of_runs t) span ≡ false → Wrote t code spans
         (set (set t code_end_at (end_of_code t + 1)) runs_end_at (end_of_runs t + 1)) (set code (end_of_code t) byte)
-        (set (set (set spans (end_of_runs t * 3) span.start) (end_of_runs t * 3 + 1) span.end) (end_of_runs t * 3 + 2) 1) l limit byte span emitted.Done
+        (set (set (set spans (end_of_runs t * 3) span.start) (end_of_runs t * 3 + 1) span.end) (end_of_runs t * 3 + 2) 1) l limit byte span (Ok tt)
     fresh g =
         let m : ℕ = end_of_runs t in
         let t₂ : List ℕ = set t code_end_at (end_of_code t + 1) in

@@ -6,7 +6,7 @@ ghost use Rattle.state.specs.Layout.{levels, Wf, Coded};
 ghost use Rattle.state.specs.Meaning.{last_grows, Wrote, Constants};
 
 use rules::{Limit, Span};
-use state::{Constanted, Emitted, Table};
+use state::{Full, Table};
 use state_scan::first;
 
 // Whether the last run, of those from first up to m, grows by a byte of this span.
@@ -35,13 +35,13 @@ pub fn emit_u8(
     limit: usize,
     byte: u8,
     span: Span,
-) -> Emitted
+) -> Result<(), Full>
     requires { (level < levels) × (Wf t.old) × (Coded t.old code.old spans.old level limit) }
     ensures { Wrote t.old code.old spans.old t.new code.new spans.new level limit byte span result }
 {
     let n = t[Table::CODE_END] as usize;
     if limit <= n {
-        return Emitted::Full;
+        return Err(Full);
     }
     let first = t[level * Table::LEVEL_WORDS + Table::RUNS_FROM] as usize;
     let m = t[Table::RUNS_END] as usize;
@@ -50,31 +50,31 @@ pub fn emit_u8(
     if can_grow(&spans[..], first, m, span) {
         let at = (m - 1) * 3 + 2;
         spans[at] = spans[at] + 1;
-        return Emitted::Done;
+        return Ok(());
     }
     spans[m * 3] = span.start;
     spans[m * 3 + 1] = span.end;
     spans[m * 3 + 2] = 1;
     t[Table::RUNS_END] = (m + 1) as u64;
-    Emitted::Done
+    Ok(())
 }
 
 // The place of a constant, an equal one's where there is one.
-pub fn write_constant(t: &mut [u64], level: usize, w: u64) -> Constanted
+pub fn write_constant(t: &mut [u64], level: usize, w: u64) -> Result<u8, Full>
     requires { (level < levels) × (Wf t.old) }
     ensures { Constants t.old t.new level w result }
 {
     let base = level * Table::LEVEL_WORDS + Table::CONSTANTS;
     let count = level * Table::LEVEL_WORDS + Table::CONSTANT_COUNT;
     let n = t[count] as usize;
-    let place = first(&t[..], base, n, w);
-    if place < n {
-        return Constanted::At(place as u8);
+    let place = first(&t[base..base + n], w);
+    if let Some(i) = place {
+        return Ok(i as u8);
     }
     if Limit::CONSTANTS <= n {
-        return Constanted::Full;
+        return Err(Full);
     }
     t[base + n] = w;
     t[count] = (n + 1) as u64;
-    Constanted::At(n as u8)
+    Ok(n as u8)
 }

@@ -2,10 +2,11 @@
 #![tactic(auto)]
 
 ghost use Rattle.std.specs.Prelude.{◌≡◌, ◌+◌, ◌*◌, ◌≤◌, ◌<◌, length, get_or};
+ghost use Rattle.state.specs.Kinds.{number_of};
 ghost use Rattle.state.specs.Layout.{levels, deepest, table_words, Wf, depth_place, level_words};
 ghost use Rattle.state.specs.Meaning.{Moved, Closed, Began, Emptied, Blank};
 
-use state::Table;
+use state::{Kind, Table};
 
 // The scope depth becomes `depth`.
 pub fn move_scope(t: &mut [u64], level: usize, depth: u64)
@@ -33,17 +34,15 @@ pub fn clear_levels(t: &mut [u64])
     requires { length t.old ≡ table_words }
     ensures { Blank t.new }
 {
-    let mut level = 0;
-    while level < Table::LEVELS {
+    for level in 0..Table::LEVELS {
         clear_level(t, level);
-        level += 1;
     }
 }
 
 // Opens the context above a level: no locals, no upvalues, no constants, no code, one scope deeper.
-pub fn begin_ctx(t: &mut [u64], level: usize, name: u16, arity: u8, kind: u8)
+pub fn begin_ctx(t: &mut [u64], level: usize, name: u16, arity: u8, kind: Kind)
     requires { (level + 1 < levels) × (Wf t.old) × (get_or t.old (level * level_words + depth_place) 0 < deepest) }
-    ensures { Began t.old t.new level name arity kind }
+    ensures { Began t.old t.new level name arity (number_of kind) }
 {
     let base = (level + 1) * Table::LEVEL_WORDS;
     let depth = t[level * Table::LEVEL_WORDS + Table::DEPTH];
@@ -57,7 +56,7 @@ pub fn begin_ctx(t: &mut [u64], level: usize, name: u16, arity: u8, kind: u8)
     t[base + Table::RUNS_FROM] = runs;
     t[base + Table::NAME] = name as u64;
     t[base + Table::ARITY] = arity as u64;
-    t[base + Table::TYPE] = kind as u64;
+    t[base + Table::TYPE] = kind.number();
 }
 
 // Leaves a context: the code and the runs end where its own began.

@@ -10,15 +10,17 @@ use mathlib.Core.Option.{none as nothing}
 use lib.ListN.{length, get_or, set}
 use lib.Seq.{get_or-set_same}
 use lib.Dec.{eqb, ltb}
+use mir.Val.{bool_byte}
 use lib.Arith.{digits_div, digits_mod}
 use borrow.Author.Tests.{eq-eqb, eqb-true, eqb-false, lt-ltb, le-ltb}
 use Rattle.rules.specs.Base.{position}
-use Rattle.std.specs.Prelude.{if◌then◌else◌}
+use Rattle.std.specs.Prelude.{if◌then◌else◌, Some, None, Ok, Err, slice_range}
 use Rattle.rules.specs.declared.Span.{Span}
 use Rattle.rules.specs.Compiler.{Upvalue, CompilerCtx, captured, with_upvalues, same_upvalue, added, add_upvalue}
 use Rattle.state.specs.Layout.{levels, upvalue_of, upvalues_of, ctx_at, Wf, upvalues_place, upvalue_count_place, constants_place, depth_place, level_words}
 use Rattle.state.specs.Meaning.{Kept, First, Added}
-use Rattle.state.specs.declared.Up.TheVariants as up
+use Rattle.state.specs.declared.Uncaptured.TheVariants as uncaptured
+use Rattle.state_scan.proofs.Scan.{first_none, first_some}
 use Rattle.state.proofs.Laws.{length_row, position_at, position_none, push_vec, kept_set, kept_same, kept_off, kept_then, if_true, if_false, locals_same, chunk_same, ctx_paths, lt_or_le}
 use Rattle.state.proofs.Laws.{few_set, wf_upvalues, wf_entry}
 
@@ -51,37 +53,56 @@ one_bit a b h g e = bit (eqb b 1) e refl
         off : (n : ℕ) → n < 2 → (n ≡ 1 → ⊥) → n ≡ 0
         off n k ne = omega arith
 
-module _ (t : List ℕ) (l a b : ℕ) (bit : a < 2) (small : b < 256) (low : l < levels) (wf : Wf t) where
+bit_below : (y : Bool) → bool_byte y < 2
+bit_below true = omega arith
+bit_below false = omega arith
+
+bit_is : (y : Bool) → eqb (bool_byte y) 1 ≡ y
+bit_is true = refl
+bit_is false = refl
+
+module _ (t : List ℕ) (l : ℕ) (y : Bool) (b : ℕ) (small : b < 256) (low : l < levels) (wf : Wf t) where
   abbrev u : Upvalue
-  u = record { idx = b; is_local = eqb a 1 }
+  u = record { idx = b; is_local = y }
+
+  -- the bit that the word has of it
+  abbrev a : ℕ
+  a = bool_byte y
 
   here : (w : ℕ) → w ≡ a * 256 + b → same_upvalue u (upvalue_of w) ≡ true
   unfolding same_upvalue
   here w e =
       let x : w / 256 ≡ a = ap (λ (k : ℕ). k / 256) e ∙ digits_div a small in
-      let y : w % 256 ≡ b = ap (λ (k : ℕ). k % 256) e ∙ digits_mod a small in
-      ap₂ ◌&&◌ (eq-eqb _ _ (sym y)) (ap (λ (k : ℕ). alike (eqb a 1) (eqb k 1)) x ∙ alike_self (eqb a 1))
+      let z : w % 256 ≡ b = ap (λ (k : ℕ). k % 256) e ∙ digits_mod a small in
+      ap₂ ◌&&◌ (eq-eqb _ _ (sym z)) (ap (λ (k : ℕ). alike y (eqb k 1)) x ∙ ap (alike y) (bit_is y) ∙ alike_self y)
 
   other : (w : ℕ) → w < 512 → (w ≡ a * 256 + b → ⊥) → same_upvalue u (upvalue_of w) ≡ false
   unfolding same_upvalue
-  other w half ne = and_false _ _ (λ x y. let q : b ≡ w % 256 = eqb-true _ _ x in let p : a ≡ w / 256 = one_bit a (w / 256) bit (omega arith)
-      (alike_same (eqb a 1) (eqb (w / 256) 1) y) in ne (omega arith))
+  other w half ne = and_false _ _ (λ x e. let q : b ≡ w % 256 = eqb-true _ _ x in let p : a ≡ w / 256 = one_bit a (w / 256) (bit_below y) (omega arith)
+      (bit_is y ∙ alike_same y (eqb (w / 256) 1) e) in ne (omega arith))
 
   -- an upvalue that stands there is one of two kinds
   half : (j : ℕ) → j < get_or t (l * level_words + upvalue_count_place) 0 → get_or t (l * level_words + upvalues_place + j) 0 < 512
   half j h = let q : l * level_words + (upvalues_place + j) ≡ l * level_words + upvalues_place + j = omega arith in subst (λ (k : ℕ). get_or t k 0 < 512) q
       (wf.pairs l (upvalues_place + j) low (omega arith) (omega arith))
 
-  module _ (r : ℕ) (found : First t (l * level_words + upvalues_place) (get_or t (l * level_words + upvalue_count_place) 0) (a * 256 + b) r) where
+  abbrev words : List ℕ
+  words = slice_range t (l * level_words + upvalues_place) (l * level_words + upvalues_place + get_or t (l * level_words + upvalue_count_place) 0)
+
+  room_for : l * level_words + upvalues_place + get_or t (l * level_words + upvalue_count_place) 0 ≤ length t
+  room_for = omega (arith, wf.size, wf.few_upvalues l low)
+
+  module _ where
     by_place : (o : Option ℕ) → position (same_upvalue u) (upvalues_of t l) ≡ o → (span : Span) (code spans : List ℕ) (ce re : ℕ) (above : List CompilerCtx) →
         add_upvalue u span (ctx_at t code spans l ce re) above ≡ added o u span (ctx_at t code spans l ce re) above
     unfolding add_upvalue ctx_at
     by_place o e span code spans ce re above = ap (λ (x : Option ℕ). added x u span (ctx_at t code spans l ce re) above) e
 
-    pub there : r < get_or t (l * level_words + upvalue_count_place) 0 → Added t t l u (up.At r)
+    pub there : (r : ℕ) → First words (a * 256 + b) (Some r) → Added t t l u (Ok (Some r))
     unfolding added
-    there h =
-        let e : position (same_upvalue u) (upvalues_of t l) ≡ some r = position_at _ _ r _ h (λ j g. other _ (half j (omega arith)) (found.none j g)) (here _ (found.here h)) in
+    there r f =
+        let found = first_some t _ _ room_for _ r f in
+        let e : position (same_upvalue u) (upvalues_of t l) ≡ some r = position_at _ _ r _ found.0 (λ j g. other _ (half j (omega (arith, found.0))) (found.1 j g)) (here _ found.2) in
         record {
           does = λ span nm code spans ce re above. sym (by_place (some r) e span code spans ce re above);
           some = λ e. let z : ◌≡◌ {A = ℕ} 0 1 = cc in omega arith;
@@ -89,14 +110,14 @@ module _ (t : List ℕ) (l a b : ℕ) (bit : a < 2) (small : b < 256) (low : l <
           wf = wf;
         }
 
-    module _ (h : get_or t (l * level_words + upvalue_count_place) 0 ≤ r) where
+    module _ (f : First words (a * 256 + b) None) where
       none : position (same_upvalue u) (upvalues_of t l) ≡ nothing
-      none = position_none _ _ _ (λ j g. other _ (half j g) (found.none j (omega arith)))
+      none = position_none _ _ _ (λ j g. other _ (half j g) (first_none t _ _ room_for _ f j g))
 
       counted : (b : Bool) → ltb (get_or t (l * level_words + upvalue_count_place) 0) 256 ≡ b → ltb (length (upvalues_of t l)) 256 ≡ b
       counted b e = ap (λ (k : ℕ). ltb k 256) (length_row _ _) ∙ e
 
-      pub full : 256 ≤ get_or t (l * level_words + upvalue_count_place) 0 → Added t t l u up.Full
+      pub full : 256 ≤ get_or t (l * level_words + upvalue_count_place) 0 → Added t t l u (Err uncaptured.Full)
       unfolding added ctx_at
       full m = record {
         does = λ span nm code spans ce re above. sym (by_place nothing none span code spans ce re above ∙ if_false _ _ _ (counted false (le-ltb _ _ m)));
@@ -107,7 +128,7 @@ module _ (t : List ℕ) (l a b : ℕ) (bit : a < 2) (small : b < 256) (low : l <
 
       pub pushed : get_or t (l * level_words + upvalue_count_place) 0 < 256 → Added t
           (set (set t (l * level_words + upvalues_place + get_or t (l * level_words + upvalue_count_place) 0) (a * 256 + b))
-          (l * level_words + upvalue_count_place) (get_or t (l * level_words + upvalue_count_place) 0 + 1)) l u (up.At (get_or t (l * level_words + upvalue_count_place) 0))
+          (l * level_words + upvalue_count_place) (get_or t (l * level_words + upvalue_count_place) 0 + 1)) l u (Ok (Some (get_or t (l * level_words + upvalue_count_place) 0)))
       unfolding added ctx_at
       pushed m =
           let c : ℕ = l * level_words + upvalue_count_place in
@@ -119,16 +140,17 @@ module _ (t : List ℕ) (l a b : ℕ) (bit : a < 2) (small : b < 256) (low : l <
           (kept_set _ _ t _ _ (omega arith) (omega arith)) (omega arith) (omega arith) in
           let at : (o : ℕ) → (upvalues_place ≤ o → o < constants_place → ⊥) → get_or t' (l * level_words + o) 0 ≡ get_or t (l * level_words + o) 0 = λ o off.
           kept_off _ _ t t' _ kp (λ x y. off (omega arith) (omega arith)) in
-          let w : upvalue_of (a * 256 + b) ≡ u = λ i. record { idx = digits_mod a small i; is_local = eqb (digits_div a small i) 1 } in
+          let w : upvalue_of (a * 256 + b) ≡ u = λ i. record { idx = digits_mod a small i; is_local = (ap (λ (k : ℕ). eqb k 1) (digits_div a small) ∙ bit_is y) i } in
           let us : upvalues_of t' l ≡ upvalues_of t l ++ (u ∷ []) = push_vec upvalue_of t _ c (a * 256 + b) (omega arith) room ∙ ap (λ (x : Upvalue). upvalues_of t l ++ (x ∷ [])) w in
-          let half' : (o : ℕ) → upvalues_place ≤ o → o < upvalues_place + (k + 1) → get_or t₁ (l * level_words + o) 0 < 512 = λ o x y.
+          let bit : a < 2 = bit_below y in
+          let half' : (o : ℕ) → upvalues_place ≤ o → o < upvalues_place + (k + 1) → get_or t₁ (l * level_words + o) 0 < 512 = λ o x z.
           ⊎_elim (λ (g : o < upvalues_place + k). omega (
             arith,
             few_set 511 t (l * level_words + upvalues_place + k) (a * 256 + b) (l * level_words + o)
-                (omega arith) (omega (arith, wf.pairs l o low x g)),
+                (omega (arith, bit)) (omega (arith, wf.pairs l o low x g)),
           ))
           (λ (g : upvalues_place + k ≤ o). let e : l * level_words + upvalues_place + k ≡ l * level_words + o = omega arith in subst
-          (λ (j : ℕ). get_or t₁ j 0 < 512) e (omega (arith, get_or-set_same t (l * level_words + upvalues_place + k) (a * 256 + b) 0 (omega arith))))
+          (λ (j : ℕ). get_or t₁ j 0 < 512) e (omega (arith, get_or-set_same t (l * level_words + upvalues_place + k) (a * 256 + b) 0 (omega arith), bit)))
           (lt_or_le o (upvalues_place + k)) in
           let len : length (upvalues_of t l) ≡ k = length_row _ _ in
           let ctx : (code spans : List ℕ) (ce re : ℕ) → ctx_at t' code spans l ce re ≡ with_upvalues (ctx_at t code spans l ce re) (upvalues_of t l ++ (u ∷ [])) = λ code spans ce re.

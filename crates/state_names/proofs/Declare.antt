@@ -4,8 +4,8 @@ use native.Mathlib.Omega.{arith}
 use native.Mathlib.Nat.{add-mod_right, add-div_right}
 use mathlib.Core.Path.{◌≡◌, refl, sym, ap, ap₂, ◌∙◌}
 use mathlib.Core.List.{List, ◌∷◌}
-use mathlib.Core.Bool.{true, false}
-use lib.ListN.{get_or, set}
+use mathlib.Core.Bool.{Bool, true, false}
+use lib.ListN.{length, get_or, set}
 use lib.Dec.{eqb, lit<}
 use lib.Arith.{digits_div, digits_mod}
 use lib.Seq.{get_or-set_same, get_or-set_other}
@@ -13,7 +13,9 @@ use borrow.Author.Tests.{eq-eqb, ne_eqb, lt-ltb, le-ltb}
 use Rattle.rules.specs.Compiler.{Local, declared_here, initialize}
 use Rattle.state.specs.Layout.{levels, stack, local_of, locals_of, Wf, depth_place, level_words, local_count_place}
 use Rattle.state.specs.Meaning.{Kept, DeclaredAt, DefinedAt, Dropped}
-use Rattle.state.specs.declared.Declared.TheVariants as decl
+use Rattle.state.specs.declared.Undeclared.TheVariants as undeclared
+use Rattle.std.specs.Prelude.{Ok, Err, slice_range}
+use Rattle.state_scan.proofs.Scan.{long, word}
 use Rattle.state.proofs.Laws.{length_stack, stack_cong, push_pile, kept_set, kept_same, kept_then, if_true, if_false, wf_count, wf_plain}
 
 module _ (f : ℕ → Local) (nm d i : ℕ) (pos : 0 < i) where
@@ -50,16 +52,35 @@ new_local nm d h =
     λ i. record { name = a i; depth = p i; is_initialized = eqb (r i) 1; is_captured = eqb (c i) 1 }
 
 module _ (t : List ℕ) (l nm : ℕ) (short : nm < 65536) (low : l < levels) (wf : Wf t) where
-  pub already : declared_here (get_or t (l * level_words + depth_place) 0) nm (locals_of t l) ≡ true → DeclaredAt t t l nm decl.Already
-  already c = record { does = c; kept = kept_same _ _ t; wf = wf }
+  abbrev locals : List ℕ
+  locals = slice_range t (l * level_words) (l * level_words + get_or t (l * level_words + local_count_place) 0)
 
-  module _ (c : declared_here (get_or t (l * level_words + depth_place) 0) nm (locals_of t l) ≡ false) where
-    pub full : 256 ≤ get_or t (l * level_words + local_count_place) 0 → DeclaredAt t t l nm decl.Full
+  room : l * level_words + get_or t (l * level_words + local_count_place) 0 ≤ length t
+  room = omega (arith, wf.size, wf.few_locals l low)
+
+  -- the locals that were scanned are the level's
+  scanned : stack (λ i. local_of (get_or locals i 0)) (length locals) ≡ locals_of t l
+  scanned = ap (stack (λ i. local_of (get_or locals i 0))) (long t (l * level_words) _ room) ∙ stack_cong _ _ _ (λ j h. ap local_of (word t (l * level_words) _ room j h))
+
+  abbrev clash : Bool
+  clash = declared_here (get_or t (l * level_words + depth_place) 0) nm (stack (λ i. local_of (get_or locals i 0)) (length locals))
+
+  by_scan : (b : Bool) → clash ≡ b → declared_here (get_or t (l * level_words + depth_place) 0) nm (locals_of t l) ≡ b
+  by_scan b e = ap (declared_here (get_or t (l * level_words + depth_place) 0) nm) (sym scanned) ∙ e
+
+  pub already : clash ≡ true → DeclaredAt t t l nm (Err undeclared.Already)
+  already e = record { does = by_scan true e; kept = kept_same _ _ t; wf = wf }
+
+  module _ (e : clash ≡ false) where
+    c : declared_here (get_or t (l * level_words + depth_place) 0) nm (locals_of t l) ≡ false
+    c = by_scan false e
+
+    pub full : 256 ≤ get_or t (l * level_words + local_count_place) 0 → DeclaredAt t t l nm (Err undeclared.Full)
     full m = record { does = (c, omega (arith, length_stack (λ i. local_of (get_or t (l * level_words + i) 0)) (get_or t (l * level_words + local_count_place) 0))); kept = kept_same _ _ t; wf = wf }
 
     pub pushed : get_or t (l * level_words + local_count_place) 0 < 256 → DeclaredAt t
         (set (set t (l * level_words + get_or t (l * level_words + local_count_place) 0) (get_or t (l * level_words + depth_place) 0 * 262144 + nm))
-        (l * level_words + local_count_place) (get_or t (l * level_words + local_count_place) 0 + 1)) l nm decl.Done
+        (l * level_words + local_count_place) (get_or t (l * level_words + local_count_place) 0 + 1)) l nm (Ok tt)
     pushed m =
         let n : ℕ = get_or t (l * level_words + local_count_place) 0 in
         let d : ℕ = get_or t (l * level_words + depth_place) 0 in

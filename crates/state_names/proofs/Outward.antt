@@ -12,10 +12,10 @@ use Rattle.rules.specs.Compiler.{Local, Upvalue, CompilerCtx, with_locals, Found
 use Rattle.state.specs.Layout.{levels, locals_of, start_of_code, start_of_runs, ctx_at, parents_of, Wf, upvalues_place, constants_place, depth_place, code_from_place, runs_from_place}
 use Rattle.state.specs.Layout.{level_words, local_count_place, level_used}
 use Rattle.state.specs.Meaning.{Kept, found, Looked, up_of, Added, Captured}
-use Rattle.state.specs.declared.Slot.{Slot}
-use Rattle.state.specs.declared.Slot.TheVariants as slot
-use Rattle.state.specs.declared.Up.{Up}
-use Rattle.state.specs.declared.Up.TheVariants as up
+use Rattle.state.specs.declared.Unready.{Unready}
+use Rattle.state.specs.declared.Uncaptured.{Uncaptured}
+use Rattle.state.specs.declared.Uncaptured.TheVariants as uncaptured
+use Rattle.std.specs.Prelude.{Option, Some, None, Result, Ok, Err}
 use Rattle.state.proofs.Laws.{kept_off, ctx_same, ctx_paths, chunk_same, upvalues_same, parents_named}
 
 -- a context that a change keeps off, and those around it
@@ -30,18 +30,18 @@ parents_off lo hi t t' k kp wf low above off code spans =
     (kept_off lo hi t t' _ kp (λ x y. off runs_from_place (omega arith) (omega arith) x y)) code spans
 
 -- the script has nothing around it
-pub outermost : (t : List ℕ) (nm : ℕ) → Wf t → Captured t t 0 nm up.Nothing
+pub outermost : (t : List ℕ) (nm : ℕ) → Wf t → Captured t t 0 nm (Ok None)
 unfolding parents_of resolve_upvalue
 outermost t nm wf = record { does = λ span code spans ce re. refl; quiet = λ e. refl; kept = record { below = λ j l. refl; above = λ j l. refl }; rest = λ j o a b c. refl; wf = wf }
 
 -- what was not found further out is not found
-stays : (span : Span) (nm : ℕ) (r : Up) → ((i : ℕ) → r ≡ up.At i → ⊥) → (c p x c' : CompilerCtx) (a y ps' : List CompilerCtx) → up_of span nm r c' ps' ≡ through
+stays : (span : Span) (nm : ℕ) (r : Result (Option ℕ) Uncaptured) → ((i : ℕ) → r ≡ Ok (Some i) → ⊥) → (c p x c' : CompilerCtx) (a y ps' : List CompilerCtx) → up_of span nm r c' ps' ≡ through
     no_local (up_of span nm r x y) nm span c p a
 unfolding through further_out
-stays span nm (up.At i) h c p x c' a y ps' = absurd (h i refl)
-stays span nm up.Nothing h c p x c' a y ps' = refl
-stays span nm up.Unready h c p x c' a y ps' = refl
-stays span nm up.Full h c p x c' a y ps' = refl
+stays span nm (Ok (Some i)) h c p x c' a y ps' = absurd (h i refl)
+stays span nm (Ok None) h c p x c' a y ps' = refl
+stays span nm (Err uncaptured.Unready) h c p x c' a y ps' = refl
+stays span nm (Err uncaptured.Full) h c p x c' a y ps' = refl
 
 module _ (t t₁ : List ℕ) (k nm : ℕ) (low : suc k < levels) (wf : Wf t) where
   -- the context around
@@ -54,13 +54,13 @@ module _ (t t₁ : List ℕ) (k nm : ℕ) (low : suc k < levels) (wf : Wf t) whe
   unfolding parents_of resolve_upvalue ctx_at
   step span code spans ce re = refl
 
-  answered : (r : Slot) → Looked t t₁ k nm true r → (span : Span) (code spans : List ℕ) (ce re : ℕ) → resolve_upvalue nm span (ctx_at t code spans (suc k) ce re) (parents_of t code spans (suc k))
+  answered : (r : Result (Option ℕ) Unready) → Looked t t₁ k nm true r → (span : Span) (code spans : List ℕ) (ce re : ℕ) → resolve_upvalue nm span (ctx_at t code spans (suc k) ce re) (parents_of t code spans (suc k))
       ≡ through (found r) (resolve_upvalue nm span (around t code spans) (parents_of t code spans k)) nm span (ctx_at t code spans (suc k) ce re) (around t code spans) (parents_of t code spans k)
   answered r res span code spans ce re = step span code spans ce re ∙ ap
       (λ (f : Found). through f (resolve_upvalue nm span (around t code spans) (parents_of t code spans k)) nm span (ctx_at t code spans (suc k) ce re)
       (around t code spans) (parents_of t code spans k)) (sym res.answer)
 
-  module _ (r : Slot) (res : Looked t t₁ k nm true r) where
+  module _ (r : Result (Option ℕ) Unready) (res : Looked t t₁ k nm true r) where
     top_kept : (code spans : List ℕ) (ce re : ℕ) → ctx_at t₁ code spans (suc k) ce re ≡ ctx_at t code spans (suc k) ce re
     top_kept = ctx_off _ _ t t₁ (suc k) res.kept wf low (λ o h x y. omega arith)
 
@@ -85,47 +85,47 @@ module _ (t t₁ : List ℕ) (k nm : ℕ) (low : suc k < levels) (wf : Wf t) whe
   around_kept t₂ t₃ kp wf₂ = parents_off _ _ t₂ t₃ (suc k) kp wf₂ low (omega arith) (λ o a b x y. omega arith)
 
   -- the enclosing function has the local
-  pub inner : (t₂ : List ℕ) (i : ℕ) (r : Up) → Looked t t₁ k nm true (slot.At i) → Added t₁ t₂ (suc k) (record { idx = i; is_local = true }) r → Captured t t₂ (suc k) nm r
+  pub inner : (t₂ : List ℕ) (i : ℕ) (r : Result (Option ℕ) Uncaptured) → Looked t t₁ k nm true (Ok (Some i)) → Added t₁ t₂ (suc k) (record { idx = i; is_local = true }) r → Captured t t₂ (suc k) nm r
   unfolding through further_out parents_of ctx_at
   inner t₂ i r res add = record {
     does = λ span code spans ce re.
         let u : Upvalue = record { idx = i; is_local = true } in
-        let cf : start_of_code t₁ (suc k) ≡ start_of_code t (suc k) = from_kept (slot.At i) res code_from_place (omega arith) in
-        let rf : start_of_runs t₁ (suc k) ≡ start_of_runs t (suc k) = from_kept (slot.At i) res runs_from_place (omega arith) in
+        let cf : start_of_code t₁ (suc k) ≡ start_of_code t (suc k) = from_kept (Ok (Some i)) res code_from_place (omega arith) in
+        let rf : start_of_runs t₁ (suc k) ≡ start_of_runs t (suc k) = from_kept (Ok (Some i)) res runs_from_place (omega arith) in
         let ps : parents_of t₂ code spans (suc k) ≡ with_locals (around t code spans) (capture nm (locals_of t k)) ∷ parents_of t code spans k =
         around_kept t₁ t₂ add.kept res.wf code spans ∙ ap₂ ◌∷◌
-        (ap₂ (ctx_at t₁ code spans k) cf rf ∙ marked_ctx (slot.At i) res _ res.locals code spans _ _) (outer_kept (slot.At i) res code spans) in
+        (ap₂ (ctx_at t₁ code spans k) cf rf ∙ marked_ctx (Ok (Some i)) res _ res.locals code spans _ _) (outer_kept (Ok (Some i)) res code spans) in
         ap (up_of span nm r (ctx_at t₂ code spans (suc k) ce re)) ps
         ∙ add.does span nm code spans ce re _
-        ∙ ap (λ (c : CompilerCtx). add_upvalue u span c (with_locals (around t code spans) (capture nm (locals_of t k)) ∷ parents_of t code spans k)) (top_kept (slot.At i) res code spans ce re)
-        ∙ sym (answered (slot.At i) res span code spans ce re);
+        ∙ ap (λ (c : CompilerCtx). add_upvalue u span c (with_locals (around t code spans) (capture nm (locals_of t k)) ∷ parents_of t code spans k)) (top_kept (Ok (Some i)) res code spans ce re)
+        ∙ sym (answered (Ok (Some i)) res span code spans ce re);
     quiet = λ e. absurd (add.some e);
     kept = record { below = λ j l. omega arith; above = λ j l. add.kept.above j (omega arith) ∙ res.kept.above j (omega arith) };
     rest = λ j o a b c. kept_off _ _ t₁ t₂ _ add.kept (λ x y. omega arith) ∙ kept_off _ _ t t₁ _ res.kept (λ x y. omega arith);
     wf = add.wf;
   }
 
-  pub unready : Looked t t₁ k nm true slot.Unready → Captured t t₁ (suc k) nm up.Unready
+  pub unready : (e : Unready) → Looked t t₁ k nm true (Err e) → Captured t t₁ (suc k) nm (Err uncaptured.Unready)
   unfolding through further_out
-  unready res = record {
-    does = λ span code spans ce re. sym (answered slot.Unready res span code spans ce re);
+  unready e res = record {
+    does = λ span code spans ce re. sym (answered (Err e) res span code spans ce re);
     quiet = λ e. let z : ◌≡◌ {A = ℕ} 0 1 = cc in absurd (omega arith);
     kept = record { below = λ j l. omega arith; above = λ j l. res.kept.above j (omega arith) };
     rest = λ j o a b c. kept_off _ _ t t₁ _ res.kept (λ x y. omega arith);
     wf = res.wf;
   }
 
-  module _ (res : Looked t t₁ k nm true slot.Nothing) (t₂ : List ℕ) (r : Up) (cap : Captured t₁ t₂ k nm r) where
+  module _ (res : Looked t t₁ k nm true (Ok None)) (t₂ : List ℕ) (r : Result (Option ℕ) Uncaptured) (cap : Captured t₁ t₂ k nm r) where
     -- what the enclosing function's own search does
     rec : (span : Span) (code spans : List ℕ) (ce re : ℕ) → up_of span nm r (ctx_at t₂ code spans k ce re) (parents_of t₂ code spans k) ≡ resolve_upvalue nm span
         (ctx_at t code spans k ce re) (parents_of t code spans k)
     unfolding ctx_at
-    rec span code spans ce re = cap.does span code spans ce re ∙ ap₂ (resolve_upvalue nm span) (marked_ctx slot.Nothing res _ res.locals code spans ce re) (outer_kept slot.Nothing res code spans)
+    rec span code spans ce re = cap.does span code spans ce re ∙ ap₂ (resolve_upvalue nm span) (marked_ctx (Ok None) res _ res.locals code spans ce re) (outer_kept (Ok None) res code spans)
 
     whole : (span : Span) (code spans : List ℕ) (ce re : ℕ) → resolve_upvalue nm span (ctx_at t code spans (suc k) ce re) (parents_of t code spans (suc k))
         ≡ through no_local (up_of span nm r (ctx_at t₂ code spans k (start_of_code t (suc k)) (start_of_runs t (suc k))) (parents_of t₂ code spans k)) nm span
         (ctx_at t code spans (suc k) ce re) (around t code spans) (parents_of t code spans k)
-    whole span code spans ce re = answered slot.Nothing res span code spans ce re
+    whole span code spans ce re = answered (Ok None) res span code spans ce re
         ∙ ap (λ (x : Resolved). through no_local x nm span (ctx_at t code spans (suc k) ce re) (around t code spans) (parents_of t code spans k)) (sym (rec span code spans _ _))
 
     above₂ : (j : ℕ) → suc k * level_words ≤ j → get_or t₂ j 0 ≡ get_or t j 0
@@ -138,7 +138,7 @@ module _ (t t₁ : List ℕ) (k nm : ℕ) (low : suc k < levels) (wf : Wf t) whe
     rest₂ j o a b c =
         ⊎_elim (λ (e : j ≡ suc k). above₂ _ (omega arith)) (λ (l : j < suc k). cap.rest j o (omega arith) b c ∙ kept_off _ _ t t₁ _ res.kept (λ x y. omega arith)) (eq-or-lt_of_le a)
 
-    pub not_found : ((i : ℕ) → r ≡ up.At i → ⊥) → Captured t t₂ (suc k) nm r
+    pub not_found : ((i : ℕ) → r ≡ Ok (Some i) → ⊥) → Captured t t₂ (suc k) nm r
     not_found never = record {
       does = λ span code spans ce re. stays span nm r never _ _ _ _ _ _ _ ∙ sym (whole span code spans ce re);
       quiet = λ e. cap.quiet e ∙ res.quiet refl;
@@ -147,7 +147,7 @@ module _ (t t₁ : List ℕ) (k nm : ℕ) (low : suc k < levels) (wf : Wf t) whe
       wf = cap.wf;
     }
 
-    pub further : (t₃ : List ℕ) (i : ℕ) (r' : Up) → r ≡ up.At i → Added t₂ t₃ (suc k) (record { idx = i; is_local = false }) r' → Captured t t₃ (suc k) nm r'
+    pub further : (t₃ : List ℕ) (i : ℕ) (r' : Result (Option ℕ) Uncaptured) → r ≡ Ok (Some i) → Added t₂ t₃ (suc k) (record { idx = i; is_local = false }) r' → Captured t t₃ (suc k) nm r'
     unfolding through further_out parents_of
     further t₃ i r' e add = record {
       does = λ span code spans ce re.
@@ -160,7 +160,7 @@ module _ (t t₁ : List ℕ) (k nm : ℕ) (low : suc k < levels) (wf : Wf t) whe
           ap (up_of span nm r' (ctx_at t₃ code spans (suc k) ce re)) ps
           ∙ add.does span nm code spans ce re _
           ∙ ap (λ (c : CompilerCtx). add_upvalue u span c (p ∷ parents_of t₂ code spans k)) (top₂ code spans ce re)
-          ∙ ap (λ (x : Up). through no_local (up_of span nm x p (parents_of t₂ code spans k)) nm span (ctx_at t code spans (suc k) ce re) (around t code spans) (parents_of t code spans k)) (sym e)
+          ∙ ap (λ (x : Result (Option ℕ) Uncaptured). through no_local (up_of span nm x p (parents_of t₂ code spans k)) nm span (ctx_at t code spans (suc k) ce re) (around t code spans) (parents_of t code spans k)) (sym e)
           ∙ sym (whole span code spans ce re);
       quiet = λ e. absurd (add.some e);
       kept = record { below = λ j l. omega arith; above = λ j l. add.kept.above j (omega arith) ∙ above₂ j (omega arith) };
@@ -169,27 +169,27 @@ module _ (t t₁ : List ℕ) (k nm : ℕ) (low : suc k < levels) (wf : Wf t) whe
     }
 
 -- the same, of a level that is not 0 and an answer that was told apart: what the code has
-module _ (t t₁ : List ℕ) (l nm : ℕ) (nz : l ≡ 0 → ⊥) (low : l < levels) (wf : Wf t) (s : Slot) (res : Looked t t₁ (l - 1) nm true s) where
+module _ (t t₁ : List ℕ) (l nm : ℕ) (nz : l ≡ 0 → ⊥) (low : l < levels) (wf : Wf t) (s : Result (Option ℕ) Unready) (res : Looked t t₁ (l - 1) nm true s) where
   up_one : l ≡ suc (l - 1)
   up_one = omega arith
 
-  told : (x : Slot) → s ≡ x → Looked t t₁ (l - 1) nm true x
-  told x e = subst (λ (x : Slot). Looked t t₁ (l - 1) nm true x) e res
+  told : (x : Result (Option ℕ) Unready) → s ≡ x → Looked t t₁ (l - 1) nm true x
+  told x e = subst (λ (x : Result (Option ℕ) Unready). Looked t t₁ (l - 1) nm true x) e res
 
-  pub at_inner : (t₂ : List ℕ) (i : ℕ) (r : Up) → s ≡ slot.At i → Added t₁ t₂ l (record { idx = i; is_local = true }) r → Captured t t₂ l nm r
+  pub at_inner : (t₂ : List ℕ) (i : ℕ) (r : Result (Option ℕ) Uncaptured) → s ≡ Ok (Some i) → Added t₁ t₂ l (record { idx = i; is_local = true }) r → Captured t t₂ l nm r
   at_inner t₂ i r e add =
       subst (λ (m : ℕ). Captured t t₂ m nm r) (sym up_one)
-      (inner t t₁ (l - 1) nm (omega arith) wf t₂ i r (told (slot.At i) e) (subst (λ (m : ℕ). Added t₁ t₂ m (record { idx = i; is_local = true }) r) up_one add))
+      (inner t t₁ (l - 1) nm (omega arith) wf t₂ i r (told (Ok (Some i)) e) (subst (λ (m : ℕ). Added t₁ t₂ m (record { idx = i; is_local = true }) r) up_one add))
 
-  pub at_unready : s ≡ slot.Unready → Captured t t₁ l nm up.Unready
-  at_unready e = subst (λ (m : ℕ). Captured t t₁ m nm up.Unready) (sym up_one) (unready t t₁ (l - 1) nm (omega arith) wf (told slot.Unready e))
+  pub at_unready : (u : Unready) → s ≡ Err u → Captured t t₁ l nm (Err uncaptured.Unready)
+  at_unready u e = subst (λ (m : ℕ). Captured t t₁ m nm (Err uncaptured.Unready)) (sym up_one) (unready t t₁ (l - 1) nm (omega arith) wf u (told (Err u) e))
 
-  module _ (e : s ≡ slot.Nothing) (t₂ : List ℕ) (r : Up) (cap : Captured t₁ t₂ (l - 1) nm r) where
-    pub at_not_found : ((i : ℕ) → r ≡ up.At i → ⊥) → Captured t t₂ l nm r
-    at_not_found h = subst (λ (m : ℕ). Captured t t₂ m nm r) (sym up_one) (not_found t t₁ (l - 1) nm (omega arith) wf (told slot.Nothing e) t₂ r cap h)
+  module _ (e : s ≡ Ok None) (t₂ : List ℕ) (r : Result (Option ℕ) Uncaptured) (cap : Captured t₁ t₂ (l - 1) nm r) where
+    pub at_not_found : ((i : ℕ) → r ≡ Ok (Some i) → ⊥) → Captured t t₂ l nm r
+    at_not_found h = subst (λ (m : ℕ). Captured t t₂ m nm r) (sym up_one) (not_found t t₁ (l - 1) nm (omega arith) wf (told (Ok None) e) t₂ r cap h)
 
-    pub at_found : (t₃ : List ℕ) (i : ℕ) (r' : Up) → r ≡ up.At i → Added t₂ t₃ l (record { idx = i; is_local = false }) r' → Captured t t₃ l nm r'
+    pub at_found : (t₃ : List ℕ) (i : ℕ) (r' : Result (Option ℕ) Uncaptured) → r ≡ Ok (Some i) → Added t₂ t₃ l (record { idx = i; is_local = false }) r' → Captured t t₃ l nm r'
     at_found t₃ i r' q add =
         subst (λ (m : ℕ). Captured t t₃ m nm r') (sym up_one)
-        (further t t₁ (l - 1) nm (omega arith) wf (told slot.Nothing e) t₂ r cap t₃ i r' q
+        (further t t₁ (l - 1) nm (omega arith) wf (told (Ok None) e) t₂ r cap t₃ i r' q
         (subst (λ (m : ℕ). Added t₂ t₃ m (record { idx = i; is_local = false }) r') up_one add))

@@ -1,2 +1,2 @@
--- The laws of the scans.
+-- What the scans say of a table.
 pub mod Scan

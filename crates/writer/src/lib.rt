@@ -54,9 +54,9 @@ pub fn put_function(
     let base = level * Table::LEVEL_WORDS;
     let constants = t[base + Table::CONSTANT_COUNT] as usize;
     let code_from = t[base + Table::CODE_FROM] as usize;
+    let code_end = t[Table::CODE_END] as usize;
     let runs_from = t[base + Table::RUNS_FROM] as usize;
-    let code_count = t[Table::CODE_END] as usize - code_from;
-    let run_count = t[Table::RUNS_END] as usize - runs_from;
+    let runs_end = t[Table::RUNS_END] as usize;
     let a = put_head(
         out,
         at,
@@ -64,11 +64,12 @@ pub fn put_function(
         t[base + Table::ARITY],
         t[base + Table::UPVALUE_COUNT],
         constants as u64,
-        run_count as u64,
-        code_count as u64,
+        (runs_end - runs_from) as u64,
+        (code_end - code_from) as u64,
     );
-    let b = put_constants(out, a, t, base + Table::CONSTANTS, constants);
-    let c = put_runs(out, b, spans, runs_from, run_count);
+    let first = base + Table::CONSTANTS;
+    let b = put_constants(out, a, &t[first..first + constants]);
+    let c = put_runs(out, b, &spans[runs_from * 3..runs_end * 3]);
     let d = put_mark(out, c, Mark::CODE);
-    put_code(out, d, code, code_from, code_count)
+    put_code(out, d, &code[code_from..code_end])
 }

@@ -1,16 +1,19 @@
 -- Bytes put one after the other: a byte, and what two calls come to.
-use mathlib.Core.Path.{◌≡◌, refl, sym, ap, ◌∙◌, subst}
+use mathlib.Core.Path.{◌≡◌, refl, sym, ap, ap₂, ◌∙◌, subst}
 use mathlib.Core.Bool.{Bool, true}
 use mathlib.Core.List.{List, ◌∷◌, ◌++◌, append_assoc, append-nil, []}
 use Prim.Native.Nat.{ℕ, zero, suc, ◌+◌, ◌-◌, ◌/◌, ◌%◌, ◌≤◌, ◌<◌}
 use native.Mathlib.Omega.{arith}
+use borrow.Rule.Slice.PartMut.{put_mid}
 use lib.ListN.{length, length-append, length-set, set, replicate}
 use lib.Dec.{leb}
 use Rattle.rules.proofs.Numbers.{le_length}
 use Rattle.rules.specs.Base.{le}
 use Rattle.rules.specs.Image.{join}
 use borrow.Author.Tests.{leb-true}
-use Rattle.writer_bytes.specs.Put.{padded, Put, stretch}
+use Rattle.std.specs.Prelude.{drop, take, map, get_or}
+use Rattle.std.proofs.lemmas.List.{drop_more, drop_all, drop-replicate, take_at, drop_at, length-drop, length-take-le}
+use Rattle.writer_bytes.specs.Put.{padded, Put}
 
 pub length_padded : (room : ℕ) (bs : List ℕ) → length (padded room bs) ≡ room
 unfolding padded
@@ -67,6 +70,36 @@ pub put_none : (out : List ℕ) (at b r : ℕ) → length out ≤ at → r ≡ a
 put_none out at b r l n =
     record { next = n; size = refl; holds = λ bs k h. h ∙ sym (full_padded (length out) bs (b ∷ []) (omega arith)) }
 
+-- all of it at once, where there is room
+pub put_part : (out code part : List ℕ) (at k : ℕ) → at + length code ≤ length out → part ≡ code → k ≡ length code → Put out (put_mid at k out part) at code (at + length code)
+put_part out code part at k room e n =
+    record {
+      next = refl;
+      size =
+          omega (
+            arith,
+            length-append (take at out) (part ++ drop k (drop at out)),
+            length-append part (drop k (drop at out)),
+            length-take-le at out (omega (arith, room)),
+            length-drop k (drop at out),
+            length-drop at out,
+            ap length e,
+            n,
+          );
+      holds =
+          λ bs l h.
+          let zeros : ℕ = length out - length bs in
+          let whole : out ≡ bs ++ replicate zeros 0 = h ∙ whole_padded (length out) bs (omega (arith, l)) in
+          let front : take at out ≡ bs = ap (take at) whole ∙ take_at bs (replicate zeros 0) at l in
+          let rest : drop k (drop at out) ≡ replicate (zeros - k) 0 =
+          ap (λ (o : List ℕ). drop k (drop at o)) whole ∙ ap (drop k) (drop_at bs (replicate zeros 0) at l) ∙ drop-replicate k zeros 0 in
+          let long : length (bs ++ code) ≡ at + length code = omega (arith, length-append bs code, l) in
+          ap₂ (λ (a b : List ℕ). a ++ (part ++ b)) front rest ∙ ap (λ (p : List ℕ). bs ++ (p ++ replicate (zeros - k) 0)) e
+          ∙ sym (append_assoc bs code (replicate (zeros - k) 0))
+          ∙ ap (λ (m : ℕ). (bs ++ code) ++ replicate m 0) (omega (arith, long, l, n))
+          ∙ sym (whole_padded (length out) (bs ++ code) (omega (arith, long)));
+    }
+
 -- one call after the other
 pub put_then : {out mid out' : List ℕ} {at m r : ℕ} {a b : List ℕ} → Put out mid at a m → Put mid out' m b r → Put out out' at (a ++ b) r
 put_then {out} {mid} {out'} {at} {m} {r} {a} {b} p q =
@@ -80,15 +113,6 @@ put_then {out} {mid} {out'} {at} {m} {r} {a} {b} p q =
           q.holds (bs ++ a) l here ∙ ap (λ (n : ℕ). padded n ((bs ++ a) ++ b)) p.size ∙ ap (padded (length out)) (append_assoc bs a b);
     }
 
--- nothing put
-pub put_nothing : (out : List ℕ) (at : ℕ) → Put out out at [] at
-put_nothing out at =
-    record {
-      next = omega arith;
-      size = refl;
-      holds = λ bs k h. h ∙ ap (padded (length out)) (sym (append-nil bs));
-    }
-
 -- what a test of room has shown where it holds
 pub has_room : (at size : ℕ) (out : List ℕ) {r : Bool} → r ≡ leb (at + size) (length out) → r ≡ true → at + size ≤ length out
 has_room at size out e h = leb-true (at + size) (length out) (sym e ∙ h)
@@ -99,9 +123,6 @@ pub record Putting (out out' : List ℕ) (at next : ℕ) (all left : List ℕ) :
   pub done : List ℕ
   pub is : all ≡ done ++ left
   pub put : Put out out' at done next
-
-pub putting_start : (out : List ℕ) (at : ℕ) (all : List ℕ) → Putting out out at at all all
-putting_start out at all = record { done = []; is = refl; put = put_nothing out at }
 
 pub putting_step : {out mid out' : List ℕ} {at m next : ℕ} {all more left now : List ℕ} → Putting out mid at m all now → now ≡ more ++ left →
     Put mid out' m more next → Putting out out' at next all left
@@ -118,38 +139,27 @@ putting_end {out} {out'} {at} {next} {all} p e =
 
 -- ## What is left of each kind
 
-pub le_more : (left m : ℕ) → 0 < left → le left m ≡ (m % 256 ∷ []) ++ le (left - 1) (m / 256)
+pub le_more : (left fewer m : ℕ) → 0 < left → fewer ≡ left - 1 → le left m ≡ (m % 256 ∷ []) ++ le fewer (m / 256)
 unfolding le
-le_more zero m l = absurd (omega arith)
-le_more (suc left) m l = ap (λ (k : ℕ). m % 256 ∷ le k (m / 256)) (less left)
-  where
-    less : (k : ℕ) → k ≡ suc k - 1
-    less k = omega arith
+le_more zero fewer m l e = absurd (omega arith)
+le_more (suc left) fewer m l e = let z : left ≡ fewer = omega (arith, e) in ap (λ (k : ℕ). m % 256 ∷ le k (m / 256)) z
 
 pub le_none : (left m : ℕ) → left ≡ 0 → le left m ≡ []
 unfolding le
 le_none left m e = rw e
 
-pub stretch_more : {A : Type 0} (g : ℕ → A) (from left : ℕ) → 0 < left → stretch g from left ≡ g from ∷ stretch g (from + 1) (left - 1)
-unfolding stretch
-stretch_more g from zero l = absurd (omega arith)
-stretch_more g from (suc left) l = ap (λ (k : ℕ). g from ∷ stretch g (from + 1) k) (less left)
-  where
-    less : (k : ℕ) → k ≡ suc k - 1
-    less k = omega arith
+-- the bytes from `i` on, and the records of what stands from `i` on
+pub bytes_more : (bs : List ℕ) (i : ℕ) → i < length bs → drop i bs ≡ (get_or bs i 0 ∷ []) ++ drop (i + 1) bs
+bytes_more bs i l = drop_more bs i 0 l
 
-pub stretch_none : {A : Type 0} (g : ℕ → A) (from left : ℕ) → left ≡ 0 → stretch g from left ≡ []
-unfolding stretch
-stretch_none g from left e = rw e
-
--- the records of a stretch
-pub join_more : {A : Type 0} (f : A → List ℕ) (g : ℕ → A) (from left : ℕ) → 0 < left → join f (stretch g from left) ≡ f (g from) ++ join f (stretch g (from + 1) (left - 1))
+pub join_more : {A : Type 0} (f : A → List ℕ) (g : ℕ → A) (xs : List ℕ) (i : ℕ) → i < length xs
+    → join f (map g (drop i xs)) ≡ f (g (get_or xs i 0)) ++ join f (map g (drop (i + 1) xs))
 unfolding join
-join_more f g from left l = ap (join f) (stretch_more g from left l)
+join_more f g xs i l = ap (λ (ys : List ℕ). join f (map g ys)) (drop_more xs i 0 l)
 
-pub join_none : {A : Type 0} (f : A → List ℕ) (g : ℕ → A) (from left : ℕ) → left ≡ 0 → join f (stretch g from left) ≡ []
+pub join_none : {A : Type 0} (f : A → List ℕ) (g : ℕ → A) (xs : List ℕ) (i : ℕ) → length xs ≤ i → join f (map g (drop i xs)) ≡ []
 unfolding join
-join_none f g from left e = ap (join f) (stretch_none g from left e)
+join_none f g xs i l = ap (λ (ys : List ℕ). join f (map g ys)) (drop_all i xs l)
 
 -- where a number ends
 pub le_next : {out out' : List ℕ} {at r : ℕ} (count n : ℕ) → Put out out' at (le count n) r → r ≡ at + count

@@ -1,5 +1,5 @@
 -- What the output holds while the image is written: its bytes as far as there is room, then zeros.
-use Rattle.std.specs.Prelude.{◌≡◌, List, ◌∷◌, ◌++◌, ℕ, zero, suc, ◌+◌, length, get_or, []}
+use Rattle.std.specs.Prelude.{◌≡◌, List, ◌∷◌, ◌++◌, ℕ, zero, suc, ◌+◌, length, []}
 
 unfoldable pub padded : (room : ℕ) → List ℕ → List ℕ
 padded zero bs = []
@@ -11,13 +11,3 @@ pub record Put (out out' : List ℕ) (at : ℕ) (more : List ℕ) (r : ℕ) : Ty
   pub next : r ≡ at + length more
   pub size : length out' ≡ length out
   pub holds : (bs : List ℕ) → length bs ≡ at → out ≡ padded (length out) bs → out' ≡ padded (length out) (bs ++ more)
-
--- ## What is put
-
--- g from, g (from + 1), .. , as many as `count`
-unfoldable pub stretch : {A : Type 0} → (ℕ → A) → (from count : ℕ) → List A
-stretch g from zero = []
-stretch g from (suc count) = g from ∷ stretch g (from + 1) count
-
-abbrev pub byte_at : (code : List ℕ) → (i : ℕ) → ℕ
-byte_at code i = get_or code i 0

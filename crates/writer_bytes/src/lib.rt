@@ -1,11 +1,12 @@
 // Bytes put behind what the output holds so far. Where the output has no room the length is counted on, so that the length needed is known in
-// the end. Where room was tested once, for a record or a stretch of code, `set_*` set its bytes with no test more; `put_*` test at each byte, for
-// what a function or an image has once, and for the record that does not fit and those behind it.
+// the end. Where room was tested once, for a record, `set_*` set its bytes with no test more; `put_*` test at each byte, for
+// what a function or an image has once, and for the record that does not fit and those behind it. The two differ in what they ask and in that test,
+// not in a constant: one function with a flag would have to ask either by the flag, and be no plainer.
 #![tactic(auto)]
 
 ghost use Rattle.std.specs.Prelude.{[], ◌∷◌, ◌+◌, ◌/◌, ◌%◌, ◌≤◌, length};
 ghost use Rattle.rules.specs.Base.{le};
-ghost use Rattle.writer_bytes.specs.Put.{Put, stretch, byte_at};
+ghost use Rattle.writer_bytes.specs.Put.{Put};
 
 use fields::has;
 
@@ -25,11 +26,9 @@ pub fn set_le(out: &mut [u8], at: usize, n: u64, count: usize) -> usize
 {
     let mut next = at;
     let mut m = n;
-    let mut left = count;
-    while 0 < left {
+    for _ in 0..count {
         next = set_u8(out, next, (m % 256) as u8);
         m = m / 256;
-        left -= 1;
     }
     next
 }
@@ -41,22 +40,6 @@ pub fn set_mark(out: &mut [u8], at: usize, mark: u16) -> usize
 {
     let next = set_u8(out, at, (mark / 256) as u8);
     set_u8(out, next, (mark % 256) as u8)
-}
-
-// The bytes of a stretch of code, where there is room.
-fn set_code(out: &mut [u8], at: usize, code: &[u8], from: usize, count: usize) -> usize
-    requires { (from + count ≤ length code.now) × (at + count ≤ length out.old) }
-    ensures { Put out.old out.new at (stretch (byte_at code.now) from count) result }
-{
-    let mut next = at;
-    let mut i = from;
-    let mut left = count;
-    while 0 < left {
-        next = set_u8(out, next, code[i]);
-        i += 1;
-        left -= 1;
-    }
-    next
 }
 
 // One byte.
@@ -78,11 +61,9 @@ pub fn put_le(out: &mut [u8], at: usize, n: u64, count: usize) -> usize
 {
     let mut next = at;
     let mut m = n;
-    let mut left = count;
-    while 0 < left {
+    for _ in 0..count {
         next = put_u8(out, next, (m % 256) as u8);
         m = m / 256;
-        left -= 1;
     }
     next
 }
@@ -97,20 +78,17 @@ pub fn put_mark(out: &mut [u8], at: usize, mark: u16) -> usize
 }
 
 // The bytes of a stretch of code.
-pub fn put_code(out: &mut [u8], at: usize, code: &[u8], from: usize, count: usize) -> usize
-    requires { (from + count ≤ length code.now) × (at + count ≤ 1152921504606846976) }
-    ensures { Put out.old out.new at (stretch (byte_at code.now) from count) result }
+pub fn put_code(out: &mut [u8], at: usize, code: &[u8]) -> usize
+    requires { at + length code.now ≤ 1152921504606846976 }
+    ensures { Put out.old out.new at code.now result }
 {
-    if has(&out[..], at, count) {
-        return set_code(out, at, code, from, count);
+    if has(&out[..], at, code.len()) {
+        out[at..at + code.len()].copy_from_slice(code);
+        return at + code.len();
     }
     let mut next = at;
-    let mut i = from;
-    let mut left = count;
-    while 0 < left {
-        next = put_u8(out, next, code[i]);
-        i += 1;
-        left -= 1;
+    for b in code {
+        next = put_u8(out, next, *b);
     }
     next
 }

@@ -47,13 +47,10 @@ function_size mark n m = rw (ne_eqb _ _ n, ne_eqb _ _ m)
 -- ## Constants
 
 module _ (s : List ℕ) where
-  pub constants_more : (left at : ℕ) → 0 < left → constants_end s left at ≡ constants_end s (left - 1) (constant_end s at)
+  pub constants_more : (left fewer at : ℕ) → 0 < left → fewer ≡ left - 1 → constants_end s left at ≡ constants_end s fewer (constant_end s at)
   unfolding constants_end
-  constants_more zero at h = absurd (omega arith)
-  constants_more (suc left) at h = ap (λ (k : ℕ). constants_end s k (constant_end s at)) (less left)
-    where
-      less : (k : ℕ) → k ≡ suc k - 1
-      less k = omega arith
+  constants_more zero fewer at h e = absurd (omega arith)
+  constants_more (suc left) fewer at h e = let z : left ≡ fewer = omega (arith, e) in ap (λ (k : ℕ). constants_end s k (constant_end s at)) z
 
   pub constants_none : (left at : ℕ) → left ≡ 0 → at ≡ constants_end s left at
   unfolding constants_end

@@ -45,6 +45,9 @@ pub record Walking (functions : List ObjectFunction) (out : List ℕ) (next at l
   pub holds : out ≡ padded (length out) (held functions ++ done)
   pub behind : length (held functions ++ done) ≡ next
 
+pub walk_same : {functions : List ObjectFunction} {out : List ℕ} {next at left some : ℕ} → some ≡ left → Walking functions out next at left → Walking functions out next at some
+walk_same {functions} {out} {next} {at} e w = subst (Walking functions out next at) (sym e) w
+
 -- what is put behind the walk's last place
 put_on : (bs : List ℕ) {more out out' : List ℕ} {at next : ℕ} → out ≡ padded (length out) bs → length bs ≡ at → Put out out' at more next
     → (out' ≡ padded (length out') (bs ++ more)) × (length (bs ++ more) ≡ next)
@@ -129,11 +132,10 @@ module _ {functions : List ObjectFunction} (counted : AllCounted functions) wher
           behind = behind;
         }
 
-  pub walk_step : {out out' : List ℕ} {m next at here on left : ℕ} → Walking functions out m at left → 0 < left → here ≡ at
-      → Put out out' m (le 4 here) next → next ≤ length out' → on ≡ record_end out' at → Walking functions out' next on (left - 1)
-  walk_step {out} {out'} {m} {next} {left = left} w some h p room e =
-      subst (λ (k : ℕ). Walking functions out' next k (left - 1)) (sym e)
-      (step w some (subst (λ (k : ℕ). Put out out' m (le 4 k) next) h p) room w.ahead refl)
+  pub walk_step : {out out' : List ℕ} {m next at on left fewer : ℕ} → Walking functions out m at left → 0 < left
+      → Put out out' m (le 4 at) next → next ≤ length out' → on ≡ record_end out' at → fewer ≡ left - 1 → Walking functions out' next on fewer
+  walk_step {out} {out'} {m} {next} {left = left} w some p room e f =
+      walk_same f (subst (λ (k : ℕ). Walking functions out' next k (left - 1)) (sym e) (step w some p room w.ahead refl))
 
 -- ## After it
 

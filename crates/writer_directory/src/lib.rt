@@ -6,7 +6,7 @@
 ghost use Rattle.std.specs.Prelude.{◌≡◌, ◌+◌, ◌*◌, ◌≤◌, length};
 ghost use Rattle.writer_directory.specs.Walk.{constant_end, constants_end, record_end, Directed};
 
-use fields::{Mark, has, long, mark_at, u16_at, u32_at, wide16, wide32};
+use fields::{Mark, has, mark_at, u16_at, u32_at};
 use writer_bytes::{set_le, set_mark};
 
 // Where the first record stands, behind the image's mark and count.
@@ -38,10 +38,8 @@ fn constants_end(s: &[u8], begin: usize, count: usize) -> usize
     ensures { result ≡ constants_end s.now count begin }
 {
     let mut at = begin;
-    let mut left = count;
-    while 0 < left {
+    for _ in 0..count {
         at = constant_end(s, at);
-        left -= 1;
     }
     at
 }
@@ -53,9 +51,9 @@ fn record_end(s: &[u8], at: usize) -> usize
     if !has(s, at, HEAD_BYTES) {
         return at;
     }
-    let constants = wide16(u16_at(s, at + 7));
-    let runs = wide32(u32_at(s, at + 9));
-    let code = wide32(u32_at(s, at + 13));
+    let constants = u16_at(s, at + 7) as usize;
+    let runs = u32_at(s, at + 9) as usize;
+    let code = u32_at(s, at + 13) as usize;
     let runs_at = constants_end(s, at + HEAD_BYTES, constants);
     runs_at + RUN_BYTES * runs + (2 + code)
 }
@@ -68,10 +66,8 @@ pub fn put_directory(out: &mut [u8], n: usize, functions: u64)
     let count_at = set_mark(out, n, Mark::DIRECTORY);
     let mut next = set_le(out, count_at, functions, 4);
     let mut at: usize = FIRST;
-    let mut entries = functions;
-    while 0 < entries {
-        next = set_le(out, next, long(at), 4);
+    for _ in 0..functions {
+        next = set_le(out, next, at as u64, 4);
         at = record_end(&out[..], at);
-        entries -= 1;
     }
 }

@@ -1,10 +1,10 @@
 // Runs put into the output: room for a run is tested once.
 #![tactic(auto)]
 
-ghost use Rattle.std.specs.Prelude.{◌+◌, ◌*◌, ◌≤◌, length};
+ghost use Rattle.std.specs.Prelude.{◌+◌, ◌*◌, ◌/◌, ◌≤◌, length};
 ghost use Rattle.rules.specs.Image.{join, run_bytes};
-ghost use Rattle.state.specs.Layout.{run_at};
-ghost use Rattle.writer_bytes.specs.Put.{Put, stretch};
+ghost use Rattle.state.specs.Layout.{row, run_at};
+ghost use Rattle.writer_bytes.specs.Put.{Put};
 ghost use Rattle.writer_runs.specs.Runs.{run_of};
 
 use fields::{Mark, has};
@@ -35,18 +35,14 @@ pub fn put_run(out: &mut [u8], at: usize, start: u32, end: u32, count: u32) -> u
     put_le(out, c, count as u64, 1)
 }
 
-// The runs from number `from` on, three words each.
-pub fn put_runs(out: &mut [u8], at: usize, spans: &[u32], from: usize, count: usize) -> usize
-    requires { ((from + count) * 3 ≤ length spans.now) × (at + count * 11 ≤ 1152921504606846976) }
-    ensures { Put out.old out.new at (join run_bytes (stretch (run_at spans.now) from count)) result }
+// The runs, three words each.
+pub fn put_runs(out: &mut [u8], at: usize, spans: &[u32]) -> usize
+    requires { at + length spans.now / 3 * 11 ≤ 1152921504606846976 }
+    ensures { Put out.old out.new at (join run_bytes (row (run_at spans.now) (length spans.now / 3))) result }
 {
     let mut next = at;
-    let mut i = from;
-    let mut left = count;
-    while 0 < left {
+    for i in 0..spans.len() / 3 {
         next = put_run(out, next, spans[i * 3], spans[i * 3 + 1], spans[i * 3 + 2]);
-        i += 1;
-        left -= 1;
     }
     next
 }

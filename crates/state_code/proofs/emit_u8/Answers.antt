@@ -1,5 +1,4 @@
 -- `emit_u8` meets its contract.
-use Prim.Native.Nat.{◌-◌}
 use native.Mathlib.Omega.{arith}
 use mathlib.Core.Path.{sym, ◌∙◌}
 use lib.ListN.{length-set}
@@ -10,7 +9,7 @@ use Rattle.state_code.proofs.emit_u8.Goals as goal
 pub returns-then-limit-n : goal.returns-then-limit-n
 returns-then-limit-n c =
     let a = c.args in
-    ways.full a.t.now a.code.now a.spans.now a.level a.limit a.byte a.span c.requires.0 c.requires.1 c.requires.2 c.if-limit-n.true
+    ways.full a.t.now a.code.now a.spans.now a.level a.limit a.byte a.span c.requires.0 c.requires.1 c.requires.2 _ c.if-limit-n.true
 
 pub overflow_sub-at : goal.overflow_sub-at
 overflow_sub-at c =

@@ -1,37 +1,18 @@
 -- `write_constant` meets its contract.
-use Prim.Native.Nat.{◌+◌, ◌*◌, ◌-◌, ◌≤◌}
-use native.Mathlib.Omega.{arith}
-use lib.ListN.{get_or, length-set}
 use Rattle.state_code.proofs.Constant as ways
-use Rattle.state.specs.Layout.{constant_count_place, level_words}
 use Rattle.state_code.proofs.write_constant.Goals as goal
-use Rattle.state_code.proofs.write_constant.Lts as lts
-use Rattle.state_code.proofs.write_constant.Reads as reads
-use Rattle.state_code.proofs.write_constant.Tie as tie
 
-few : (s : lts.Start tie.the-claims reads.Pre reads.Post) → get_or s.args.t.now (s.args.level * level_words + constant_count_place) 0 ≤ 256
-few s = s.requires.1.few_constants s.args.level s.requires.0
-
-pub first-place-requires : goal.first-place-requires
-first-place-requires c = omega (arith, few c.before.before)
-
-pub overflow_cast-result : goal.overflow_cast-result
-overflow_cast-result c = omega (arith, few c.before.before.before.before)
-
-pub returns-then-place-n : goal.returns-then-place-n
-returns-then-place-n c =
+pub returns-in-Some : goal.returns-in-Some
+returns-in-Some c =
     let a = c.args in
-    ways.there a.t.now a.level a.w c.requires.0 c.requires.1 c.first-place.result c.first-place.ensures c.if-place-n.true
+    ways.there a.t.now a.level a.w c.requires.0 c.requires.1 _ c.in-Some.ensures
 
 pub returns-then-n-ge-CONSTANTS : goal.returns-then-n-ge-CONSTANTS
 returns-then-n-ge-CONSTANTS c =
     let a = c.args in
-    ways.full a.t.now a.level a.w c.requires.0 c.requires.1 c.first-place.result c.first-place.ensures c.if-place-n.false c.if-n-ge-CONSTANTS.true
-
-pub bounds-t-count-2 : goal.bounds-t-count-2
-bounds-t-count-2 c = simp length-set (omega arith)
+    ways.full a.t.now a.level a.w c.requires.0 c.requires.1 c.in_default.ensures _ c.if-n-ge-CONSTANTS.true
 
 pub returns : goal.returns
 returns c =
     let a = c.args in
-    ways.pushed a.t.now a.level a.w c.requires.0 c.requires.1 c.first-place.result c.first-place.ensures c.if-place-n.false c.if-n-ge-CONSTANTS.false
+    ways.pushed a.t.now a.level a.w c.requires.0 c.requires.1 c.in_default.ensures c.if-n-ge-CONSTANTS.false

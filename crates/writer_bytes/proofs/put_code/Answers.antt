@@ -1,51 +1,16 @@
--- `put_code`: set where there is room for the whole stretch. Else, of the stretch, what is left is still to be put.
-use Rattle.writer_bytes.specs.Put.{byte_at}
-use Rattle.writer_bytes.proofs.Padding.{putting_start, putting_step, putting_end, has_room, stretch_more, stretch_none}
-use borrow.Author.Rules.{rules}
+-- `put_code`: set where there is room for all. Else, of the bytes, what is left is still to be put.
 use native.Mathlib.Omega.{arith}
+use Rattle.std.specs.Prelude.{length}
+use Rattle.writer_bytes.proofs.Padding.{putting_step, has_room, put_part, bytes_more}
 use Rattle.writer_bytes.proofs.put_code.Goals as goal
 
-pub set_code-requires : goal.set_code-requires
-set_code-requires c = (
-  search rules,
-  omega (
-    arith,
-    has_room c.args.at c.args.count c.args.out.now
-        c.has.ensures c.if-has.true,
-  ),
-)
-
 pub returns-then-has : goal.returns-then-has
-returns-then-has c = c.set_code.ensures
+returns-then-has c =
+    let a = c.args in
+    put_part a.out.now a.code.now _ a.at _ (has_room a.at (length a.code.now) a.out.now c.has.ensures c.if-has.true) c.copy_from_slice.ensures.after (omega arith)
 
-pub loop-left-init : goal.loop-left-init
-loop-left-init c = (putting_start _ _ _, search rules, search rules)
-
-pub bounds-code-i : goal.bounds-code-i
-bounds-code-i c = omega (arith, c.loop-left.invariant.2, c.loop-left-test.true)
-
-pub put_u8-next-requires : goal.put_u8-next-requires
-put_u8-next-requires c = omega (arith, c.loop-left.invariant.1, c.loop-left-test.true)
-
-pub overflow_add-i : goal.overflow_add-i
-overflow_add-i c = omega (arith, c.loop-left.invariant.2, c.loop-left-test.true)
-
-pub loop-left-preserved : goal.loop-left-preserved
-loop-left-preserved c = (
-  putting_step c.loop-left.invariant.0 (stretch_more (byte_at c.args.code.now)
-      c.loop-left.i c.loop-left.left c.loop-left-test.true)
-      c.put_u8-next.ensures,
-  omega (
-    arith,
-    c.put_u8-next.ensures.next,
-    c.loop-left.invariant.1,
-    c.loop-left-test.true,
-  ),
-  omega (arith, c.loop-left.invariant.2, c.loop-left-test.true),
+pub loop-b-preserved : goal.loop-b-preserved
+loop-b-preserved c = (
+  putting_step c.loop-b.invariant.0 (bytes_more c.args.code.now c.loop-b.b-index c.loop-b-test.true) c.put_u8-next.ensures,
+  omega (arith, c.put_u8-next.ensures.next, c.loop-b.invariant.1, c.loop-b-test.true),
 )
-
-pub shape_of-out : goal.shape_of-out
-shape_of-out c = c.loop-left.invariant.0.put.size
-
-pub returns : goal.returns
-returns c = putting_end c.loop-left.invariant.0 (stretch_none (byte_at c.args.code.now) c.loop-left.i c.loop-left.left (omega (arith, c.loop-left-test.false)))

@@ -2,15 +2,11 @@
 use mathlib.Core.Path.{refl, ◌∙◌}
 use native.Mathlib.Omega.{arith}
 use Rattle.writer_bytes.proofs.Padding.{le_next}
-use Rattle.writer_directory.proofs.Walking.{walk_step, directed}
+use Rattle.writer_directory.proofs.Walking.{walk_same, walk_step, directed}
 use Rattle.writer_directory.proofs.put_directory.Goals as goal
 
-pub set_le-next-requires : goal.set_le-next-requires
-set_le-next-requires c =
-    omega (arith, c.requires, c.set_mark-count_at.ensures.next, c.set_mark-count_at.ensures.size)
-
-pub loop-entries-init : goal.loop-entries-init
-loop-entries-init c = (
+pub loop-init : goal.loop-init
+loop-init c = (
   omega (
     arith,
     c.requires,
@@ -20,28 +16,22 @@ loop-entries-init c = (
     c.set_le-next.ensures.size,
   ),
   refl,
-  λ fs a w. w,
+  λ fs a w. walk_same (omega arith) w,
 )
 
-pub set_le-next-requires-in-loop-entries : goal.set_le-next-requires-in-loop-entries
-set_le-next-requires-in-loop-entries c = omega (arith, c.loop-entries.invariant.0, c.loop-entries-test.true)
-
-pub loop-entries-preserved : goal.loop-entries-preserved
-loop-entries-preserved c =
-    let put = c.set_le-next-in-loop-entries.ensures in
-    let test = c.loop-entries-test.true in
-    let next = le_next 4 c.long.result put in (
-      omega (arith, next, put.size, c.loop-entries.invariant.0, test),
-      put.size ∙ c.loop-entries.invariant.1,
+pub loop-preserved : goal.loop-preserved
+loop-preserved c =
+    let put = c.set_le-next-in-loop.ensures in
+    let test = c.loop-test.true in
+    let next = le_next 4 c.loop.at put in (
+      omega (arith, next, put.size, c.loop.invariant.0, test),
+      put.size ∙ c.loop.invariant.1,
       λ fs a w.
-          walk_step a (c.loop-entries.invariant.2 fs a w) (omega (arith, test)) c.long.ensures put
-          (omega (arith, next, put.size, c.loop-entries.invariant.0, test)) c.record_end-at.ensures,
+          walk_step a (c.loop.invariant.2 fs a w) (omega (arith, test)) put
+          (omega (arith, next, put.size, c.loop.invariant.0, test)) c.record_end-at.ensures (omega arith),
     )
-
-pub shape_of-out : goal.shape_of-out
-shape_of-out c = c.loop-entries.invariant.1 ∙ c.set_le-next.ensures.size ∙ c.set_mark-count_at.ensures.size
 
 pub returns : goal.returns
 returns c =
     directed c.set_mark-count_at.ensures c.set_le-next.ensures
-    (shape_of-out c) (omega (arith, c.loop-entries-test.false)) c.loop-entries.invariant.2 (omega arith)
+    (c.loop.invariant.1 ∙ c.set_le-next.ensures.size ∙ c.set_mark-count_at.ensures.size) (omega (arith, c.loop-test.false)) c.loop.invariant.2 (omega arith)

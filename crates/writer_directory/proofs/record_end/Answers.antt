@@ -18,42 +18,21 @@ returns-then-not-has c =
 near : (s : List ℕ) (at count runs_at : ℕ) → at + 17 ≤ length s → runs_at ≡ constants_end s count (at + 17) → runs_at ≤ length s + 8
 near s at count runs_at there is = omega (arith, is, constants_near s count (at + 17) (omega (arith, there)))
 
-pub overflow_add-at : goal.overflow_add-at
-overflow_add-at c = omega (arith, leb-true _ _ (sym c.has.ensures ∙ c.if-not-has.false), c.well_formed)
-
-pub u16_at-requires : goal.u16_at-requires
-u16_at-requires c = omega (arith, leb-true _ _ (sym c.has.ensures ∙ c.if-not-has.false))
-
-pub overflow_add-at-2 : goal.overflow_add-at-2
-overflow_add-at-2 c = omega (arith, leb-true _ _ (sym c.has.ensures ∙ c.if-not-has.false), c.well_formed)
-
-pub u32_at-requires : goal.u32_at-requires
-u32_at-requires c = omega (arith, leb-true _ _ (sym c.has.ensures ∙ c.if-not-has.false))
-
-pub overflow_add-at-3 : goal.overflow_add-at-3
-overflow_add-at-3 c = omega (arith, leb-true _ _ (sym c.has.ensures ∙ c.if-not-has.false), c.well_formed)
-
-pub u32_at-requires-2 : goal.u32_at-requires-2
-u32_at-requires-2 c = omega (arith, leb-true _ _ (sym c.has.ensures ∙ c.if-not-has.false))
-
-pub overflow_add-at-4 : goal.overflow_add-at-4
-overflow_add-at-4 c = omega (arith, leb-true _ _ (sym c.has.ensures ∙ c.if-not-has.false), c.well_formed)
-
 pub overflow_add-result : goal.overflow_add-result
 overflow_add-result c =
-    let bound = near c.args.s.now c.args.at c.wide16-constants.result c.constants_end-runs_at.result
+    let bound = near c.args.s.now c.args.at c.u16_at-constants.result c.constants_end-runs_at.result
     (leb-true _ _ (sym c.has.ensures ∙ c.if-not-has.false)) c.constants_end-runs_at.ensures in
-    omega (arith, bound, c.wide32-runs.ensures.1, c.well_formed)
+    omega (arith, bound, c.well_formed)
 
 pub overflow_add-result-3 : goal.overflow_add-result-3
 overflow_add-result-3 c =
-    let bound = near c.args.s.now c.args.at c.wide16-constants.result c.constants_end-runs_at.result
+    let bound = near c.args.s.now c.args.at c.u16_at-constants.result c.constants_end-runs_at.result
     (leb-true _ _ (sym c.has.ensures ∙ c.if-not-has.false)) c.constants_end-runs_at.ensures in
-    omega (arith, bound, c.wide32-runs.ensures.1, c.wide32-code.ensures.1, c.well_formed)
+    omega (arith, bound, c.well_formed)
 
 pub returns : goal.returns
 returns c =
     let a = c.args in
-    let e = c.constants_end-runs_at.ensures ∙ ap (λ (k : ℕ). constants_end a.s.now k (a.at + 17)) (c.wide16-constants.ensures.0 ∙ c.u16_at.ensures) in
-    omega (arith, e, c.wide32-runs.ensures.0 ∙ c.u32_at.ensures, c.wide32-code.ensures.0 ∙ c.u32_at-2.ensures) ∙
+    let e = c.constants_end-runs_at.ensures ∙ ap (λ (k : ℕ). constants_end a.s.now k (a.at + 17)) c.u16_at-constants.ensures in
+    omega (arith, e, c.u32_at-runs.ensures, c.u32_at-code.ensures) ∙
     record_there a.s.now a.at (leb-true _ _ (sym c.has.ensures ∙ c.if-not-has.false))

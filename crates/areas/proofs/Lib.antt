@@ -1,2 +1,0 @@
--- The law of the three loops.
-pub mod Clear

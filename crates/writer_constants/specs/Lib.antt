@@ -1,2 +1,0 @@
--- What the contracts of this crate cite.
-pub mod Constants
