@@ -2,7 +2,7 @@
 use mathlib.Core.Path.{◌≡◌, refl, sym, ap, subst, ◌∙◌}
 use mathlib.Core.Bool.{Bool, true, false}
 use mathlib.Core.List.{List, ◌∷◌, []}
-use Prim.Native.Nat.{ℕ, ◌+◌, ◌*◌, ◌-◌, ◌≤◌, ◌<◌}
+use Prim.Native.Nat.{ℕ, ◌+◌, ◌*◌, ◌≤◌, ◌<◌}
 use native.Mathlib.Omega.{arith}
 use lib.ListN.{length, get_or, length-append, replicate, length-replicate}
 use lib.Dec.{ltb}
@@ -14,13 +14,10 @@ use Rattle.rules.specs.Compiler.{Compiler, Outcome, ok, err, go_on, ◌>>=◌, �
 use Rattle.state.specs.Layout.{levels, image_at, constant_of, end_of_code, end_of_runs, chunk_at, ctx_at, parents_of, constants_place, depth_place, code_from_place, runs_from_place, name_place, level_words}
 use Rattle.state.specs.Meaning.{top_chunk, Wrote, WroteAs, Constants, written_as}
 use Rattle.state.proofs.Laws.{kept_off, ctx_paths, locals_same, upvalues_same, parents_same}
-use Rattle.state.specs.declared.Emitted.{Emitted}
-use Rattle.state.specs.declared.Emitted.TheVariants as emitted
-use Rattle.state.specs.declared.Constanted.{Constanted}
-use Rattle.state.specs.declared.Constanted.TheVariants as constanted
+use Rattle.state.specs.declared.Full.{Full}
 use Rattle.steps.specs.View.{Mem, mem, t_of, Rest, view, Agrees, Fit, code_len, depth_at, Turn, steady, Ahead, Gave, Refused, DidAs, Did}
-use Rattle.steps.specs.declared.Step.{Step}
-use Rattle.steps.specs.declared.Step.TheVariants.{Next, Stop}
+use Rattle.steps.specs.Why.{Step}
+use Rattle.std.specs.Prelude.{Result, Ok, Err, ⊤}
 use Rattle.steps.proofs.Steps.{went, ahead_then, refuses_in}
 use Rattle.steps.proofs.Views.{open_is, view_len, still_agrees, ahead_kept, view_chunk}
 use Rattle.steps.specs.Why.{code_full, too_many_constants, refusal_of, told}
@@ -40,18 +37,18 @@ emit_full : (limit byte : ℕ) (span : Span) (x : Compiler) → limit ≤ open_c
 unfolding need go_on
 emit_full limit byte span x h = emit_is limit byte span x false (le-ltb _ _ h)
 
-module _ (l limit byte : ℕ) (span : Span) (t code spans t' code' spans' : List ℕ) (r : Emitted) (fit : Fit (mem t code spans) l limit)
+module _ (l limit byte : ℕ) (span : Span) (t code spans t' code' spans' : List ℕ) (r : Result ⊤ Full) (fit : Fit (mem t code spans) l limit)
     (w : Wrote t code spans t' code' spans' l limit byte span r) where
   at : (k o : ℕ) → k < levels → o < level_words → get_or t' (k * level_words + o) 0 ≡ get_or t (k * level_words + o) 0
   at k o h g = kept_off _ _ t t' _ w.kept (λ x y. omega arith)
 
-  as_done : r ≡ emitted.Done → WroteAs t code spans t' code' spans' l limit byte span emitted.Done
-  as_done q = subst (λ (e : Emitted). WroteAs t code spans t' code' spans' l limit byte span e) q w.does
+  as_done : {v : ⊤} → r ≡ Ok v → WroteAs t code spans t' code' spans' l limit byte span (Ok v)
+  as_done q = subst (λ (e : Result ⊤ Full). WroteAs t code spans t' code' spans' l limit byte span e) q w.does
 
-  as_full : r ≡ emitted.Full → limit ≤ end_of_code t
-  as_full q = subst (λ (e : Emitted). WroteAs t code spans t' code' spans' l limit byte span e) q w.does
+  as_full : {e : Full} → r ≡ Err e → limit ≤ end_of_code t
+  as_full q = subst (λ (e : Result ⊤ Full). WroteAs t code spans t' code' spans' l limit byte span e) q w.does
 
-  view_now : r ≡ emitted.Done → (rest : Rest) → with_ctx (view (mem t code spans) l rest)
+  view_now : {v : ⊤} → r ≡ Ok v → (rest : Rest) → with_ctx (view (mem t code spans) l rest)
       (with_chunk (view (mem t code spans) l rest).ctx (write_u8 (view (mem t code spans) l rest).ctx.chunk byte span)) ≡ view (mem t' code' spans') l rest
   unfolding view ctx_at
   view_now q rest =
@@ -66,7 +63,7 @@ module _ (l limit byte : ℕ) (span : Span) (t code spans t' code' spans' : List
       (at l runs_from_place low (omega arith)) ok'.order ok'.order_runs (λ i h. w.code_kept i (omega (arith, ok'.top))) w.runs_kept in
       sym (λ i. record { ctx = c i; parents = ps i; class_ctx = rest.classes; functions = rest.functions })
 
-  ops_more : r ≡ emitted.Done → code_len (mem t' code' spans') l ≡ code_len (mem t code spans) l + 1
+  ops_more : {v : ⊤} → r ≡ Ok v → code_len (mem t' code' spans') l ≡ code_len (mem t code spans) l + 1
   unfolding write_u8
   ops_more q =
       let nobody : Rest = record { classes = []; functions = [] } in
@@ -74,7 +71,7 @@ module _ (l limit byte : ℕ) (span : Span) (t code spans t' code' spans' : List
       let b = view_len (mem t code spans) l nobody in
       omega (arith, ap (λ (x : Compiler). length x.ctx.chunk.ops) (view_now q nobody), length-append (view (mem t code spans) l nobody).ctx.chunk.ops (byte ∷ []))
 
-  pub byte_gave : {class : ℕ} → r ≡ emitted.Done → Gave class limit l steady (emit_u8 limit byte span) tt (mem t code spans) (mem t' code' spans')
+  pub byte_gave : {class : ℕ} {v : ⊤} → r ≡ Ok v → Gave class limit l steady (emit_u8 limit byte span) tt (mem t code spans) (mem t' code' spans')
   unfolding depth_at
   byte_gave q =
       let low = fit.low in
@@ -92,7 +89,7 @@ module _ (l limit byte : ℕ) (span : Span) (t code spans t' code' spans' : List
         };
       }
 
-  pub byte_full : {class : ℕ} → r ≡ emitted.Full → Refused class l (emit_u8 limit byte span) (mem t code spans) (told t' (code_full l))
+  pub byte_full : {class : ℕ} {e : Full} → r ≡ Err e → Refused class l (emit_u8 limit byte span) (mem t code spans) (told t' (code_full l))
   unfolding refusal_of
   byte_full q = refuses_in (code_full l) refl t' (at l name_place fit.low (omega arith))
       (λ rest _. emit_full limit byte span (view (mem t code spans) l rest) (omega (arith, as_full q, open_is t code spans l limit rest fit.coded)))
@@ -116,7 +113,7 @@ unmade = record { name = 0; arity = 0; upvalue_count = 0; chunk = empty_chunk }
 abbrev nobody : Mem → Rest
 nobody m = record { classes = []; functions = replicate (get_or (t_of m) image_at 0) unmade }
 
-pub longer : {limit l n v : ℕ} (byte : ℕ) (span : Span) {before now : Mem} {r : Step} → Did 0 limit l n steady (emit_u8 limit byte span) before now r → r ≡ Next
+pub longer : {limit l n v : ℕ} (byte : ℕ) (span : Span) {before now : Mem} {r : Step} → Did 0 limit l n steady (emit_u8 limit byte span) before now r → r ≡ Ok
     v → code_len now l ≡ code_len before l + 1
 longer {limit = limit} {l = l} byte span {before = before} {now = now} d e =
     let g = went d e in
@@ -143,29 +140,29 @@ place_full : (limit : ℕ) (span : Span) (x : Compiler) → emit_place limit no_
 unfolding emit_place refuse
 place_full limit span x = refl
 
-module _ (l limit w : ℕ) (span : Span) (t code spans t' : List ℕ) (r : Constanted) (fit : Fit (mem t code spans) l limit) (c : Constants t t' l w r) where
+module _ (l limit w : ℕ) (span : Span) (t code spans t' : List ℕ) (r : Result ℕ Full) (fit : Fit (mem t code spans) l limit) (c : Constants t t' l w r) where
   constant_ahead : Ahead l limit steady (mem t code spans) (mem t' code spans)
   constant_ahead = ahead_kept t code spans t' l limit constants_place depth_place fit c.wf c.kept (omega arith)
 
   pub constant_fit : Fit (mem t' code spans) l limit
   constant_fit = constant_ahead.fit
 
-  does_as : (s : Constanted) → r ≡ s → (rest : Rest) → write_constant (view (mem t code spans) l rest).ctx.chunk (constant_of w) ≡ written_as s (chunk_at t' code spans l (end_of_code t) (end_of_runs t))
+  does_as : (s : Result ℕ Full) → r ≡ s → (rest : Rest) → write_constant (view (mem t code spans) l rest).ctx.chunk (constant_of w) ≡ written_as s (chunk_at t' code spans l (end_of_code t) (end_of_runs t))
   unfolding view ctx_at
-  does_as s q rest = sym (c.does code spans (end_of_code t) (end_of_runs t)) ∙ ap (λ (s : Constanted). written_as s (chunk_at t' code spans l (end_of_code t) (end_of_runs t))) q
+  does_as s q rest = sym (c.does code spans (end_of_code t) (end_of_runs t)) ∙ ap (λ (s : Result ℕ Full). written_as s (chunk_at t' code spans l (end_of_code t) (end_of_runs t))) q
 
-  constant_view : (i : ℕ) → r ≡ constanted.At i → (rest : Rest) → emit_constant limit (constant_of w) span (view (mem t code spans) l rest) ≡ emit_u8 limit i span (view (mem t' code spans) l rest)
+  constant_view : (i : ℕ) → r ≡ Ok i → (rest : Rest) → emit_constant limit (constant_of w) span (view (mem t code spans) l rest) ≡ emit_u8 limit i span (view (mem t' code spans) l rest)
   constant_view i q rest =
-      place_is limit span (constant_of w) (view (mem t code spans) l rest) _ (does_as (constanted.At i) q rest)
+      place_is limit span (constant_of w) (view (mem t code spans) l rest) _ (does_as (Ok i) q rest)
       ∙ place_at limit span i _ (view (mem t code spans) l rest)
       ∙ ap (emit_u8 limit i span) (sym (view_chunk t code spans t' l _ fit.wf fit.low c.kept refl rest))
 
   back : {class : ℕ} {rest : Rest} → Agrees class (mem t code spans) rest → Agrees class (mem t' code spans) rest
   back h = let low = fit.low in still_agrees (c.kept.above _ (omega arith)) h
 
-  constant_as : {class n : ℕ} (i : ℕ) {now : Mem} (a : Step) → r ≡ constanted.At i → Did class limit l n steady (emit_u8 limit i span) (mem t' code spans) now a
+  constant_as : {class n : ℕ} (i : ℕ) {now : Mem} (a : Step) → r ≡ Ok i → Did class limit l n steady (emit_u8 limit i span) (mem t' code spans) now a
       → DidAs class limit l n steady (emit_constant limit (constant_of w) span) (mem t code spans) now a
-  constant_as i (Next v) q d =
+  constant_as i (Ok v) q d =
       let g = d.does.0 in (
         record {
           comes = λ rest h. constant_view i q rest ∙ g.comes rest (back h);
@@ -174,17 +171,17 @@ module _ (l limit w : ℕ) (span : Span) (t code spans t' : List ℕ) (r : Const
         },
         d.does.1,
       )
-  constant_as i (Stop x) q d = record { refuses = λ rest h. constant_view i q rest ∙ d.does.refuses rest (back h) }
+  constant_as i (Err x) q d = record { refuses = λ rest h. constant_view i q rest ∙ d.does.refuses rest (back h) }
 
-  pub constant_then : {class n : ℕ} (i : ℕ) {now : Mem} {a : Step} → r ≡ constanted.At i → Did class limit l n steady (emit_u8 limit i span) (mem t' code spans)
+  pub constant_then : {class n : ℕ} (i : ℕ) {now : Mem} {a : Step} → r ≡ Ok i → Did class limit l n steady (emit_u8 limit i span) (mem t' code spans)
       now a → Did class limit l n steady (emit_constant limit (constant_of w) span) (mem t code spans) now a
   constant_then i {a = a} q d = record { does = constant_as i a q d }
 
-  pub constant_full : {class : ℕ} → r ≡ constanted.Full → Refused class l (emit_constant limit (constant_of w) span) (mem t code spans)
+  pub constant_full : {class : ℕ} {e : Full} → r ≡ Err e → Refused class l (emit_constant limit (constant_of w) span) (mem t code spans)
       (told t' (too_many_constants l span))
   unfolding refusal_of
   constant_full q = refuses_in (too_many_constants l span) refl t' (c.kept.above _ (omega arith)) (λ rest _.
-      place_is limit span (constant_of w) (view (mem t code spans) l rest) _ (does_as constanted.Full q rest) ∙
+      place_is limit span (constant_of w) (view (mem t code spans) l rest) _ (does_as (Err _) q rest) ∙
       place_full limit span (view (mem t code spans) l rest))
 
 -- the same constant by another name

@@ -8,7 +8,7 @@ ghost use Rattle.state.specs.Layout.{constant_of};
 ghost use Rattle.steps.specs.View.{mem, Fit, steady, Did};
 
 use rules::Span;
-use steps::{Step, Why};
+use steps::{Reason, Step, Why};
 
 // An instruction with no operand, or a byte of one.
 pub fn emit_op(
@@ -25,15 +25,15 @@ pub fn emit_op(
     ensures { (class : ℕ) → Did class limit level next steady (emit_op limit byte span) (mem t.old code.old spans.old) (mem t.new code.new spans.new) result }
 {
     let r = state_code::emit_u8(t, code, spans, level, limit, byte, span);
-    let state::Emitted::Done = r else {
-        return Step::Stop(Why {
-            number: Why::CODE_FULL,
+    let Ok(()) = r else {
+        return Err(Why {
+            reason: Reason::CodeFull,
             span: Span { start: 0, end: 0 },
             name: 0,
             around: level,
         });
     };
-    Step::Next(next)
+    Ok(next)
 }
 
 pub fn emit_op_u8(
@@ -51,7 +51,7 @@ pub fn emit_op_u8(
     ensures { (class : ℕ) → Did class limit level next steady (emit_op_u8 limit op operand span) (mem t.old code.old spans.old) (mem t.new code.new spans.new) result }
 {
     let a = emit_op(t, code, spans, level, limit, op, span, next);
-    let Step::Next(_) = a else {
+    let Ok(_) = a else {
         return a;
     };
     emit_op(t, code, spans, level, limit, operand, span, next)
@@ -72,9 +72,9 @@ pub fn emit_constant(
     ensures { (class : ℕ) → Did class limit level next steady (emit_constant limit (constant_of w) span) (mem t.old code.old spans.old) (mem t.new code.new spans.new) result }
 {
     let r = state_code::write_constant(t, level, w);
-    let state::Constanted::At(place) = r else {
-        return Step::Stop(Why {
-            number: Why::TOO_MANY_CONSTANTS,
+    let Ok(place) = r else {
+        return Err(Why {
+            reason: Reason::TooManyConstants,
             span,
             name: 0,
             around: level,
@@ -98,14 +98,14 @@ pub fn emit_op_constant(
     ensures { (class : ℕ) → Did class limit level next steady (emit_op_constant limit op (constant_of w) span) (mem t.old code.old spans.old) (mem t.new code.new spans.new) result }
 {
     let a = emit_op(t, code, spans, level, limit, op, span, next);
-    let Step::Next(_) = a else {
+    let Ok(_) = a else {
         return a;
     };
     let b = emit_constant(t, code, spans, level, limit, w, span, next);
-    let Step::Next(_) = b else {
+    let Ok(_) = b else {
         return b;
     };
-    Step::Next(next)
+    Ok(next)
 }
 
 // A name's word as a constant, and a function's.
@@ -165,11 +165,11 @@ pub fn emit_invoke(
     ensures { (class : ℕ) → Did class limit level next steady (emit_invoke limit op (CS name) count span) (mem t.old code.old spans.old) (mem t.new code.new spans.new) result }
 {
     let a = emit_op(t, code, spans, level, limit, op, span, next);
-    let Step::Next(_) = a else {
+    let Ok(_) = a else {
         return a;
     };
     let b = emit_constant(t, code, spans, level, limit, name_word(name), span, next);
-    let Step::Next(_) = b else {
+    let Ok(_) = b else {
         return b;
     };
     emit_op(t, code, spans, level, limit, count, span, next)

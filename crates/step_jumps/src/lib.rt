@@ -10,7 +10,7 @@ use op::Op;
 use rules::{Limit, Span};
 use state::Table;
 use step_bytes::emit_op;
-use steps::{Step, Why};
+use steps::{Reason, Step, Why};
 
 // Where the innermost function's next byte goes: also where a loop starts.
 pub fn code_length(t: &[u64], level: usize) -> usize
@@ -36,19 +36,19 @@ pub fn emit_jump(
     ensures { (class : ℕ) → Opened class limit level steady (emit_jump limit op span) (mem t.old code.old spans.old) (mem t.new code.new spans.new) result }
 {
     let a = emit_op(t, code, spans, level, limit, op, span, 0);
-    let Step::Next(_) = a else {
+    let Ok(_) = a else {
         return a;
     };
     let b = emit_op(t, code, spans, level, limit, 255, span, 0);
-    let Step::Next(_) = b else {
+    let Ok(_) = b else {
         return b;
     };
     let d = emit_op(t, code, spans, level, limit, 255, span, 0);
-    let Step::Next(_) = d else {
+    let Ok(_) = d else {
         return d;
     };
     let n = code_length(&t[..], level);
-    Step::Next(n - 2)
+    Ok(n - 2)
 }
 
 // The operand at `place` set so that the jump lands on the end of the code.
@@ -69,8 +69,8 @@ pub fn patch_jump(
     let end = t[Table::CODE_END] as usize;
     let distance = end - from - 2 - place;
     if Limit::JUMP < distance {
-        return Step::Stop(Why {
-            number: Why::JUMP_TOO_LARGE,
+        return Err(Why {
+            reason: Reason::JumpTooLarge,
             span,
             name: 0,
             around: level,
@@ -79,7 +79,7 @@ pub fn patch_jump(
     let at = from + place;
     code[at] = (distance % 256) as u8;
     code[at + 1] = (distance / 256) as u8;
-    Step::Next(next)
+    Ok(next)
 }
 
 // A jump back to `start`.
@@ -98,19 +98,19 @@ pub fn emit_loop(
 {
     let back = code_length(&t[..], level) + 3 - start;
     if Limit::JUMP < back {
-        return Step::Stop(Why {
-            number: Why::JUMP_TOO_LARGE,
+        return Err(Why {
+            reason: Reason::JumpTooLarge,
             span,
             name: 0,
             around: level,
         });
     }
     let a = emit_op(t, code, spans, level, limit, Op::LOOP, span, next);
-    let Step::Next(_) = a else {
+    let Ok(_) = a else {
         return a;
     };
     let b = emit_op(t, code, spans, level, limit, (back % 256) as u8, span, next);
-    let Step::Next(_) = b else {
+    let Ok(_) = b else {
         return b;
     };
     emit_op(t, code, spans, level, limit, (back / 256) as u8, span, next)

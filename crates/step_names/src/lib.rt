@@ -5,41 +5,43 @@ ghost use Rattle.std.specs.Prelude.{◌≡◌, ℕ, ◌<◌, ◌&&◌, eqb};
 ghost use Rattle.rules.specs.Compiler.{get_variable, set_variable, define_name};
 ghost use Rattle.rules.specs.Tree.{this_name};
 ghost use Rattle.state.specs.Layout.{levels, Wf};
+ghost use Rattle.step_names.specs.Access.{op_of, access_name};
 ghost use Rattle.steps.specs.View.{mem, Fit, steady, Did, Placed};
 
 use op::Op;
 use rules::{Name, Span};
+use state::Uncaptured;
 use step_bytes::{emit_op_name, emit_op_u8};
 use step_scopes::{declare_local, define_local, is_global};
-use steps::{Class, Place, Step, Why};
+use steps::{Class, Place, Reason, Step, Why};
 
-pub fn resolve(t: &mut [u64], level: usize, name: u16, span: Span) -> Place
+pub fn resolve(t: &mut [u64], level: usize, name: u16, span: Span) -> Result<Place, Why>
     requires { (level < levels) × (Wf t.old) }
     ensures { Placed level name span t.old t.new result }
 {
     let slot = state_names::resolve_local(t, level, name, false);
     match slot {
-        state::Slot::At(i) => return Place::Local(i),
-        state::Slot::Unready => return Place::Nowhere(Why {
-            number: Why::ACCESS_INSIDE_INITIALIZER,
+        Ok(Some(i)) => return Ok(Place::Local(i)),
+        Err(_) => return Err(Why {
+            reason: Reason::AccessInsideInitializer,
             span,
             name,
             around: level,
         }),
-        state::Slot::Nothing => {}
+        Ok(None) => {}
     }
     let up = state_names::resolve_upvalue(t, level, name);
     match up {
-        state::Up::At(i) => Place::Upvalue(i),
-        state::Up::Nothing => Place::Global,
-        state::Up::Unready => Place::Nowhere(Why {
-            number: Why::ACCESS_INSIDE_INITIALIZER,
+        Ok(Some(i)) => Ok(Place::Upvalue(i)),
+        Ok(None) => Ok(Place::Global),
+        Err(Uncaptured::Unready) => Err(Why {
+            reason: Reason::AccessInsideInitializer,
             span,
             name,
             around: level,
         }),
-        state::Up::Full => Place::Nowhere(Why {
-            number: Why::TOO_MANY_UPVALUES,
+        Err(Uncaptured::Full) => Err(Why {
+            reason: Reason::TooManyUpvalues,
             span,
             name: 0,
             around: level,
@@ -57,6 +59,57 @@ pub fn lost_this(name: u16, class: u8) -> bool
     class == Class::NONE
 }
 
+// What is done with a variable.
+#[derive(Clone, Copy)]
+enum Access {
+    Get,
+    Set,
+}
+
+impl Access {
+    // The instruction that does it, by where the variable is found.
+    fn op(self, place: Place) -> u8
+        ensures { result ≡ op_of self place }
+    {
+        match (self, place) {
+            (Access::Get, Place::Local(_)) => Op::GET_LOCAL,
+            (Access::Get, Place::Upvalue(_)) => Op::GET_UPVALUE,
+            (Access::Get, Place::Global) => Op::GET_GLOBAL,
+            (Access::Set, Place::Local(_)) => Op::SET_LOCAL,
+            (Access::Set, Place::Upvalue(_)) => Op::SET_UPVALUE,
+            (Access::Set, Place::Global) => Op::SET_GLOBAL,
+        }
+    }
+}
+
+// The variable of a name is found, and read or set.
+fn access_variable(
+    t: &mut [u64],
+    code: &mut [u8],
+    spans: &mut [u32],
+    level: usize,
+    limit: usize,
+    access: Access,
+    name: u16,
+    span: Span,
+    next: usize,
+) -> Step
+    requires { Fit (mem t.old code.old spans.old) level limit }
+    ensures { (class : ℕ) → Did class limit level next steady (access_name access limit name span) (mem t.old code.old spans.old) (mem t.new code.new spans.new) result }
+{
+    let found = resolve(t, level, name, span);
+    let place = match found {
+        Ok(place) => place,
+        Err(why) => return Err(why),
+    };
+    let op = access.op(place);
+    match place {
+        Place::Local(slot) => emit_op_u8(t, code, spans, level, limit, op, slot, span, next),
+        Place::Upvalue(slot) => emit_op_u8(t, code, spans, level, limit, op, slot, span, next),
+        Place::Global => emit_op_name(t, code, spans, level, limit, op, name, span, next),
+    }
+}
+
 pub fn get_variable(
     t: &mut [u64],
     code: &mut [u8],
@@ -72,48 +125,18 @@ pub fn get_variable(
     ensures { Did class limit level next steady (get_variable limit name span) (mem t.old code.old spans.old) (mem t.new code.new spans.new) result }
 {
     if lost_this(name, class) {
-        return Step::Stop(Why {
-            number: Why::THIS_OUTSIDE_CLASS,
+        return Err(Why {
+            reason: Reason::ThisOutsideClass,
             span,
             name: 0,
             around: level,
         });
     }
-    let place = resolve(t, level, name, span);
-    match place {
-        Place::Local(i) => {
-            let a = emit_op_u8(t, code, spans, level, limit, Op::GET_LOCAL, i, span, next);
-            let Step::Next(_) = a else {
-                return a;
-            };
-            Step::Next(next)
-        }
-        Place::Upvalue(i) => {
-            let a = emit_op_u8(t, code, spans, level, limit, Op::GET_UPVALUE, i, span, next);
-            let Step::Next(_) = a else {
-                return a;
-            };
-            Step::Next(next)
-        }
-        Place::Global => {
-            let a = emit_op_name(
-                t,
-                code,
-                spans,
-                level,
-                limit,
-                Op::GET_GLOBAL,
-                name,
-                span,
-                next,
-            );
-            let Step::Next(_) = a else {
-                return a;
-            };
-            Step::Next(next)
-        }
-        Place::Nowhere(x) => Step::Stop(x),
-    }
+    let a = access_variable(t, code, spans, level, limit, Access::Get, name, span, next);
+    let Ok(_) = a else {
+        return a;
+    };
+    Ok(next)
 }
 
 pub fn set_variable(
@@ -129,41 +152,11 @@ pub fn set_variable(
     requires { Fit (mem t.old code.old spans.old) level limit }
     ensures { (class : ℕ) → Did class limit level next steady (set_variable limit name span) (mem t.old code.old spans.old) (mem t.new code.new spans.new) result }
 {
-    let place = resolve(t, level, name, span);
-    match place {
-        Place::Local(i) => {
-            let a = emit_op_u8(t, code, spans, level, limit, Op::SET_LOCAL, i, span, next);
-            let Step::Next(_) = a else {
-                return a;
-            };
-            Step::Next(next)
-        }
-        Place::Upvalue(i) => {
-            let a = emit_op_u8(t, code, spans, level, limit, Op::SET_UPVALUE, i, span, next);
-            let Step::Next(_) = a else {
-                return a;
-            };
-            Step::Next(next)
-        }
-        Place::Global => {
-            let a = emit_op_name(
-                t,
-                code,
-                spans,
-                level,
-                limit,
-                Op::SET_GLOBAL,
-                name,
-                span,
-                next,
-            );
-            let Step::Next(_) = a else {
-                return a;
-            };
-            Step::Next(next)
-        }
-        Place::Nowhere(x) => Step::Stop(x),
-    }
+    let a = access_variable(t, code, spans, level, limit, Access::Set, name, span, next);
+    let Ok(_) = a else {
+        return a;
+    };
+    Ok(next)
 }
 
 // A global is defined, or a local declared and defined.
@@ -194,9 +187,9 @@ pub fn define_name(
         );
     }
     let a = declare_local(t, level, name, span, next);
-    let Step::Next(_) = a else {
+    let Ok(_) = a else {
         return a;
     };
     define_local(t, level);
-    Step::Next(next)
+    Ok(next)
 }

@@ -11,8 +11,8 @@ use Rattle.rules.specs.Compiler.{Upvalue, Compiler, ◌>>◌, done, return, emit
 use Rattle.state.specs.Layout.{levels, row, upvalue_of, upvalues_of, upvalues_place, upvalue_count_place, level_words}
 use Rattle.state.proofs.Laws.{row_cong}
 use Rattle.steps.specs.View.{Mem, mem, t_of, Rest, view, Fit, steady, Did, Turning, PairedAs, PairedAt}
-use Rattle.steps.specs.declared.Step.{Step}
-use Rattle.steps.specs.declared.Step.TheVariants.{Next, Stop}
+use Rattle.steps.specs.Why.{Step}
+use Rattle.std.specs.Prelude.{Ok, Err}
 use Rattle.steps.proofs.Steps.{went, stuck, next, stop, ahead_then, seq_ok, seq_err}
 use Rattle.steps.proofs.Jumps.{ahead_none}
 use Rattle.steps.specs.declared.Why.{Why}
@@ -28,7 +28,7 @@ module _ (limit l w : ℕ) (span : Span) (half : w < 512) where
   pair_is us x = ap (λ (b : ℕ). (emit_u8 limit b span >> (emit_u8 limit (w % 256) span >> emit_upvalues limit us span)) x) (sym (bit (w / 256) (omega arith)))
 
   pub pair_first : {before now : Mem} {r : Step} {x : Why} → ((class : ℕ) → Did class limit l 0 steady (emit_op limit (w / 256) span) before now r) → r ≡
-      Stop x → PairedAt limit l w span before now r
+      Err x → PairedAt limit l w span before now r
   unfolding emit_op
   pair_first {before} {now} {r} {x} d q = record {
     does = subst (λ (s : Step). PairedAs limit l w span before now s) (sym q) (λ us class. record {
@@ -36,10 +36,10 @@ module _ (limit l w : ℕ) (span : Span) (half : w < 512) where
     });
   }
 
-  module _ {v : ℕ} {before mid : Mem} {r : Step} (d : (class : ℕ) → Did class limit l 0 steady (emit_op limit (w / 256) span) before mid r) (q : r ≡ Next v) where
+  module _ {v : ℕ} {before mid : Mem} {r : Step} (d : (class : ℕ) → Did class limit l 0 steady (emit_op limit (w / 256) span) before mid r) (q : r ≡ Ok v) where
     pair_as : {now : Mem} (s : Step) → ((class : ℕ) → Did class limit l 0 steady (emit_op limit (w % 256) span) mid now s) → PairedAs limit l w span before now s
     unfolding emit_op
-    pair_as (Next k) e = λ us. record {
+    pair_as (Ok k) e = λ us. record {
       same = λ {class} rest h.
           let g = went (d class) q in
           pair_is us (view before l rest) ∙ seq_ok (emit_u8 limit (w / 256) span) (view before l rest) _ (g.comes rest h)
@@ -47,7 +47,7 @@ module _ (limit l w : ℕ) (span : Span) (half : w < 512) where
       agrees = λ {class} rest h. (e class).does.0.agrees rest ((went (d class) q).agrees rest h);
       ahead = ahead_then (went (d 0) q).ahead (e 0).does.0.ahead;
     }
-    pair_as (Stop x) e = λ us class. record {
+    pair_as (Err x) e = λ us class. record {
       refuses = λ rest h.
           let g = went (d class) q in
           pair_is us (view before l rest) ∙ seq_ok (emit_u8 limit (w / 256) span) (view before l rest) _ (g.comes rest h)
@@ -98,9 +98,9 @@ module _ (limit l : ℕ) (span : Span) (t₀ code₀ spans₀ : List ℕ) (i n :
     here : (rest : Rest) → emit_upvalues limit (from t₀ l i n) span (view mid l rest) ≡ emit_upvalues limit (upvalue_of w ∷ from t₀ l (i + 1) n) span (view mid l rest)
     here rest = ap (λ (us : List Upvalue). emit_upvalues limit us span (view mid l rest)) (split t₀ l i n more ∙ ap (λ (k : ℕ). upvalue_of k ∷ from t₀ l (i + 1) n) (sym is))
 
-    pub going_on : {v : ℕ} → r ≡ Next v → Going limit l span t₀ code₀ spans₀ (i + 1) n now
+    pub going_on : {v : ℕ} → r ≡ Ok v → Going limit l span t₀ code₀ spans₀ (i + 1) n now
     going_on {v} q =
-        let x : PairedAs limit l w span mid now (Next v) = subst (λ (s : Step). PairedAs limit l w span mid now s) q p.does in
+        let x : PairedAs limit l w span mid now (Ok v) = subst (λ (s : Step). PairedAs limit l w span mid now s) q p.does in
         let y = x (from t₀ l (i + 1) n) in
         record {
           same = λ rest h. g.same rest h ∙ here rest ∙ y.same rest (g.agrees rest h);
@@ -108,13 +108,13 @@ module _ (limit l : ℕ) (span : Span) (t₀ code₀ spans₀ : List ℕ) (i n :
           ahead = ahead_then g.ahead y.ahead;
         }
 
-    pub going_stop : {class k : ℕ} {x : Why} → r ≡ Stop x → Did class limit l k steady (emit_upvalues limit (upvalues_of t₀ (l + 1)) span) (mem t₀ code₀ spans₀) now r
+    pub going_stop : {class k : ℕ} {x : Why} → r ≡ Err x → Did class limit l k steady (emit_upvalues limit (upvalues_of t₀ (l + 1)) span) (mem t₀ code₀ spans₀) now r
     going_stop {class} {k} {x} q =
-        let y : PairedAs limit l w span mid now (Stop x) = subst (λ (s : Step). PairedAs limit l w span mid now s) q p.does in
+        let y : PairedAs limit l w span mid now (Err x) = subst (λ (s : Step). PairedAs limit l w span mid now s) q p.does in
         subst (λ (s : Step). Did class limit l k steady (emit_upvalues limit (upvalues_of t₀ (l + 1)) span) (mem t₀ code₀ spans₀) now s) (sym q)
         (stop now (record { refuses = λ rest h. g.same rest h ∙ here rest ∙ (y (from t₀ l (i + 1) n) class).refuses rest (g.agrees rest h) }))
 
-  pub gone : {class k : ℕ} → n ≤ i → Did class limit l k steady (emit_upvalues limit (upvalues_of t₀ (l + 1)) span) (mem t₀ code₀ spans₀) mid (Next k)
+  pub gone : {class k : ℕ} → n ≤ i → Did class limit l k steady (emit_upvalues limit (upvalues_of t₀ (l + 1)) span) (mem t₀ code₀ spans₀) mid (Ok k)
   unfolding row emit_upvalues done return
   gone h =
       let e : n - i ≡ 0 = omega arith in

@@ -12,12 +12,12 @@ use Rattle.rules.specs.Answer.{NO_SPAN}
 use Rattle.rules.specs.Op as op
 use Rattle.rules.specs.declared.Span.{Span}
 use Rattle.rules.specs.declared.Refusal.TheVariants.{SuperOutsideClass, SuperWithoutSuperclass}
-use Rattle.rules.specs.Compiler.{Compiler, ok, err, go_on, ◌>>=◌, ◌>>◌, done, return, refuse, need, the, stopped, innermost_has_super, need_super, ends_in_return, emit_op, emit_op_u8, compile_value, return_value, compile_return, implicit_return}
+use Rattle.rules.specs.Compiler.{Compiler, ok, err, go_on, ◌>>=◌, done, return, refuse, need, the, stopped, innermost_has_super, need_super, ends_in_return, emit_op, emit_op_u8, compile_value, return_value, compile_return, implicit_return}
 use Rattle.state.specs.Layout.{row, type_of, start_of_code, end_of_code, chunk_at, ctx_at, type_place, level_words}
 use Rattle.state.proofs.Laws.{row_snoc}
 use Rattle.steps.specs.View.{Mem, mem, t_of, Rest, view, top_class, Fit, steady, Refused, DidAs, Did, Told, Judged, Ending}
-use Rattle.steps.specs.declared.Step.{Step}
-use Rattle.steps.specs.declared.Step.TheVariants.{Next, Stop}
+use Rattle.steps.specs.Why.{Step}
+use Rattle.std.specs.Prelude.{Ok, Err}
 use Rattle.steps.proofs.Steps.{next, stop, refuses_in}
 use Rattle.steps.proofs.Jumps.{ahead_none}
 use Rattle.steps.specs.Why.{return_outside_function, super_outside_class, super_without_superclass, refusal_of, told}
@@ -47,19 +47,19 @@ has_super (true ∷ cs) span x e f = refl
 has_super (false ∷ cs) span x e f = absurd (f refl)
 
 module _ (class l n : ℕ) (span : Span) where
-  pub super_outside : class ≡ 0 → Judged class l n (need_super span) (Stop (super_outside_class l span))
+  pub super_outside : class ≡ 0 → Judged class l n (need_super span) (Err (super_outside_class l span))
   unfolding refusal_of
   super_outside e = record {
     gives = λ m fit. stop _ (refuses_in (super_outside_class l span) refl (t_of m) refl (λ rest h. needs_is span m l rest ∙ has_none rest.classes span (view m l rest) (h.innermost ∙ e)));
   }
 
-  pub super_without : class ≡ 1 → Judged class l n (need_super span) (Stop (super_without_superclass l span))
+  pub super_without : class ≡ 1 → Judged class l n (need_super span) (Err (super_without_superclass l span))
   unfolding refusal_of
   super_without e = record {
     gives = λ m fit. stop _ (refuses_in (super_without_superclass l span) refl (t_of m) refl (λ rest h. needs_is span m l rest ∙ has_plain rest.classes span (view m l rest) (h.innermost ∙ e)));
   }
 
-  pub super_there : (class ≡ 0 → ⊥) → (class ≡ 1 → ⊥) → Judged class l n (need_super span) (Next n)
+  pub super_there : (class ≡ 0 → ⊥) → (class ≡ 1 → ⊥) → Judged class l n (need_super span) (Ok n)
   super_there e f = record {
     gives = λ m fit. next (record {
       comes = λ rest h. needs_is span m l rest ∙ has_super rest.classes span (view m l rest) (λ z. e (sym h.innermost ∙ z)) (λ z. f (sym h.innermost ∙ z));
@@ -127,7 +127,7 @@ unfolding implicit_return ◌>>=◌ the go_on
 implicit_is limit x b e = ap (λ (b : Bool). (if b then done else compile_return limit none NO_SPAN) x) e
 
 module _ (limit l n : ℕ) (t code spans : List ℕ) (b : Bool) (w : Ending t code l b) where
-  pub returned : {class : ℕ} → b ≡ true → Fit (mem t code spans) l limit → Did class limit l n steady (implicit_return limit) (mem t code spans) (mem t code spans) (Next n)
+  pub returned : {class : ℕ} → b ≡ true → Fit (mem t code spans) l limit → Did class limit l n steady (implicit_return limit) (mem t code spans) (mem t code spans) (Ok n)
   unfolding done return
   returned e fit = next (record {
     comes = λ rest h. implicit_is limit (view (mem t code spans) l rest) true (w.is spans rest ∙ e);
@@ -137,7 +137,7 @@ module _ (limit l n : ℕ) (t code spans : List ℕ) (b : Bool) (w : Ending t co
 
   returns_as : {class : ℕ} {now : Mem} (r : Step) → b ≡ false → Did class limit l n steady (compile_return limit none NO_SPAN) (mem t code spans) now r → DidAs
       class limit l n steady (implicit_return limit) (mem t code spans) now r
-  returns_as (Next v) e d = (
+  returns_as (Ok v) e d = (
     record {
       comes = λ rest h. implicit_is limit (view (mem t code spans) l rest) false (w.is spans rest ∙ e) ∙ d.does.0.comes rest
           h;
@@ -146,7 +146,7 @@ module _ (limit l n : ℕ) (t code spans : List ℕ) (b : Bool) (w : Ending t co
     },
     d.does.1,
   )
-  returns_as (Stop x) e d = record { refuses = λ rest h. implicit_is limit (view (mem t code spans) l rest) false (w.is spans rest ∙ e) ∙ d.does.refuses rest h }
+  returns_as (Err x) e d = record { refuses = λ rest h. implicit_is limit (view (mem t code spans) l rest) false (w.is spans rest ∙ e) ∙ d.does.refuses rest h }
 
   pub returns_now : {class : ℕ} {now : Mem} {r : Step} → b ≡ false → Did class limit l n steady (compile_return limit none NO_SPAN) (mem t code spans) now r →
       Did class limit l n steady (implicit_return limit) (mem t code spans) now r

@@ -11,36 +11,29 @@ use op::Op;
 use rules::{Name, Span};
 use state::{Kind, Table};
 use step_bytes::{emit_op, emit_op_u8};
-use steps::{Class, Step, Why};
-
-// As words of the table.
-const SCRIPT: u64 = Kind::SCRIPT as u64;
-
-const INITIALIZER: u64 = Kind::INITIALIZER as u64;
-
-const SCRIPT_NAME: u64 = Name::SCRIPT as u64;
+use steps::{Class, Reason, Step, Why};
 
 // `super`, which a class with a superclass must be around.
 pub fn need_super(level: usize, class: u8, span: Span, next: usize) -> Step
     ensures { Judged class level next (need_super span) result }
 {
     if class == Class::NONE {
-        return Step::Stop(Why {
-            number: Why::SUPER_OUTSIDE_CLASS,
+        return Err(Why {
+            reason: Reason::SuperOutsideClass,
             span,
             name: 0,
             around: level,
         });
     }
     if class == Class::ALONE {
-        return Step::Stop(Why {
-            number: Why::SUPER_WITHOUT_SUPERCLASS,
+        return Err(Why {
+            reason: Reason::SuperWithoutSuperclass,
             span,
             name: 0,
             around: level,
         });
     }
-    Step::Next(next)
+    Ok(next)
 }
 
 // The code's last byte is RETURN's, an operand or not.
@@ -70,7 +63,7 @@ pub fn emit_nothing(
     requires { (Fit (mem t.old code.old spans.old) level limit) × (0 < kind) }
     ensures { (class : ℕ) → Did class limit level next steady (return_value limit (type_of kind) none span) (mem t.old code.old spans.old) (mem t.new code.new spans.new) result }
 {
-    if INITIALIZER <= kind {
+    if Kind::Initializer as u64 <= kind {
         return emit_op_u8(t, code, spans, level, limit, Op::GET_LOCAL, 0, span, next);
     }
     emit_op(t, code, spans, level, limit, Op::NIL, span, next)
@@ -90,16 +83,16 @@ pub fn return_nothing(
     ensures { (class : ℕ) → Did class limit level next steady (compile_return limit none span) (mem t.old code.old spans.old) (mem t.new code.new spans.new) result }
 {
     let kind = t[level * Table::LEVEL_WORDS + Table::TYPE];
-    if kind == SCRIPT {
-        return Step::Stop(Why {
-            number: Why::RETURN_OUTSIDE_FUNCTION,
+    if kind == Kind::Script as u64 {
+        return Err(Why {
+            reason: Reason::ReturnOutsideFunction,
             span,
             name: 0,
             around: level,
         });
     }
     let a = emit_nothing(t, code, spans, level, limit, kind, span, next);
-    let Step::Next(_) = a else {
+    let Ok(_) = a else {
         return a;
     };
     emit_op(t, code, spans, level, limit, Op::RETURN, span, next)
@@ -117,7 +110,7 @@ pub fn implicit_return(
     ensures { (class : ℕ) → Did class limit level next steady (implicit_return limit) (mem t.old code.old spans.old) (mem t.new code.new spans.new) result }
 {
     if ends_in_return(&t[..], &code[..], level) {
-        return Step::Next(next);
+        return Ok(next);
     }
     return_nothing(
         t,
@@ -144,7 +137,7 @@ pub fn emit_pair(
     ensures { PairedAt limit level w span (mem t.old code.old spans.old) (mem t.new code.new spans.new) result }
 {
     let a = emit_op(t, code, spans, level, limit, (w / 256) as u8, span, 0);
-    let Step::Next(_) = a else {
+    let Ok(_) = a else {
         return a;
     };
     emit_op(t, code, spans, level, limit, (w % 256) as u8, span, 0)
@@ -164,16 +157,14 @@ pub fn emit_upvalues(
     ensures { (class : ℕ) → Did class limit level next steady (emit_upvalues limit (upvalues_of t.old (level + 1)) span) (mem t.old code.old spans.old) (mem t.new code.new spans.new) result }
 {
     let n = t[(level + 1) * Table::LEVEL_WORDS + Table::UPVALUE_COUNT] as usize;
-    let mut i = 0;
-    while i < n {
+    for i in 0..n {
         let w = t[(level + 1) * Table::LEVEL_WORDS + (Table::UPVALUES + i)];
         let a = emit_pair(t, code, spans, level, limit, w, span);
-        let Step::Next(_) = a else {
+        let Ok(_) = a else {
             return a;
         };
-        i += 1;
     }
-    Step::Next(next)
+    Ok(next)
 }
 
 // The script's context, whatever the table held.
@@ -182,11 +173,11 @@ pub fn begin_script(t: &mut [u64])
     ensures { Started t.new }
 {
     state_levels::clear_levels(t);
-    t[Table::NAME] = SCRIPT_NAME;
+    t[Table::NAME] = Name::SCRIPT as u64;
     t[Table::CODE_FROM] = 0;
     t[Table::RUNS_FROM] = 0;
     t[Table::ARITY] = 0;
-    t[Table::TYPE] = SCRIPT;
+    t[Table::TYPE] = Kind::Script as u64;
     t[Table::CODE_END] = 0;
     t[Table::RUNS_END] = 0;
     t[Table::FUNCTIONS] = 0;

@@ -7,7 +7,7 @@ use native.Mathlib.Omega.{arith}
 use lib.ListN.{length, get_or}
 use lib.Dec.{ltb, eqb}
 use borrow.Author.Tests.{lt-ltb, le-ltb}
-use Rattle.std.specs.Prelude.{if◌then◌else◌}
+use Rattle.std.specs.Prelude.{if◌then◌else◌, Result, Ok, Err, ⊤}
 use Rattle.rules.specs.Op as op
 use Rattle.rules.specs.declared.Span.{Span}
 use Rattle.rules.specs.Compiler.{Local, CompilerCtx, Compiler, with_ctx, with_locals, with_scope_depth, Outcome, ok, Compile, go_on, ◌>>=◌, ◌>>◌, done, return, the, update_ctx, declare_local, define_local, is_global, begin_scope, begin_ctx, emit_u8, emit_op, pop_locals, end_scope, end_ctx, back_to}
@@ -15,15 +15,12 @@ use Rattle.rules.proofs.Slips as slips
 use Rattle.rules.proofs.Slips.{enough_locals, already_declared}
 use Rattle.state.specs.Layout.{levels, stack, local_of, locals_of, end_of_code, end_of_runs, ctx_at, start_of_code, start_of_runs, upvalues_of, parents_of, Wf, upvalues_place, depth_place, code_from_place, runs_from_place, name_place, level_words, local_count_place, word}
 use Rattle.state.specs.Meaning.{DeclaredAs, DeclaredAt, DefinedAt, Moved, Began, Wrote, Dropped, Closed}
-use Rattle.state.specs.declared.Declared.{Declared}
-use Rattle.state.specs.declared.Declared.TheVariants as decl
-use Rattle.state.specs.declared.Emitted.{Emitted}
-use Rattle.state.specs.declared.Emitted.TheVariants as emitted
+use Rattle.state.specs.declared.Undeclared.{Undeclared}
+use Rattle.state.specs.declared.Undeclared.TheVariants.{Already, Full}
+use Rattle.state.specs.declared.Full.{Full as No_room}
 use Rattle.state.proofs.Laws.{kept_off, locals_same, ctx_same, parents_named}
 use Rattle.steps.specs.View.{Mem, mem, t_of, Rest, view, Agrees, Fit, depth_at, Turn, steady, deeper, shallower, Gave, Refused, Changed, Tried, Asked, pops, Passing, PoppedAt, Entered, Left, finished}
-use Rattle.steps.specs.declared.Step.TheVariants.{Next, Stop}
-use Rattle.steps.specs.declared.Popped.{Popped}
-use Rattle.steps.specs.declared.Popped.TheVariants as popped
+use Rattle.steps.specs.declared.Why.{Why}
 use Rattle.steps.proofs.Steps.{next, stop, refuses_in, ahead_then, gave_seq, refused_seq, gave_refused_seq}
 use Rattle.steps.proofs.Views.{still_agrees, ahead_named, ahead_kept, view_locals, view_scope}
 use Rattle.step_bytes.proofs.Bytes.{byte_gave, byte_full}
@@ -68,32 +65,32 @@ global_asked l t r e = record { says = λ code spans. record { says = λ rest _.
 
 -- ## Locals
 
-module _ (l n name : ℕ) (span : Span) (t t' : List ℕ) (r : Declared) (w : DeclaredAt t t' l name r) where
-  does_as : (s : Declared) → r ≡ s → DeclaredAs t t' l name s
-  does_as s q = subst (λ (s : Declared). DeclaredAs t t' l name s) q w.does
+module _ (l n name : ℕ) (span : Span) (t t' : List ℕ) (r : Result ⊤ Undeclared) (w : DeclaredAt t t' l name r) where
+  does_as : (s : Result ⊤ Undeclared) → r ≡ s → DeclaredAs t t' l name s
+  does_as s q = subst (λ (s : Result ⊤ Undeclared). DeclaredAs t t' l name s) q w.does
 
   named : word t' l name_place ≡ word t l name_place
   named = w.kept.above _ (omega arith)
 
-  pub declared_again : r ≡ decl.Already → Tried l n steady (declare_local name span) t t' (Stop (already_defined l span name))
+  pub declared_again : r ≡ Err Already → Tried l n steady (declare_local name span) t t' (Err (already_defined l span name))
   unfolding view ctx_at refusal_of
   declared_again q = record {
-    gives = λ code spans fit. stop _ (refuses_in (already_defined l span name) refl t' named (λ rest _. already_declared name span (view (mem t code spans) l rest) (does_as decl.Already q)));
+    gives = λ code spans fit. stop _ (refuses_in (already_defined l span name) refl t' named (λ rest _. already_declared name span (view (mem t code spans) l rest) (does_as (Err Already) q)));
   }
 
-  pub declared_full : r ≡ decl.Full → Tried l n steady (declare_local name span) t t' (Stop (too_many_locals l span))
+  pub declared_full : r ≡ Err Full → Tried l n steady (declare_local name span) t t' (Err (too_many_locals l span))
   unfolding view ctx_at refusal_of
   declared_full q = record {
     gives = λ code spans fit. stop _ (refuses_in (too_many_locals l span) refl t' named
-        (λ rest _. slips.too_many_locals name span (view (mem t code spans) l rest) (does_as decl.Full q).0 (does_as decl.Full q).1));
+        (λ rest _. slips.too_many_locals name span (view (mem t code spans) l rest) (does_as (Err Full) q).0 (does_as (Err Full) q).1));
   }
 
-  pub declared_new : r ≡ decl.Done → Tried l n steady (declare_local name span) t t' (Next n)
+  pub declared_new : {v : ⊤} → r ≡ Ok v → Tried l n steady (declare_local name span) t t' (Ok n)
   unfolding view ctx_at
   declared_new q = record {
     gives = λ {class} {limit} code spans fit. next (record {
-      comes = λ rest _. enough_locals name span (view (mem t code spans) l rest) (does_as decl.Done q).0 (does_as decl.Done q).1 ∙ ap (ok tt)
-          (sym (view_locals t code spans t' l upvalues_place _ fit.wf fit.low w.kept (omega arith) (does_as decl.Done q).2 rest));
+      comes = λ rest _. enough_locals name span (view (mem t code spans) l rest) (does_as (Ok _) q).0 (does_as (Ok _) q).1 ∙ ap (ok tt)
+          (sym (view_locals t code spans t' l upvalues_place _ fit.wf fit.low w.kept (omega arith) (does_as (Ok _) q).2 rest));
       agrees = λ rest h. let low = fit.low in still_agrees (w.kept.above _ (omega arith)) h;
       ahead = ahead_kept t code spans t' l limit 0 upvalues_place fit w.wf (record { below = λ i a. w.kept.below i (omega arith); above = w.kept.above }) (omega arith);
     });
@@ -142,7 +139,7 @@ unfolding ◌>>◌ go_on
 seq_after limit byte span m x y e = ap (λ (o : Outcome Unit). go_on o (λ _. m)) e
 
 module _ (l limit : ℕ) (span : Span) (t code spans : List ℕ) (fit : Fit (mem t code spans) l limit) where
-  pub popped_none : get_or t (l * level_words + local_count_place) 0 ≡ 0 → PoppedAt limit l span (mem t code spans) (mem t code spans) popped.Stop
+  pub popped_none : get_or t (l * level_words + local_count_place) 0 ≡ 0 → PoppedAt limit l span (mem t code spans) (mem t code spans) (Ok false)
   unfolding view ctx_at stack
   popped_none z = record {
     does = λ class. record {
@@ -162,7 +159,7 @@ module _ (l limit : ℕ) (span : Span) (t code spans : List ℕ) (fit : Fit (mem
     peel = let e : get_or t (l * level_words + local_count_place) 0 ≡ suc (get_or t (l * level_words + local_count_place) 0 - 1) = omega arith in ap
         (stack (λ i. local_of (get_or t (l * level_words + i) 0))) e
 
-    pub popped_stop : newest.depth ≤ get_or t (l * level_words + depth_place) 0 → PoppedAt limit l span (mem t code spans) (mem t code spans) popped.Stop
+    pub popped_stop : newest.depth ≤ get_or t (l * level_words + depth_place) 0 → PoppedAt limit l span (mem t code spans) (mem t code spans) (Ok false)
     unfolding view ctx_at
     popped_stop h = record {
       does = λ class. record {
@@ -172,18 +169,21 @@ module _ (l limit : ℕ) (span : Span) (t code spans : List ℕ) (fit : Fit (mem
       };
     }
 
-    module _ (deep : get_or t (l * level_words + depth_place) 0 < newest.depth) (byte : ℕ) (is : byte ≡ dropping newest) (t₁ code₁ spans₁ : List ℕ) (r : Emitted)
+    module _ (deep : get_or t (l * level_words + depth_place) 0 < newest.depth) (byte : ℕ) (is : byte ≡ dropping newest) (t₁ code₁ spans₁ : List ℕ) (r : Result ⊤ No_room)
         (w : Wrote t code spans t₁ code₁ spans₁ l limit byte span r) where
-      pub popped_full : r ≡ emitted.Full → PoppedAt limit l span (mem t code spans) (mem t₁ code₁ spans₁) popped.Full
+      pub popped_full : {e : No_room} → r ≡ Err e → PoppedAt limit l span (mem t code spans) (mem t₁ code₁ spans₁) (Err (code_full l))
       unfolding view ctx_at emit_op
       popped_full q = record {
-        does = λ class. record {
-          refuses = λ rest h. pop_more limit span (view (mem t code spans) l rest) newest _ peel deep
-              ∙ ap (λ (b : ℕ). (emit_u8 limit b span >> (update_ctx
-              (λ c. with_locals c (stack (λ i. local_of (get_or t (l * level_words + i) 0)) (get_or t (l * level_words + local_count_place) 0 - 1))) >>
-              pop_locals limit (stack (λ i. local_of (get_or t (l * level_words + i) 0)) (get_or t (l * level_words + local_count_place) 0 - 1)) span)) (view (mem t code spans) l rest)) (sym is)
-              ∙ (refused_seq (byte_full l limit byte span t code spans t₁ code₁ spans₁ r fit w {class = class} q) _).refuses rest h;
-        };
+        does = (
+          λ class. record {
+            refuses = λ rest h. pop_more limit span (view (mem t code spans) l rest) newest _ peel deep
+                ∙ ap (λ (b : ℕ). (emit_u8 limit b span >> (update_ctx
+                (λ c. with_locals c (stack (λ i. local_of (get_or t (l * level_words + i) 0)) (get_or t (l * level_words + local_count_place) 0 - 1))) >>
+                pop_locals limit (stack (λ i. local_of (get_or t (l * level_words + i) 0)) (get_or t (l * level_words + local_count_place) 0 - 1)) span)) (view (mem t code spans) l rest)) (sym is)
+                ∙ (refused_seq (byte_full l limit byte span t code spans t₁ code₁ spans₁ r fit w {class = class} q) _).refuses rest h;
+          },
+          refl,
+        );
       }
 
       pub still_some : 0 < get_or t₁ (l * level_words + local_count_place) 0
@@ -212,7 +212,7 @@ module _ (l limit : ℕ) (span : Span) (t code spans : List ℕ) (fit : Fit (mem
         unfolding ◌>>◌ update_ctx go_on ◌>>=◌ the view ctx_at
         after rest = ap (pop_locals limit (locals_of t₂ l) span) (dropped_view rest)
 
-        pub popped_more : r ≡ emitted.Done → PoppedAt limit l span (mem t code spans) (mem t₂ code₁ spans₁) popped.More
+        pub popped_more : {v : ⊤} → r ≡ Ok v → PoppedAt limit l span (mem t code spans) (mem t₂ code₁ spans₁) (Ok true)
         unfolding view ctx_at emit_op
         popped_more q =
             let low = fit.low in
@@ -234,8 +234,8 @@ module _ (l limit : ℕ) (span : Span) (t code spans : List ℕ) (fit : Fit (mem
             }
 
 -- an answer that was told apart
-pub popped_as : {limit l : ℕ} {span : Span} {before now : Mem} {r : Popped} (s : Popped) → PoppedAt limit l span before now r → r ≡ s → PoppedAt limit l span before now s
-popped_as {limit} {l} {span} {before} {now} s h e = subst (λ (s : Popped). PoppedAt limit l span before now s) e h
+pub popped_as : {limit l : ℕ} {span : Span} {before now : Mem} {r : Result Bool Why} (s : Result Bool Why) → PoppedAt limit l span before now r → r ≡ s → PoppedAt limit l span before now s
+popped_as {limit} {l} {span} {before} {now} s h e = subst (λ (s : Result Bool Why). PoppedAt limit l span before now s) e h
 
 -- none is popped yet
 pub passing_none : {limit l : ℕ} (p : Compile Unit) {m : Mem} → Fit m l limit → Passing limit l p m m
@@ -246,7 +246,7 @@ passing_then x y = record { same = λ rest h. x.same rest h ∙ y.same rest (x.a
 
 module _ (l limit d : ℕ) (span : Span) (t code spans t₁ : List ℕ) (fit : Fit (mem t code spans) l limit) (w : Moved t t₁ l d)
     (q : d ≡ get_or t (l * level_words + depth_place) 0 - 1) (mid : Mem) (p : Passing limit l (pops limit span) (mem t₁ code spans) mid) where
-  pub ended : (now : Mem) → PoppedAt limit l span mid now popped.Stop → {class : ℕ} → Gave class limit l shallower (end_scope limit span) tt (mem t code spans) now
+  pub ended : (now : Mem) → PoppedAt limit l span mid now (Ok false) → {class : ℕ} → Gave class limit l shallower (end_scope limit span) tt (mem t code spans) now
   unfolding end_scope
   ended now h {class} =
       let g = h.does class in
@@ -256,9 +256,9 @@ module _ (l limit d : ℕ) (span : Span) (t code spans t₁ : List ℕ) (fit : F
         ahead = ahead_then p.ahead g.ahead;
       })
 
-  pub ended_full : (now : Mem) → PoppedAt limit l span mid now popped.Full → {class : ℕ} → Refused class l (end_scope limit span) (mem t code spans) (told (t_of now) (code_full l))
-  unfolding end_scope refusal_of
-  ended_full now h {class} = gave_refused_seq (lowered l d t t₁ w q code spans fit) _ (record { refuses = λ rest a. p.same rest a ∙ (h.does class).refuses rest (p.agrees rest a) })
+  pub ended_full : (now : Mem) (x : Why) → PoppedAt limit l span mid now (Err x) → {class : ℕ} → Refused class l (end_scope limit span) (mem t code spans) (told (t_of now) x)
+  unfolding end_scope
+  ended_full now x h {class} = gave_refused_seq (lowered l d t t₁ w q code spans fit) _ (record { refuses = λ rest a. p.same rest a ∙ (h.does.0 class).refuses rest (p.agrees rest a) })
 
 -- ## A context
 

@@ -4,13 +4,14 @@
 ghost use Rattle.std.specs.Prelude.{◌≡◌, ℕ, ◌+◌, ◌*◌, ◌<◌, get_or, if◌then◌else◌};
 ghost use Rattle.rules.specs.Compiler.{declare_local, define_local, is_global, begin_scope, end_scope};
 ghost use Rattle.rules.specs.Op as ops;
+ghost use Rattle.state.specs.Kinds.{number_of};
 ghost use Rattle.state.specs.Layout.{levels, deepest, local_of, Wf, depth_place, level_words};
 ghost use Rattle.steps.specs.View.{mem, Fit, steady, deeper, shallower, Did, Changed, Tried, Asked, PoppedAt, Entered, Left};
 
 use op::Op;
 use rules::Span;
-use state::Table;
-use steps::{Popped, Step, Why};
+use state::{Kind, Table, Undeclared};
+use steps::{Reason, Step, Why};
 
 pub fn begin_scope(t: &mut [u64], level: usize)
     requires { (level < levels) × (Wf t.old) × (get_or t.old (level * level_words + depth_place) 0 < deepest) }
@@ -33,15 +34,15 @@ pub fn declare_local(t: &mut [u64], level: usize, name: u16, span: Span, next: u
 {
     let r = state_names::declare_local(t, level, name);
     match r {
-        state::Declared::Done => Step::Next(next),
-        state::Declared::Already => Step::Stop(Why {
-            number: Why::ALREADY_DEFINED,
+        Ok(()) => Ok(next),
+        Err(Undeclared::Already) => Err(Why {
+            reason: Reason::AlreadyDefined,
             span,
             name,
             around: level,
         }),
-        state::Declared::Full => Step::Stop(Why {
-            number: Why::TOO_MANY_LOCALS,
+        Err(Undeclared::Full) => Err(Why {
+            reason: Reason::TooManyLocals,
             span,
             name: 0,
             around: level,
@@ -66,7 +67,7 @@ pub fn drop_op(w: u64) -> u8
     Op::POP
 }
 
-// One step of ending a scope: the newest local goes if it lies deeper than the scope.
+// One step of ending a scope: the newest local goes if it lies deeper than the scope. The answer is whether one went: then another may.
 pub fn pop_local(
     t: &mut [u64],
     code: &mut [u8],
@@ -74,25 +75,30 @@ pub fn pop_local(
     level: usize,
     limit: usize,
     span: Span,
-) -> Popped
+) -> Result<bool, Why>
     requires { Fit (mem t.old code.old spans.old) level limit }
     ensures { PoppedAt limit level span (mem t.old code.old spans.old) (mem t.new code.new spans.new) result }
 {
     let n = t[level * Table::LEVEL_WORDS + Table::LOCAL_COUNT] as usize;
     if n == 0 {
-        return Popped::Stop;
+        return Ok(false);
     }
     let w = t[level * Table::LEVEL_WORDS + (n - 1)];
     let depth = t[level * Table::LEVEL_WORDS + Table::DEPTH];
     if w / 65536 / 2 / 2 <= depth {
-        return Popped::Stop;
+        return Ok(false);
     }
     let done = state_code::emit_u8(t, code, spans, level, limit, drop_op(w), span);
-    let state::Emitted::Done = done else {
-        return Popped::Full;
+    let Ok(()) = done else {
+        return Err(Why {
+            reason: Reason::CodeFull,
+            span: Span { start: 0, end: 0 },
+            name: 0,
+            around: level,
+        });
     };
     state_names::drop_local(t, level);
-    Popped::More
+    Ok(true)
 }
 
 pub fn end_scope(
@@ -110,24 +116,19 @@ pub fn end_scope(
     let depth = t[level * Table::LEVEL_WORDS + Table::DEPTH];
     state_levels::move_scope(t, level, depth - 1);
     loop {
-        let step = pop_local(t, code, spans, level, limit, span);
-        match step {
-            Popped::Stop => return Step::Next(next),
-            Popped::Full => return Step::Stop(Why {
-                number: Why::CODE_FULL,
-                span: Span { start: 0, end: 0 },
-                name: 0,
-                around: level,
-            }),
-            Popped::More => {}
+        let popped = pop_local(t, code, spans, level, limit, span);
+        match popped {
+            Ok(true) => {}
+            Ok(false) => return Ok(next),
+            Err(why) => return Err(why),
         }
     }
 }
 
 // The context of a function is the innermost now, one scope deeper: its level is one more.
-pub fn begin_ctx(t: &mut [u64], level: usize, name: u16, arity: u8, kind: u8)
+pub fn begin_ctx(t: &mut [u64], level: usize, name: u16, arity: u8, kind: Kind)
     requires { (level + 1 < levels) × (Wf t.old) × (get_or t.old (level * level_words + depth_place) 0 < deepest) }
-    ensures { Entered level name arity kind t.old t.new }
+    ensures { Entered level name arity (number_of kind) t.old t.new }
 {
     state_levels::begin_ctx(t, level, name, arity, kind);
 }

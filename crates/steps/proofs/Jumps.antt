@@ -13,7 +13,7 @@ use Rattle.rules.proofs.Slips.{with_operand, near_ahead, too_far_ahead}
 use Rattle.state.specs.Layout.{row, level_constants, start_of_code, end_of_code, end_of_runs, chunk_at, ctx_at, parents_of}
 use Rattle.state.proofs.Laws.{row_cong, chunk_paths, ctx_paths, parents_same}
 use Rattle.steps.specs.View.{Mem, mem, Rest, view, Fit, code_len, depth_at, steady, Ahead, Gave, Refused, Opened, Told, Measured}
-use Rattle.steps.specs.declared.Step.TheVariants.{Next}
+use Rattle.std.specs.Prelude.{Ok}
 use Rattle.steps.proofs.Views.{view_len}
 use Rattle.steps.proofs.Steps.{refuses_in}
 
@@ -32,7 +32,7 @@ pub ahead_none : {l limit : ℕ} {m : Mem} → Fit m l limit → Ahead l limit s
 ahead_none fit = record { fit = fit; up = le_refl _; deep = refl; head = λ o a b. refl; under = λ k o h a b. refl; over = λ q i h g. refl; beyond = λ q i h. refl }
 
 -- the place of the operand that was just left open
-pub open_place : {class limit l : ℕ} {m : Mem} (k : ℕ) → Fit m l limit → k ≡ code_len m l → 2 ≤ k → Opened class limit l steady (code_length >>= λ end. return (end - 2)) m m (Next (k - 2))
+pub open_place : {class limit l : ℕ} {m : Mem} (k : ℕ) → Fit m l limit → k ≡ code_len m l → 2 ≤ k → Opened class limit l steady (code_length >>= λ end. return (end - 2)) m m (Ok (k - 2))
 unfolding code_length ◌>>=◌ the go_on return
 open_place {l = l} {m = m} k fit e h = record {
   does = (

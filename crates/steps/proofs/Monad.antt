@@ -3,8 +3,8 @@ use mathlib.Core.Path.{◌≡◌, refl, subst, ◌∙◌}
 use Prim.Native.Nat.{ℕ}
 use Rattle.rules.specs.Compiler.{Compiler, Outcome, ok, err, Compile, go_on, return, done}
 use Rattle.steps.specs.View.{Mem, Fit, Turn, steady, Gave, DidAs, Did}
-use Rattle.steps.specs.declared.Step.{Step}
-use Rattle.steps.specs.declared.Step.TheVariants.{Next, Stop}
+use Rattle.steps.specs.Why.{Step}
+use Rattle.std.specs.Prelude.{Ok, Err}
 use Rattle.steps.proofs.Jumps.{ahead_none}
 
 -- ## Grouping
@@ -23,8 +23,8 @@ later (err x) h = refl
 -- a step that comes to another from every state
 module _ {class limit l n : ℕ} {e : Turn} {m m' : Compile Unit} {before now : Mem} (h : (s : Compiler) → m' s ≡ m s) where
   like_as : (r : Step) → Did class limit l n e m before now r → DidAs class limit l n e m' before now r
-  like_as (Next v) d = (record { comes = λ rest q. h _ ∙ d.does.0.comes rest q; agrees = d.does.0.agrees; ahead = d.does.0.ahead }, d.does.1)
-  like_as (Stop x) d = record { refuses = λ rest q. h _ ∙ d.does.refuses rest q }
+  like_as (Ok v) d = (record { comes = λ rest q. h _ ∙ d.does.0.comes rest q; agrees = d.does.0.agrees; ahead = d.does.0.ahead }, d.does.1)
+  like_as (Err x) d = record { refuses = λ rest q. h _ ∙ d.does.refuses rest q }
 
   pub like : {r : Step} → Did class limit l n e m before now r → Did class limit l n e m' before now r
   like {r} d = record { does = like_as r d }

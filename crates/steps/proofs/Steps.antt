@@ -4,40 +4,38 @@ use mathlib.Core.Bool.{Bool, true, false}
 use Prim.Native.Nat.{ℕ, ◌+◌, ◌-◌, ◌≤◌}
 use native.Mathlib.Omega.{arith}
 use native.Mathlib.Nat.{le_trans}
-use Rattle.std.specs.Prelude.{if◌then◌else◌}
+use Rattle.std.specs.Prelude.{if◌then◌else◌, Ok, Err}
 use mathlib.Core.List.{List}
 use Rattle.rules.specs.declared.Refusal.{Refusal}
 use Rattle.rules.specs.declared.Stopped.{Stopped}
 use Rattle.steps.specs.declared.Why.{Why}
-use Rattle.steps.specs.Why.{refusal_of, told}
+use Rattle.steps.specs.Why.{Step, refusal_of, told}
 use Rattle.rules.specs.Compiler.{Compiler, Outcome, ok, err, Compile, go_on, ◌>>=◌, ◌>>◌, need}
 use Rattle.rules.specs.Compiler.{stopped as in-state}
 use Rattle.steps.specs.View.{Mem, mem, t_of, Rest, view, Agrees, code_len, depth_at, Turn, ◌⨾◌, Ahead, Gave, Refused, DidAs, Did, OpenedAs, Opened, Told}
-use Rattle.steps.specs.declared.Step.{Step}
-use Rattle.steps.specs.declared.Step.TheVariants.{Next, Stop}
 use Rattle.state.specs.Layout.{word, name_place}
 use Rattle.state.proofs.Words.{and_left, and_right}
 use Rattle.steps.proofs.Views.{stopped_in}
 
 -- ## After a step
 
-pub went : {class limit l n v : ℕ} {e : Turn} {m : Compile Unit} {before now : Mem} {r : Step} → Did class limit l n e m before now r → r ≡ Next v → Gave class limit l e m tt before now
+pub went : {class limit l n v : ℕ} {e : Turn} {m : Compile Unit} {before now : Mem} {r : Step} → Did class limit l n e m before now r → r ≡ Ok v → Gave class limit l e m tt before now
 went {class} {limit} {l} {n} {v} {e} {m} {before} {now} d q = (subst (λ (s : Step). DidAs class limit l n e m before now s) q d.does).0
 
 -- where to read on
-pub valued : {class limit l n v : ℕ} {e : Turn} {m : Compile Unit} {before now : Mem} {r : Step} → Did class limit l n e m before now r → r ≡ Next v → v ≡ n
+pub valued : {class limit l n v : ℕ} {e : Turn} {m : Compile Unit} {before now : Mem} {r : Step} → Did class limit l n e m before now r → r ≡ Ok v → v ≡ n
 valued {class} {limit} {l} {n} {v} {e} {m} {before} {now} d q = (subst (λ (s : Step). DidAs class limit l n e m before now s) q d.does).1
 
-pub stuck : {class limit l n : ℕ} {e : Turn} {m : Compile Unit} {before now : Mem} {r : Step} {x : Why} → Did class limit l n e m before now r → r ≡ Stop x → Refused class l m before (told (t_of now) x)
+pub stuck : {class limit l n : ℕ} {e : Turn} {m : Compile Unit} {before now : Mem} {r : Step} {x : Why} → Did class limit l n e m before now r → r ≡ Err x → Refused class l m before (told (t_of now) x)
 stuck {class} {limit} {l} {n} {e} {m} {before} {now} d q = subst (λ (s : Step). DidAs class limit l n e m before now s) q d.does
 
-pub went_to : {class limit l v : ℕ} {e : Turn} {m : Compile ℕ} {before now : Mem} {r : Step} → Opened class limit l e m before now r → r ≡ Next v → Gave class limit l e m v before now
+pub went_to : {class limit l v : ℕ} {e : Turn} {m : Compile ℕ} {before now : Mem} {r : Step} → Opened class limit l e m before now r → r ≡ Ok v → Gave class limit l e m v before now
 went_to {class} {limit} {l} {v} {e} {m} {before} {now} d q = (subst (λ (s : Step). OpenedAs class limit l e m before now s) q d.does).0
 
-pub placed : {class limit l v : ℕ} {e : Turn} {m : Compile ℕ} {before now : Mem} {r : Step} → Opened class limit l e m before now r → r ≡ Next v → v + 2 ≤ code_len now l
+pub placed : {class limit l v : ℕ} {e : Turn} {m : Compile ℕ} {before now : Mem} {r : Step} → Opened class limit l e m before now r → r ≡ Ok v → v + 2 ≤ code_len now l
 placed {class} {limit} {l} {v} {e} {m} {before} {now} d q = (subst (λ (s : Step). OpenedAs class limit l e m before now s) q d.does).1
 
-pub stuck_to : {class limit l : ℕ} {e : Turn} {m : Compile ℕ} {before now : Mem} {r : Step} {x : Why} → Opened class limit l e m before now r → r ≡ Stop x → Refused class l m before (told (t_of now) x)
+pub stuck_to : {class limit l : ℕ} {e : Turn} {m : Compile ℕ} {before now : Mem} {r : Step} {x : Why} → Opened class limit l e m before now r → r ≡ Err x → Refused class l m before (told (t_of now) x)
 stuck_to {class} {limit} {l} {e} {m} {before} {now} d q = subst (λ (s : Step). OpenedAs class limit l e m before now s) q d.does
 
 -- a place stays a place while the code grows
@@ -47,24 +45,24 @@ still place h g = le_trans h g.ahead.up
 
 -- ## An answer
 
-pub next : {class limit l n : ℕ} {e : Turn} {m : Compile Unit} {before now : Mem} → Gave class limit l e m tt before now → Did class limit l n e m before now (Next n)
+pub next : {class limit l n : ℕ} {e : Turn} {m : Compile Unit} {before now : Mem} → Gave class limit l e m tt before now → Did class limit l n e m before now (Ok n)
 next g = record { does = (g, refl) }
 
-pub next_at : {class limit l v n : ℕ} {e : Turn} {m : Compile Unit} {before now : Mem} → Gave class limit l e m tt before now → v ≡ n → Did class limit l n e m before now (Next v)
+pub next_at : {class limit l v n : ℕ} {e : Turn} {m : Compile Unit} {before now : Mem} → Gave class limit l e m tt before now → v ≡ n → Did class limit l n e m before now (Ok v)
 next_at g q = record { does = (g, q) }
 
 -- the answer of a step that went on, made anew
-pub anew : {class limit l n v : ℕ} {e : Turn} {m : Compile Unit} {before now : Mem} {r : Step} → Did class limit l n e m before now r → r ≡ Next v → Did class limit l n e m before now (Next n)
+pub anew : {class limit l n v : ℕ} {e : Turn} {m : Compile Unit} {before now : Mem} {r : Step} → Did class limit l n e m before now r → r ≡ Ok v → Did class limit l n e m before now (Ok n)
 anew d q = next (went d q)
 
-pub stop : {class limit l n : ℕ} {e : Turn} {m : Compile Unit} {before : Mem} {x : Why} (now : Mem) → Refused class l m before (told (t_of now) x) → Did class limit l n e m before now (Stop x)
+pub stop : {class limit l n : ℕ} {e : Turn} {m : Compile Unit} {before : Mem} {x : Why} (now : Mem) → Refused class l m before (told (t_of now) x) → Did class limit l n e m before now (Err x)
 stop now h = record { does = h }
 
 -- a step that stopped, whatever its answer's value was to be
-stopped : {class limit l n : ℕ} {e : Turn} {m : Compile Unit} {before now : Mem} {r : Step} {x : Why} → r ≡ Stop x → Refused class l m before (told (t_of now) x) → Did class limit l n e m before now r
+stopped : {class limit l n : ℕ} {e : Turn} {m : Compile Unit} {before now : Mem} {r : Step} {x : Why} → r ≡ Err x → Refused class l m before (told (t_of now) x) → Did class limit l n e m before now r
 stopped {class} {limit} {l} {n} {e} {m} {before} {now} q h = record { does = subst (λ (s : Step). DidAs class limit l n e m before now s) (sym q) h }
 
-stopped_to : {class limit l : ℕ} {e : Turn} {m : Compile ℕ} {before now : Mem} {r : Step} {x : Why} → r ≡ Stop x → Refused class l m before (told (t_of now) x) → Opened class limit l e m before now r
+stopped_to : {class limit l : ℕ} {e : Turn} {m : Compile ℕ} {before now : Mem} {r : Step} {x : Why} → r ≡ Err x → Refused class l m before (told (t_of now) x) → Opened class limit l e m before now r
 stopped_to {class} {limit} {l} {e} {m} {before} {now} q h = record { does = subst (λ (s : Step). OpenedAs class limit l e m before now s) (sym q) h }
 
 -- ## One step and then another
@@ -117,20 +115,20 @@ module _ {class limit l : ℕ} {e : Turn} {A B : Type 0} {m : Compile A} {v : A}
 -- a value and then a step
 module _ {class limit l : ℕ} {e : Turn} {A : Type 0} {m : Compile A} {v : A} {before mid : Mem} (g : Gave class limit l e m v before mid) where
   did_bind_as : {f : Turn} (next : A → Compile Unit) {k : ℕ} {now : Mem} (r : Step) → Did (e.class class) limit l k f (next v) mid now r → DidAs class limit l k (e ⨾ f) (m >>= next) before now r
-  did_bind_as next (Next w) d = (gave_bind g next d.does.0, d.does.1)
-  did_bind_as next (Stop x) d = gave_refused g next d.does
+  did_bind_as next (Ok w) d = (gave_bind g next d.does.0, d.does.1)
+  did_bind_as next (Err x) d = gave_refused g next d.does
 
   did_seq_as : {f : Turn} (next : Compile Unit) {k : ℕ} {now : Mem} (r : Step) → Did (e.class class) limit l k f next mid now r → DidAs class limit l k (e ⨾ f) (m >> next) before now r
-  did_seq_as next (Next w) d = (gave_seq g next d.does.0, d.does.1)
-  did_seq_as next (Stop x) d = gave_refused_seq g next d.does
+  did_seq_as next (Ok w) d = (gave_seq g next d.does.0, d.does.1)
+  did_seq_as next (Err x) d = gave_refused_seq g next d.does
 
   opened_bind_as : {f : Turn} (next : A → Compile ℕ) {now : Mem} (r : Step) → Opened (e.class class) limit l f (next v) mid now r → OpenedAs class limit l (e ⨾ f) (m >>= next) before now r
-  opened_bind_as next (Next w) d = (gave_bind g next d.does.0, d.does.1)
-  opened_bind_as next (Stop x) d = gave_refused g next d.does
+  opened_bind_as next (Ok w) d = (gave_bind g next d.does.0, d.does.1)
+  opened_bind_as next (Err x) d = gave_refused g next d.does
 
   opened_seq_as : {f : Turn} (next : Compile ℕ) {now : Mem} (r : Step) → Opened (e.class class) limit l f next mid now r → OpenedAs class limit l (e ⨾ f) (m >> next) before now r
-  opened_seq_as next (Next w) d = (gave_seq g next d.does.0, d.does.1)
-  opened_seq_as next (Stop x) d = gave_refused_seq g next d.does
+  opened_seq_as next (Ok w) d = (gave_seq g next d.does.0, d.does.1)
+  opened_seq_as next (Err x) d = gave_refused_seq g next d.does
 
   pub did_bind : {f : Turn} (next : A → Compile Unit) {k : ℕ} {now : Mem} {r : Step} → Did (e.class class) limit l k f (next v) mid now r → Did class limit l k (e ⨾ f) (m >>= next) before now r
   did_bind next {r = r} d = record { does = did_bind_as next r d }
@@ -148,27 +146,27 @@ module _ {class limit l : ℕ} {e : Turn} {A : Type 0} {m : Compile A} {v : A} {
 
 -- a step that stopped is what a longer one comes to
 pub halt : {class limit l n k : ℕ} {e f : Turn} {m : Compile Unit} (next : Compile Unit) {before now : Mem} {r : Step} {x : Why} → Did class limit l n e m
-    before now r → r ≡ Stop x → Did class limit l k f (m >> next) before now r
+    before now r → r ≡ Err x → Did class limit l k f (m >> next) before now r
 halt next d q = stopped q (refused_seq (stuck d q) next)
 
 pub then_on : {class limit l n k v : ℕ} {e f : Turn} {m : Compile Unit} (next : Compile Unit) {before mid now : Mem} {r r' : Step} → Did class limit l n e m
-    before mid r → r ≡ Next v → Did (e.class class) limit l k f next mid now r' → Did class limit l k (e ⨾ f) (m >> next) before now r'
+    before mid r → r ≡ Ok v → Did (e.class class) limit l k f next mid now r' → Did class limit l k (e ⨾ f) (m >> next) before now r'
 then_on next d q d' = did_seq (went d q) next d'
 
 -- towards a place
 pub halt_to : {class limit l n : ℕ} {e f : Turn} {m : Compile Unit} (next : Compile ℕ) {before now : Mem} {r : Step} {x : Why} → Did class limit l n e m
-    before now r → r ≡ Stop x → Opened class limit l f (m >> next) before now r
+    before now r → r ≡ Err x → Opened class limit l f (m >> next) before now r
 halt_to next d q = stopped_to q (refused_seq (stuck d q) next)
 
 pub then_to : {class limit l n v : ℕ} {e f : Turn} {m : Compile Unit} (next : Compile ℕ) {before mid now : Mem} {r r' : Step} → Did class limit l n e m before
-    mid r → r ≡ Next v → Opened (e.class class) limit l f next mid now r' → Opened class limit l (e ⨾ f) (m >> next) before now r'
+    mid r → r ≡ Ok v → Opened (e.class class) limit l f next mid now r' → Opened class limit l (e ⨾ f) (m >> next) before now r'
 then_to next d q d' = opened_seq (went d q) next d'
 
 -- a question first
 module _ {class l : ℕ} {A : Type 0} {m : Compile A} {v : A} {before : Mem} (w : Told class l m v before) where
   ask_as : {limit k : ℕ} {e : Turn} (next : A → Compile Unit) {now : Mem} (r : Step) → Did class limit l k e (next v) before now r → DidAs class limit l k e (m >>= next) before now r
   unfolding ◌>>=◌ go_on
-  ask_as next (Next x) d = (
+  ask_as next (Ok x) d = (
     record {
       comes = λ rest q. ap (λ (o : Outcome A). go_on o next) (w.says rest q) ∙ d.does.0.comes rest q;
       agrees =
@@ -177,7 +175,7 @@ module _ {class l : ℕ} {A : Type 0} {m : Compile A} {v : A} {before : Mem} (w 
     },
     d.does.1,
   )
-  ask_as next (Stop x) d = record { refuses = λ rest q. ap (λ (o : Outcome A). go_on o next) (w.says rest q) ∙ d.does.refuses rest q }
+  ask_as next (Err x) d = record { refuses = λ rest q. ap (λ (o : Outcome A). go_on o next) (w.says rest q) ∙ d.does.refuses rest q }
 
   pub ask : {limit k : ℕ} {e : Turn} (next : A → Compile Unit) {now : Mem} {r : Step} → Did class limit l k e (next v) before now r → Did class limit l k e (m >>= next) before now r
   ask next {r = r} d = record { does = ask_as next r d }
@@ -190,7 +188,7 @@ module _ {class l : ℕ} {A : Type 0} {m : Compile A} {v : A} {before : Mem} (w 
 module _ {class l : ℕ} {A : Type 0} {m : Compile A} {v : A} {before : Mem} (w : Told class l m v before) where
   ask_seq_as : {limit k : ℕ} {e : Turn} (next : Compile Unit) {now : Mem} (r : Step) → Did class limit l k e next before now r → DidAs class limit l k e (m >> next) before now r
   unfolding ◌>>◌ go_on
-  ask_seq_as next (Next x) d = (
+  ask_seq_as next (Ok x) d = (
     record {
       comes = λ rest q. ap (λ (o : Outcome A). go_on o (λ _. next)) (w.says rest q) ∙ d.does.0.comes rest q;
       agrees =
@@ -199,7 +197,7 @@ module _ {class l : ℕ} {A : Type 0} {m : Compile A} {v : A} {before : Mem} (w 
     },
     d.does.1,
   )
-  ask_seq_as next (Stop x) d = record { refuses = λ rest q. ap (λ (o : Outcome A). go_on o (λ _. next)) (w.says rest q) ∙ d.does.refuses rest q }
+  ask_seq_as next (Err x) d = record { refuses = λ rest q. ap (λ (o : Outcome A). go_on o (λ _. next)) (w.says rest q) ∙ d.does.refuses rest q }
 
   pub ask_seq : {limit k : ℕ} {e : Turn} (next : Compile Unit) {now : Mem} {r : Step} → Did class limit l k e next before now r → Did class limit l k e (m >> next) before now r
   ask_seq next {r = r} d = record { does = ask_seq_as next r d }
@@ -254,7 +252,7 @@ by_name {class} {limit} {l} {n} {e} {before = before} {now = now} {r = r} q d = 
 
 module _ {e f : Turn} (p : (d : ℕ) → e.depth d ≡ f.depth d) (q : (c : ℕ) → e.class c ≡ f.class c) (s : (x : Rest) → e.rest x ≡ f.rest x) (o : f.aloof ≡ true → e.aloof ≡ true) where
   turn_as : {class limit l n : ℕ} {m : Compile Unit} {before now : Mem} (r : Step) → Did class limit l n e m before now r → DidAs class limit l n f m before now r
-  turn_as {class} {limit} {l} {n} {m} {before} {now} (Next v) d =
+  turn_as {class} {limit} {l} {n} {m} {before} {now} (Ok v) d =
       let g = d.does.0 in
       let a = g.ahead in (
         record {
@@ -264,7 +262,7 @@ module _ {e f : Turn} (p : (d : ℕ) → e.depth d ≡ f.depth d) (q : (c : ℕ)
         },
         d.does.1,
       )
-  turn_as (Stop x) d = d.does
+  turn_as (Err x) d = d.does
 
   -- a turn that comes to another, as a scope that is begun and ended comes to none
   pub turn : {class limit l n : ℕ} {m : Compile Unit} {before now : Mem} {r : Step} → Did class limit l n e m before now r → Did class limit l n f m before now r

@@ -1,5 +1,5 @@
 -- How the lent areas stand for the compiler's state of the rules, and what it is for a function over them to do what a step of the rules does.
-use Rattle.std.specs.Prelude.{◌≡◌, Bool, true, false, ◌&&◌, List, ◌∷◌, ◌++◌, ℕ, suc, ◌+◌, ◌*◌, ◌-◌, ◌≤◌, ◌<◌, length, get_or, []}
+use Rattle.std.specs.Prelude.{◌≡◌, Bool, true, false, ◌&&◌, List, ◌∷◌, ◌++◌, ℕ, suc, ◌+◌, ◌*◌, ◌-◌, ◌≤◌, ◌<◌, length, get_or, [], Result, Ok, Err}
 use Rattle.rules.specs.declared.Span.{Span}
 use Rattle.rules.specs.declared.Stopped.{Stopped}
 use Rattle.rules.specs.Chunk.{ObjectFunction}
@@ -7,13 +7,10 @@ use Rattle.rules.specs.Compiler.{Upvalue as Captured}
 use Rattle.rules.specs.Compiler.{emit_upvalues, Compiler, new, new_ctx, finish, end_ctx, ends_in_return, ok, err, Compile, ◌>>=◌, the, local_at, upvalue_at, global_named, resolve, code_length, begin_ctx, pop_locals}
 use Rattle.state.specs.Layout.{levels, image_at, start_of_code, end_of_code, end_of_runs, ctx_at, parents_of, type_of, Wf, Coded, code_end_at, upvalue_of, upvalues_of, depth_place, code_from_place, type_place, level_words, local_count_place}
 use Rattle.state.specs.Meaning.{Kept}
-use Rattle.steps.specs.Why.{code_full, told}
-use Rattle.steps.specs.declared.Step.{Step}
-use Rattle.steps.specs.declared.Step.TheVariants.{Next, Stop}
+use Rattle.steps.specs.Why.{Step, code_full, told}
+use Rattle.steps.specs.declared.Why.{Why}
 use Rattle.steps.specs.declared.Place.{Place}
-use Rattle.steps.specs.declared.Place.TheVariants.{Local, Upvalue, Global, Nowhere}
-use Rattle.steps.specs.declared.Popped.{Popped}
-use Rattle.steps.specs.declared.Popped.TheVariants as popped
+use Rattle.steps.specs.declared.Place.TheVariants.{Local, Upvalue, Global}
 
 -- ## The state
 
@@ -118,16 +115,16 @@ pub record Refused {A : Type 0} (class l : ℕ) (m : Compile A) (before : Mem) (
 
 -- a step did what m does. Where it went on its answer's value is n; where it stopped the table that it leaves has the function's name
 abbrev pub DidAs : (class limit l n : ℕ) → Turn → Compile Unit → (before now : Mem) → Step → Type 0
-DidAs class limit l n e m before now (Next v) = Gave class limit l e m tt before now × (v ≡ n)
-DidAs class limit l n e m before now (Stop x) = Refused class l m before (told (t_of now) x)
+DidAs class limit l n e m before now (Ok v) = Gave class limit l e m tt before now × (v ≡ n)
+DidAs class limit l n e m before now (Err x) = Refused class l m before (told (t_of now) x)
 
 pub record Did (class limit l n : ℕ) (e : Turn) (m : Compile Unit) (before now : Mem) (r : Step) : Type 0 where
   pub does : DidAs class limit l n e m before now r
 
 -- the same of a step whose value is the place of an operand that is left open
 abbrev pub OpenedAs : (class limit l : ℕ) → Turn → Compile ℕ → (before now : Mem) → Step → Type 0
-OpenedAs class limit l e m before now (Next v) = Gave class limit l e m v before now × (v + 2 ≤ code_len now l)
-OpenedAs class limit l e m before now (Stop x) = Refused class l m before (told (t_of now) x)
+OpenedAs class limit l e m before now (Ok v) = Gave class limit l e m v before now × (v + 2 ≤ code_len now l)
+OpenedAs class limit l e m before now (Err x) = Refused class l m before (told (t_of now) x)
 
 pub record Opened (class limit l : ℕ) (e : Turn) (m : Compile ℕ) (before now : Mem) (r : Step) : Type 0 where
   pub does : OpenedAs class limit l e m before now r
@@ -153,13 +150,13 @@ pub record Asked {A : Type 0} (l : ℕ) (m : Compile A) (v : A) (t : List ℕ) :
   pub says : {class : ℕ} (code spans : List ℕ) → Told class l m v (mem t code spans)
 
 -- where a name is found
-abbrev pub PlacedAs : (l nm : ℕ) → Span → (t t' : List ℕ) → (class limit : ℕ) → (code spans : List ℕ) → Place → Type 0
-PlacedAs l nm span t t' class limit code spans (Local i) = Gave class limit l steady (resolve nm span) (local_at i) (mem t code spans) (mem t' code spans)
-PlacedAs l nm span t t' class limit code spans (Upvalue i) = Gave class limit l steady (resolve nm span) (upvalue_at i) (mem t code spans) (mem t' code spans)
-PlacedAs l nm span t t' class limit code spans Global = Gave class limit l steady (resolve nm span) global_named (mem t code spans) (mem t' code spans)
-PlacedAs l nm span t t' class limit code spans (Nowhere x) = Refused class l (resolve nm span) (mem t code spans) (told t' x)
+abbrev pub PlacedAs : (l nm : ℕ) → Span → (t t' : List ℕ) → (class limit : ℕ) → (code spans : List ℕ) → Result Place Why → Type 0
+PlacedAs l nm span t t' class limit code spans (Ok (Local i)) = Gave class limit l steady (resolve nm span) (local_at i) (mem t code spans) (mem t' code spans)
+PlacedAs l nm span t t' class limit code spans (Ok (Upvalue i)) = Gave class limit l steady (resolve nm span) (upvalue_at i) (mem t code spans) (mem t' code spans)
+PlacedAs l nm span t t' class limit code spans (Ok Global) = Gave class limit l steady (resolve nm span) global_named (mem t code spans) (mem t' code spans)
+PlacedAs l nm span t t' class limit code spans (Err x) = Refused class l (resolve nm span) (mem t code spans) (told t' x)
 
-pub record Placed (l nm : ℕ) (span : Span) (t t' : List ℕ) (r : Place) : Type 0 where
+pub record Placed (l nm : ℕ) (span : Span) (t t' : List ℕ) (r : Result Place Why) : Type 0 where
   pub gives : (class limit : ℕ) (code spans : List ℕ) → Fit (mem t code spans) l limit → PlacedAs l nm span t t' class limit code spans r
 
 -- ## The end of a scope
@@ -174,13 +171,14 @@ pub record Passing (limit l : ℕ) (p : Compile Unit) (before now : Mem) : Type 
   pub agrees : {class : ℕ} (rest : Rest) → Agrees class before rest → Agrees class now rest
   pub ahead : Ahead l limit steady before now
 
-abbrev pub PoppedAs : (limit l : ℕ) → Span → (before now : Mem) → Popped → Type 0
-PoppedAs limit l span before now popped.Stop = (class : ℕ) → Gave class limit l steady (pops limit span) tt before now
-PoppedAs limit l span before now popped.Full = (class : ℕ) → Refused class l (pops limit span) before (told (t_of now) (code_full l))
-PoppedAs limit l span before now popped.More = Passing limit l (pops limit span) before now ×
+-- the newest local is gone, and one more may follow; or none was to go
+abbrev pub PoppedAs : (limit l : ℕ) → Span → (before now : Mem) → Result Bool Why → Type 0
+PoppedAs limit l span before now (Ok true) = Passing limit l (pops limit span) before now ×
     (get_or (t_of now) (l * level_words + local_count_place) 0 < get_or (t_of before) (l * level_words + local_count_place) 0)
+PoppedAs limit l span before now (Ok false) = (class : ℕ) → Gave class limit l steady (pops limit span) tt before now
+PoppedAs limit l span before now (Err x) = ((class : ℕ) → Refused class l (pops limit span) before (told (t_of now) x)) × (x ≡ code_full l)
 
-pub record PoppedAt (limit l : ℕ) (span : Span) (before now : Mem) (r : Popped) : Type 0 where
+pub record PoppedAt (limit l : ℕ) (span : Span) (before now : Mem) (r : Result Bool Why) : Type 0 where
   pub does : PoppedAs limit l span before now r
 
 -- ## A context is begun: the level above is the innermost now
@@ -232,8 +230,8 @@ pub record Turning (limit l : ℕ) (p q : Compile Unit) (before now : Mem) : Typ
   pub ahead : Ahead l limit steady before now
 
 abbrev pub PairedAs : (limit l w : ℕ) → Span → (before now : Mem) → Step → Type 0
-PairedAs limit l w span before now (Next v) = (us : List Captured) → Turning limit l (emit_upvalues limit (upvalue_of w ∷ us) span) (emit_upvalues limit us span) before now
-PairedAs limit l w span before now (Stop x) = (us : List Captured) (class : ℕ) → Refused class l (emit_upvalues limit (upvalue_of w ∷ us) span) before (told (t_of now) x)
+PairedAs limit l w span before now (Ok v) = (us : List Captured) → Turning limit l (emit_upvalues limit (upvalue_of w ∷ us) span) (emit_upvalues limit us span) before now
+PairedAs limit l w span before now (Err x) = (us : List Captured) (class : ℕ) → Refused class l (emit_upvalues limit (upvalue_of w ∷ us) span) before (told (t_of now) x)
 
 -- the first of the upvalues that are left is emitted
 pub record PairedAt (limit l w : ℕ) (span : Span) (before now : Mem) (r : Step) : Type 0 where

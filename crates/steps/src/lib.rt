@@ -20,69 +20,44 @@ impl Class {
     pub const WITH_SUPER: u8 = 2;
 }
 
-// Why the compiler stops, as numbers: a refusal by its number, with what it carries, and the level of the function it is in. specs/Why.antt says which
-// refusal it is. A refusal has many forms, and each form would stand in every line that is proved of a function with such an answer. The function's
-// name is in the table, which nobody changes once the compiler stops: it is read in the end.
+// Which refusal stops the compiler, under its name in the rules.
+#[derive(Clone, Copy)]
+pub enum Reason {
+    AlreadyDefined,
+    AccessInsideInitializer,
+    ClassInheritFromSelf,
+    JumpTooLarge,
+    TooManyArgs,
+    TooManyConstants,
+    TooManyLocals,
+    TooManyParams,
+    TooManyUpvalues,
+    ReturnInInitializer,
+    ReturnOutsideFunction,
+    SuperOutsideClass,
+    SuperWithoutSuperclass,
+    ThisOutsideClass,
+    CodeFull,
+}
+
+// Why the compiler stops: the refusal's name, what it carries, and the level of the function it is in; specs/Why.antt says which refusal that is. All have
+// this one form: a case with fields for each would stand in every line that is proved of a function with such an answer. The function's name is in the
+// table, which nobody changes once the compiler stops: it is read in the end.
 #[derive(Drop)]
 pub struct Why {
-    pub number: u8,
+    pub reason: Reason,
     pub span: Span,
     pub name: u16,
     pub around: usize,
 }
 
-impl Why {
-    pub const ALREADY_DEFINED: u8 = 10;
-
-    pub const ACCESS_INSIDE_INITIALIZER: u8 = 11;
-
-    pub const CLASS_INHERIT_FROM_SELF: u8 = 12;
-
-    pub const JUMP_TOO_LARGE: u8 = 13;
-
-    pub const TOO_MANY_ARGS: u8 = 14;
-
-    pub const TOO_MANY_CONSTANTS: u8 = 15;
-
-    pub const TOO_MANY_LOCALS: u8 = 16;
-
-    pub const TOO_MANY_PARAMS: u8 = 17;
-
-    pub const TOO_MANY_UPVALUES: u8 = 18;
-
-    pub const RETURN_IN_INITIALIZER: u8 = 19;
-
-    pub const RETURN_OUTSIDE_FUNCTION: u8 = 20;
-
-    pub const SUPER_OUTSIDE_CLASS: u8 = 21;
-
-    pub const SUPER_WITHOUT_SUPERCLASS: u8 = 22;
-
-    pub const THIS_OUTSIDE_CLASS: u8 = 23;
-
-    pub const CODE_FULL: u8 = 30;
-}
-
 // Where to read on, or why the compiler stops.
-#[derive(Drop)]
-pub enum Step {
-    Next(usize),
-    Stop(Why),
-}
+pub type Step = Result<usize, Why>;
 
-// Where a name is found, or why the compiler stops.
-#[derive(Drop)]
+// Where a name is found.
+#[derive(Clone, Copy)]
 pub enum Place {
     Local(u8),
     Upvalue(u8),
     Global,
-    Nowhere(Why),
-}
-
-// What became of the newest local: it stays, it is gone, or there was no room for its byte.
-#[derive(Drop)]
-pub enum Popped {
-    Stop,
-    More,
-    Full,
 }

@@ -10,13 +10,8 @@ returns-in_default c =
     λ class. let a = c.args in stop _ (ways.constant_full a.level a.limit a.w a.span _ _ _ _ _ c.requires
     c.write_constant-r.ensures c.in_default.is)
 
-pub emit_op-requires : goal.emit_op-requires
-emit_op-requires c =
-    let a = c.args in ways.constant_fit a.level a.limit a.w a.span _ _ _ _ _ c.requires
-    c.write_constant-r.ensures
-
 pub returns : goal.returns
 unfolding emit_op
 returns c =
     λ class. let a = c.args in ways.constant_then a.level a.limit a.w a.span _ _ _ _ _ c.requires
-    c.write_constant-r.ensures _ c.in-At.is (c.emit_op.ensures class)
+    c.write_constant-r.ensures _ c.in-Ok.is (c.emit_op.ensures class)

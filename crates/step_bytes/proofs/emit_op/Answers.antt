@@ -14,4 +14,4 @@ pub returns : goal.returns
 unfolding emit_op
 returns c =
     λ class. let a = c.args in next (ways.byte_gave a.level a.limit a.byte a.span _ _ _ _ _ _ _ c.requires
-    c.emit_u8-r.ensures c.in-Done.is)
+    c.emit_u8-r.ensures c.in-Ok.is)

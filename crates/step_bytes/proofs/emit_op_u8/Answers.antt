@@ -8,8 +8,8 @@ unfolding emit_op emit_op_u8
 returns-in_default c = λ class. halt _ (c.emit_op-a.ensures class) c.in_default.is
 
 pub emit_op-requires : goal.emit_op-requires
-emit_op-requires c = (went (c.emit_op-a.ensures 0) c.in-Next.is).ahead.fit
+emit_op-requires c = (went (c.emit_op-a.ensures 0) c.in-Ok.is).ahead.fit
 
 pub returns : goal.returns
 unfolding emit_op emit_op_u8
-returns c = λ class. then_on _ (c.emit_op-a.ensures class) c.in-Next.is (c.emit_op.ensures class)
+returns c = λ class. then_on _ (c.emit_op-a.ensures class) c.in-Ok.is (c.emit_op.ensures class)

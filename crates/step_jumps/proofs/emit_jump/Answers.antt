@@ -13,26 +13,26 @@ unfolding emit_jump emit_op code_len
 returns-in_default c = λ class. halt_to _ (c.emit_op-a.ensures class) c.in_default.is
 
 pub emit_op-b-requires : goal.emit_op-b-requires
-emit_op-b-requires c = (went (c.emit_op-a.ensures 0) c.in-Next.is).ahead.fit
+emit_op-b-requires c = (went (c.emit_op-a.ensures 0) c.in-Ok.is).ahead.fit
 
 pub returns-in_default-b : goal.returns-in_default-b
 unfolding emit_jump emit_op code_len
 returns-in_default-b c =
-    λ class. then_to _ (c.emit_op-a.ensures class) c.in-Next.is
+    λ class. then_to _ (c.emit_op-a.ensures class) c.in-Ok.is
     (halt_to _ (c.emit_op-b.ensures class) c.in_default-b.is)
 
 pub emit_op-d-requires : goal.emit_op-d-requires
-emit_op-d-requires c = (went (c.emit_op-b.ensures 0) c.in-Next-b.is).ahead.fit
+emit_op-d-requires c = (went (c.emit_op-b.ensures 0) c.in-Ok-b.is).ahead.fit
 
 pub returns-in_default-d : goal.returns-in_default-d
 unfolding emit_jump emit_op code_len
 returns-in_default-d c =
-    λ class. then_to _ (c.emit_op-a.ensures class) c.in-Next.is
-    (then_to _ (c.emit_op-b.ensures class) c.in-Next-b.is
+    λ class. then_to _ (c.emit_op-a.ensures class) c.in-Ok.is
+    (then_to _ (c.emit_op-b.ensures class) c.in-Ok-b.is
     (halt_to _ (c.emit_op-d.ensures class) c.in_default-d.is))
 
 pub code_length-n-requires : goal.code_length-n-requires
-code_length-n-requires c = let f = (went (c.emit_op-d.ensures 0) c.in-Next-d.is).ahead.fit in (f.low, f.wf.size, f.coded.top)
+code_length-n-requires c = let f = (went (c.emit_op-d.ensures 0) c.in-Ok-d.is).ahead.fit in (f.low, f.wf.size, f.coded.top)
 
 pub overflow_sub-result : goal.overflow_sub-result
 unfolding emit_jump emit_op code_len
@@ -41,22 +41,22 @@ overflow_sub-result c =
       arith,
       c.code_length-n.ensures.is [] [],
       longer _ _ (c.emit_op-b.ensures 0)
-          c.in-Next-b.is,
-      longer _ _ (c.emit_op-d.ensures 0) c.in-Next-d.is,
+          c.in-Ok-b.is,
+      longer _ _ (c.emit_op-d.ensures 0) c.in-Ok-d.is,
     )
 
 pub returns : goal.returns
 unfolding emit_jump emit_op code_len
 returns c = λ class.
-    let f = (went (c.emit_op-d.ensures 0) c.in-Next-d.is).ahead.fit in
-    then_to _ (c.emit_op-a.ensures class) c.in-Next.is
-    (then_to _ (c.emit_op-b.ensures class) c.in-Next-b.is
-    (then_to _ (c.emit_op-d.ensures class) c.in-Next-d.is
+    let f = (went (c.emit_op-d.ensures 0) c.in-Ok-d.is).ahead.fit in
+    then_to _ (c.emit_op-a.ensures class) c.in-Ok.is
+    (then_to _ (c.emit_op-b.ensures class) c.in-Ok-b.is
+    (then_to _ (c.emit_op-d.ensures class) c.in-Ok-d.is
     (ways.open_place _ f (c.code_length-n.ensures.is [] [])
     (omega (
       arith,
       c.code_length-n.ensures.is [] [],
       longer _ _ (c.emit_op-b.ensures 0)
-          c.in-Next-b.is,
-      longer _ _ (c.emit_op-d.ensures 0) c.in-Next-d.is,
+          c.in-Ok-b.is,
+      longer _ _ (c.emit_op-d.ensures 0) c.in-Ok-d.is,
     )))))

@@ -14,10 +14,6 @@ pub overflow_add-back : goal.overflow_add-back
 unfolding code_len
 overflow_add-back c = omega (arith, c.code_length.ensures.is [] [], c.requires.0.coded.within, c.requires.0.coded.room_code)
 
-pub overflow_sub-back : goal.overflow_sub-back
-unfolding code_len
-overflow_sub-back c = omega (arith, c.code_length.ensures.is [] [], c.requires.1)
-
 pub returns-then-back-gt-JUMP : goal.returns-then-back-gt-JUMP
 unfolding emit_loop emit_op refusal_of
 returns-then-back-gt-JUMP c =
@@ -31,23 +27,23 @@ returns-in_default c =
     (ask_seq (passed _ _ (le-leb _ _ (search rules))) _ (halt _ (c.emit_op-a.ensures class) c.in_default.is))
 
 pub emit_op-b-requires : goal.emit_op-b-requires
-emit_op-b-requires c = (went (c.emit_op-a.ensures 0) c.in-Next.is).ahead.fit
+emit_op-b-requires c = (went (c.emit_op-a.ensures 0) c.in-Ok.is).ahead.fit
 
 pub returns-in_default-b : goal.returns-in_default-b
 unfolding emit_loop emit_op
 returns-in_default-b c =
     λ class. let a = c.args in ask (c.code_length.ensures.says class a.code.now a.spans.now) _
     (ask_seq (passed _ _ (le-leb _ _ c.if-back-gt-JUMP.false)) _
-    (then_on _ (c.emit_op-a.ensures class) c.in-Next.is
+    (then_on _ (c.emit_op-a.ensures class) c.in-Ok.is
     (halt _ (c.emit_op-b.ensures class) c.in_default-b.is)))
 
 pub emit_op-requires : goal.emit_op-requires
-emit_op-requires c = (went (c.emit_op-b.ensures 0) c.in-Next-b.is).ahead.fit
+emit_op-requires c = (went (c.emit_op-b.ensures 0) c.in-Ok-b.is).ahead.fit
 
 pub returns : goal.returns
 unfolding emit_loop emit_op
 returns c =
     λ class. let a = c.args in ask (c.code_length.ensures.says class a.code.now a.spans.now) _
     (ask_seq (passed _ _ (le-leb _ _ c.if-back-gt-JUMP.false)) _
-    (then_on _ (c.emit_op-a.ensures class) c.in-Next.is
-    (then_on _ (c.emit_op-b.ensures class) c.in-Next-b.is (c.emit_op.ensures class))))
+    (then_on _ (c.emit_op-a.ensures class) c.in-Ok.is
+    (then_on _ (c.emit_op-b.ensures class) c.in-Ok-b.is (c.emit_op.ensures class))))

@@ -20,7 +20,7 @@ pub define_local-requires : goal.define_local-requires
 define_local-requires c =
     let a = c.args in let f = (went
     (c.declare_local-a.ensures.gives {class = 0} a.code.now a.spans.now c.requires)
-    c.in-Next.is).ahead.fit in (f.low, f.wf)
+    c.in-Ok.is).ahead.fit in (f.low, f.wf)
 
 pub returns : goal.returns
 unfolding define_name define_global
@@ -28,5 +28,5 @@ returns c = λ class. let a = c.args in
     let d = c.declare_local-a.ensures.gives {class = class} a.code.now a.spans.now c.requires in
     ask (c.is_global.ensures.says a.code.now a.spans.now) _
     (otherwise _ _ _ c.if-is_global.false
-    (then_on _ d c.in-Next.is
-    (next (c.define_local.ensures.gives a.code.now a.spans.now (went d c.in-Next.is).ahead.fit))))
+    (then_on _ d c.in-Ok.is
+    (next (c.define_local.ensures.gives a.code.now a.spans.now (went d c.in-Ok.is).ahead.fit))))

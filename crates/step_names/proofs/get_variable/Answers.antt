@@ -1,82 +1,18 @@
 -- `get_variable` meets its contract.
 use mathlib.Core.Path.{sym, ◌∙◌}
-use Rattle.rules.specs.Compiler.{get_place}
-use Rattle.steps.proofs.Steps.{stop, anew, did_bind, refused_bind}
+use Rattle.steps.proofs.Steps.{stop, anew}
 use Rattle.step_names.proofs.Names as ways
 use Rattle.step_names.proofs.get_variable.Goals as goal
 
 pub returns-then-lost_this : goal.returns-then-lost_this
 returns-then-lost_this c = let a = c.args in stop _ (ways.lost a.limit a.name a.span a.class (sym c.lost_this.ensures ∙ c.if-lost_this.true) _)
 
-pub emit_op_u8-a-requires : goal.emit_op_u8-a-requires
-emit_op_u8-a-requires c =
-    let a = c.args in (ways.is_local a.level a.limit a.name a.span _ _ _ _ c.requires _
-    c.resolve-place.ensures 0 _ c.in-Local.is).ahead.fit
-
 pub returns-in_default : goal.returns-in_default
-unfolding get_place
 returns-in_default c =
     let a = c.args in ways.kept_on a.limit a.name a.span a.class
-    (sym c.lost_this.ensures ∙ c.if-lost_this.false)
-    (did_bind (ways.is_local a.level a.limit a.name a.span _ _ _ _ c.requires _
-    c.resolve-place.ensures a.class _ c.in-Local.is) _ (c.emit_op_u8-a.ensures a.class))
+    (sym c.lost_this.ensures ∙ c.if-lost_this.false) (c.access_variable-a.ensures a.class)
 
-pub emit_op_u8-a-requires-in-Upvalue : goal.emit_op_u8-a-requires-in-Upvalue
-emit_op_u8-a-requires-in-Upvalue c =
-    let a = c.args in (ways.is_upvalue a.level a.limit a.name a.span _ _ _ _ c.requires _
-    c.resolve-place.ensures 0 _ c.in-Upvalue.is).ahead.fit
-
-pub returns-in_default-a : goal.returns-in_default-a
-unfolding get_place
-returns-in_default-a c =
+pub returns : goal.returns
+returns c =
     let a = c.args in ways.kept_on a.limit a.name a.span a.class
-    (sym c.lost_this.ensures ∙ c.if-lost_this.false)
-    (did_bind (ways.is_upvalue a.level a.limit a.name a.span _ _ _ _ c.requires _
-    c.resolve-place.ensures a.class _ c.in-Upvalue.is) _ (c.emit_op_u8-a-in-Upvalue.ensures a.class))
-
-pub emit_op_name-a-requires : goal.emit_op_name-a-requires
-emit_op_name-a-requires c =
-    let a = c.args in (ways.is_global_name a.level a.limit a.name a.span _ _ _ _ c.requires _
-    c.resolve-place.ensures 0 c.in-Global.is).ahead.fit
-
-pub returns-in_default-a-2 : goal.returns-in_default-a-2
-unfolding get_place
-returns-in_default-a-2 c =
-    let a = c.args in ways.kept_on a.limit a.name a.span a.class
-    (sym c.lost_this.ensures ∙ c.if-lost_this.false)
-    (did_bind (ways.is_global_name a.level a.limit a.name a.span _ _ _ _ c.requires _
-    c.resolve-place.ensures a.class c.in-Global.is) _ (c.emit_op_name-a.ensures a.class))
-
-pub returns-in-Next : goal.returns-in-Next
-unfolding get_place
-returns-in-Next c =
-    let a = c.args in ways.kept_on a.limit a.name a.span a.class
-    (sym c.lost_this.ensures ∙ c.if-lost_this.false)
-    (did_bind (ways.is_local a.level a.limit a.name a.span _ _ _ _ c.requires _ c.resolve-place.ensures
-    a.class _ c.in-Local.is) _ (anew (c.emit_op_u8-a.ensures a.class) c.in-Next.is))
-
-pub returns-in-Next-a : goal.returns-in-Next-a
-unfolding get_place
-returns-in-Next-a c =
-    let a = c.args in ways.kept_on a.limit a.name a.span a.class
-    (sym c.lost_this.ensures ∙ c.if-lost_this.false)
-    (did_bind (ways.is_upvalue a.level a.limit a.name a.span _ _ _ _ c.requires _
-    c.resolve-place.ensures a.class _ c.in-Upvalue.is) _
-    (anew (c.emit_op_u8-a-in-Upvalue.ensures a.class) c.in-Next-a.is))
-
-pub returns-in-Next-a-2 : goal.returns-in-Next-a-2
-unfolding get_place
-returns-in-Next-a-2 c =
-    let a = c.args in ways.kept_on a.limit a.name a.span a.class
-    (sym c.lost_this.ensures ∙ c.if-lost_this.false)
-    (did_bind (ways.is_global_name a.level a.limit a.name a.span _ _ _ _ c.requires _
-    c.resolve-place.ensures a.class c.in-Global.is) _
-    (anew (c.emit_op_name-a.ensures a.class) c.in-Next-a-2.is))
-
-pub returns-in-Nowhere : goal.returns-in-Nowhere
-unfolding get_place
-returns-in-Nowhere c =
-    let a = c.args in ways.kept_on a.limit a.name a.span a.class
-    (sym c.lost_this.ensures ∙ c.if-lost_this.false)
-    (stop _ (refused_bind (ways.is_nowhere a.level a.limit a.name a.span _ _ _ _ c.requires _
-    c.resolve-place.ensures a.class _ c.in-Nowhere.is) _))
+    (sym c.lost_this.ensures ∙ c.if-lost_this.false) (anew (c.access_variable-a.ensures a.class) c.in-Ok.is)

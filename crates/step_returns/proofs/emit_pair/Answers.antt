@@ -8,9 +8,9 @@ returns-in_default c =
     let a = c.args in ways.pair_first a.limit a.level a.w a.span c.requires.1 c.emit_op-a.ensures c.in_default.is
 
 pub emit_op-requires : goal.emit_op-requires
-emit_op-requires c = (went (c.emit_op-a.ensures 0) c.in-Next.is).ahead.fit
+emit_op-requires c = (went (c.emit_op-a.ensures 0) c.in-Ok.is).ahead.fit
 
 pub returns : goal.returns
 returns c =
     let a = c.args in ways.pair_then a.limit a.level a.w a.span c.requires.1
-    c.emit_op-a.ensures c.in-Next.is c.emit_op.ensures
+    c.emit_op-a.ensures c.in-Ok.is c.emit_op.ensures

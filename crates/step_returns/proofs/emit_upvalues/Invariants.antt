@@ -1,17 +1,13 @@
 -- `emit_upvalues` meets its contract. The loop's invariant: the upvalues that are left come to the same from where the loop stands as all of them
--- from where it began. The measure is how many are left.
+-- from where it began.
 use Rattle.step_returns.proofs.Closures as ways
 use Rattle.steps.specs.View.{mem}
 use mathlib.Core.Path.{◌≡◌}
-use lib.ListN.{length, get_or}
-use Prim.Native.Nat.{◌+◌, ◌*◌, ◌-◌, ◌≤◌}
+use lib.ListN.{get_or}
+use Prim.Native.Nat.{◌+◌, ◌*◌}
 use Rattle.state.specs.Layout.{upvalue_count_place, level_words}
 use Rattle.step_returns.proofs.emit_upvalues.Given as goal
 
 abbrev pub invariant-loop-i : goal.invariant-loop-i
 invariant-loop-i l =
-    (ways.Going l.limit l.level l.span l.initial.t l.initial.code l.initial.spans l.i l.n (mem l.t l.code l.spans)) × (l.n ≡ get_or l.initial.t ((l.level + 1) * level_words + upvalue_count_place) 0) × (l.i ≤ l.n) ×
-    (length l.t ≡ length l.initial.t) × (length l.code ≡ length l.initial.code) × (length l.spans ≡ length l.initial.spans)
-
-abbrev pub decreases-loop-i : goal.decreases-loop-i
-decreases-loop-i l = l.n - l.i
+    (ways.Going l.limit l.level l.span l.initial.t l.initial.code l.initial.spans l.i l.n (mem l.t l.code l.spans)) × (l.n ≡ get_or l.initial.t ((l.level + 1) * level_words + upvalue_count_place) 0)

@@ -3,4 +3,4 @@ use Rattle.step_scopes.proofs.Scopes as ways
 use Rattle.step_scopes.proofs.begin_ctx.Goals as goal
 
 pub returns : goal.returns
-returns c = let a = c.args in ways.entered a.level a.name a.arity a.kind _ _ c.requires.0 c.begin_ctx.ensures
+returns c = let a = c.args in ways.entered a.level a.name a.arity _ _ _ c.requires.0 c.begin_ctx.ensures

@@ -1,0 +1,2 @@
+-- What is done with a variable.
+pub mod Access
