@@ -1,19 +1,13 @@
 -- `put_run`: the mark, the two ends of the span and the count, set where there is room for all.
 use Rattle.rules.specs.Image.{run_bytes}
 use Rattle.rules.specs.Base.{le}
-use Rattle.writer_bytes.proofs.Padding.{put_then, has_room}
+use Rattle.writer_bytes.proofs.Padding.{put_then}
 use Rattle.rules.proofs.Numbers.{le_length}
 use native.Mathlib.Omega.{arith}
 use Rattle.writer_runs.proofs.put_run.Goals as goal
 
-pub set_run-requires : goal.set_run-requires
-set_run-requires c = omega (arith, has_room c.args.at 11 c.args.out.now c.has.ensures c.if-has.true)
-
 pub returns-then-has : goal.returns-then-has
 returns-then-has c = c.set_run.ensures
-
-pub put_le-b-requires : goal.put_le-b-requires
-put_le-b-requires c = omega (arith, c.put_mark-a.ensures.next)
 
 pub put_le-c-requires : goal.put_le-c-requires
 put_le-c-requires c = omega (arith, c.put_mark-a.ensures.next, c.put_le-b.ensures.next, le_length 4 c.args.start)

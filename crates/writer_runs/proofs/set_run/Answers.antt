@@ -6,9 +6,6 @@ use Rattle.rules.proofs.Numbers.{le_length}
 use native.Mathlib.Omega.{arith}
 use Rattle.writer_runs.proofs.set_run.Goals as goal
 
-pub set_le-b-requires : goal.set_le-b-requires
-set_le-b-requires c = omega (arith, c.set_mark-a.ensures.next, c.set_mark-a.ensures.size)
-
 pub set_le-c-requires : goal.set_le-c-requires
 set_le-c-requires c = omega (arith, c.set_mark-a.ensures.next, c.set_le-b.ensures.next, le_length 4 c.args.start)
 
