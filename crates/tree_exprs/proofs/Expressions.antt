@@ -249,7 +249,7 @@ module _ (tree : List ℕ) (names : ℕ) where
 
 -- ## A literal
 
-same_place : {A B C : Type 0} (r : Read A) (f : A → Reader B) (g : A → Reader C) → ((a : A) (n : ℕ) → place (f a n) ≡ place (g a n)) → place (go_on r f) ≡ place (go_on r g)
+pub same_place : {A B C : Type 0} (r : Read A) (f : A → Reader B) (g : A → Reader C) → ((a : A) (n : ℕ) → place (f a n) ≡ place (g a n)) → place (go_on r f) ≡ place (go_on r g)
 unfolding go_on place
 same_place (got a n) f g h = h a n
 same_place (bad x) f g h = refl

@@ -66,39 +66,6 @@ module _ (tree : List ℕ) (fault : Refusal) where
 
 -- ## The fixed names
 
-if_same : (t : Bool) → (if t then true else false) ≡ t
-if_same true = refl
-if_same false = refl
-
-abbrev pub t_this : List ℕ
-t_this = 0x74 ∷ 0x68 ∷ 0x69 ∷ 0x73 ∷ []
-
-abbrev pub t_super : List ℕ
-t_super = 0x73 ∷ 0x75 ∷ 0x70 ∷ 0x65 ∷ 0x72 ∷ []
-
-abbrev pub t_init : List ℕ
-t_init = 0x69 ∷ 0x6E ∷ 0x69 ∷ 0x74 ∷ []
-
-abbrev pub t_script : List ℕ
-t_script = 0x3C ∷ 0x73 ∷ 0x63 ∷ 0x72 ∷ 0x69 ∷ 0x70 ∷ 0x74 ∷ 0x3E ∷ []
-
-module _ (x t : List ℕ) where
-  pub fixed_1 : differs x t t_this ≡ false → all (differs x t) fixed_names ≡ false
-  unfolding all fixed_names
-  fixed_1 a = rw a
-
-  pub fixed_2 : differs x t t_this ≡ true → differs x t t_super ≡ false → all (differs x t) fixed_names ≡ false
-  unfolding all fixed_names
-  fixed_2 a b = rw (a, b)
-
-  pub fixed_3 : differs x t t_this ≡ true → differs x t t_super ≡ true → differs x t t_init ≡ false → all (differs x t) fixed_names ≡ false
-  unfolding all fixed_names
-  fixed_3 a b c = rw (a, b, c)
-
-  pub fixed_4 : differs x t t_this ≡ true → differs x t t_super ≡ true → differs x t t_init ≡ true → all (differs x t) fixed_names ≡ differs x t t_script
-  unfolding all fixed_names
-  fixed_4 a b c = rw (a, b, c) (if_same (differs x t t_script))
-
 -- whichever file it is asked in
 pub fixed_in : (x y t : List ℕ) → all (differs x t) fixed_names ≡ all (differs y t) fixed_names
 unfolding differs

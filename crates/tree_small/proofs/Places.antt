@@ -74,9 +74,6 @@ row_some one (suc left) at h = let e : suc left - 1 ≡ left = omega arith in rw
 pub record RowLeft (one : ℕ → Result ℕ Refusal) (count done next at : ℕ) : Type 0 where
   pub is : row one (count - done) next ≡ row one count at
 
-pub row_begins : {one : ℕ → Result ℕ Refusal} {count at : ℕ} → RowLeft one count 0 at at
-row_begins {one} {count} {at} = let q : count - 0 ≡ count = omega arith in record { is = ap (λ (k : ℕ). row one k at) q }
-
 module _ {one : ℕ → Result ℕ Refusal} {count done next at : ℕ} (left : RowLeft one count done next at) where
   pub row_stops : {r : Refusal} → done < count → one next ≡ Err r → Err r ≡ row one count at
   row_stops h e = sym (row_some one (count - done) next (omega arith) ∙ stops (row one (count - done - 1)) e) ∙ left.is

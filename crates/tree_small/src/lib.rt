@@ -32,7 +32,7 @@ pub fn count_at(tree: &[u8], at: usize) -> Option<usize>
     Some(fields::u16_at(tree, at) as usize)
 }
 
-// A name's number, which is below 4 plus the written names.
+// A name's number, which is below 4 plus the written names. One function for this and `byte_at` would be handed the reading of a width and its law, and be no plainer.
 pub fn name_at(tree: &[u8], names: u16, at: usize) -> Option<usize>
     ensures { Tells tree.now (name tree.now names) 2 (4 + names) at result }
 {

@@ -18,19 +18,20 @@ use Rattle.rules.specs.declared.Span.{Span}
 use Rattle.rules.specs.declared.Refusal.{Refusal}
 use Rattle.rules.specs.declared.Refusal.TheVariants.{TreeForm, TreeTooDeep, TooManyOpen}
 use Rattle.rules.specs.Tree.{Expr, Stmt, Stmts, StmtFor, ◌∷ˢ◌, []ˢ}
-use Rattle.rules.specs.Reader.{Read, got, bad, Reader, go_on, ◌>>=◌, ◌>>◌, return, refuse, here, need, u8, u16, mark_is, many}
+use Rattle.rules.specs.Reader.{Read, got, bad, Reader, go_on, ◌>>=◌, ◌>>◌, return, refuse, here, need, one_of, u8, u16, mark, span, mark_is, many}
 use Rattle.rules.specs.TreeFile.{StmtMark, SB, SC, SE, SF, SI, SO, SP, SR, SV, SW, stmt_marks, flags, flag, name, maybe, maybe_stmt, may_open, read_stmts, read_methods, block_fields}
 use Rattle.rules.specs.TreeFile.{class_fields, expression_fields, fun_fields, if_fields, for_fields, print_fields, return_fields, var_stmt_fields, while_fields, stmt_fields, stmt_mark}
-use Rattle.rules.specs.TreeFile.{stmt_record, method_record, read_expr, read_superclass, read_stmt, read_method}
+use Rattle.rules.specs.TreeFile.{EV, expr_marks, expr_mark, expr_fields, expr_record, var_fields, stmt_record, method_record, read_expr, read_superclass, read_stmt, read_method}
 use Rattle.fields.specs.Words.{word8, letters, span_of}
-use Rattle.fields.proofs.Reading.{a_u8, a_span, then_on, then_bad, bad_got, mark_is_it, mark_is_not, mark_is_cut}
+use Rattle.fields.proofs.Reading.{a_u8, a_mark, a_span, then_on, then_bad, bad_got, mark_is_it, mark_is_not, mark_is_cut}
 use Rattle.tree_small.specs.Places.{place, and_then, row, below, known_mark}
 use Rattle.tree_stmts.specs.Stmts.{method_marks, known_stmt, plain, body_from, stmt_place, kids_place, follow_head, children, ClassKids, FunKids, IfKids, ForKids}
 use Rattle.tree_stmts.specs.Stmts.{ValueKids, VarKids, StmtKids, StmtOpens}
 use Rattle.std.specs.Prelude.{Result, Ok, Err, None, Some}
 use Rattle.tree_stmts.specs.declared.Head.{Head}
 use Rattle.tree_small.proofs.Places.{chain, made, goes, stops, and_then_end, and_then_same, row_one, row_some, stmts_row, methods_row, many_row}
-use Rattle.tree_small.proofs.Tables.{if_true, none_some, known_not, outside, Marked, known_some, known_none, known_is, alike, full_flags, below_is, below_big, below_short}
+use Rattle.tree_exprs.proofs.Expressions.{same_place}
+use Rattle.tree_small.proofs.Tables.{if_true, none_some, one_of_is, known_not, outside, Marked, known_some, known_none, known_is, alike, full_flags, below_is, below_big, below_short}
 use Rattle.fields.specs.Marks as marks
 
 pub moved : {A : Type 0} {a : A} {r : Read A} {n m : ℕ} → r ≡ got a n → n ≡ m → r ≡ got a m
@@ -416,34 +417,19 @@ module _ (tree : List ℕ) (names : ℕ) where
   super_not zero at h n = then_bad _ (mark_is_not tree (TreeForm at) marks.EV at h n)
   super_not (suc depth) at h n = then_bad _ (mark_is_not tree (TreeForm at) marks.EV at h n)
 
-  pub super_deep : (depth at : ℕ) → at + 2 ≤ length tree → letters tree at ≡ marks.EV → depth ≡ 0 → read_superclass tree names depth at ≡ bad (TreeTooDeep at)
-  unfolding read_superclass ◌>>=◌ ◌>>◌ here go_on refuse
-  super_deep zero at h e z = then_on _ (mark_is_it tree (TreeForm at) marks.EV at h e)
-  super_deep (suc depth) at h e z = absurd (omega arith)
+  -- an expression with that mark is read as a superclass is
+  variable_mark : (fault : Refusal) (at : ℕ) → at + 2 ≤ length tree → letters tree at ≡ marks.EV → (mark tree fault >>= one_of fault expr_marks) at ≡ got EV (at + 2)
+  unfolding ◌>>=◌ lookup expr_marks
+  variable_mark fault at h e =
+      then_on (one_of fault expr_marks) ((a_mark tree).whole fault at h) ∙ one_of_is expr_marks (letters tree at) fault (at + 2) (ap (λ (n : ℕ). lookup n expr_marks) e)
 
-  pub super_span : (depth at : ℕ) → at + 2 ≤ length tree → letters tree at ≡ marks.EV → (depth ≡ 0 → ⊥) → length tree < at + 10 → read_superclass tree names depth at ≡ bad (TreeForm at)
-  unfolding read_superclass ◌>>=◌ ◌>>◌ here go_on
-  super_span zero at h e z l = absurd (z refl)
-  super_span (suc depth) at h e z l =
-      then_on _ (mark_is_it tree (TreeForm at) marks.EV at h e) ∙ then_bad _ ((a_span tree).short (TreeForm at) (at + 2) (omega arith))
-
-  pub super_from : (depth at : ℕ) → letters tree at ≡ marks.EV → (depth ≡ 0 → ⊥) → at + 10 ≤ length tree
-      → read_superclass tree names depth at ≡ go_on (name tree names (TreeForm at) (at + 10)) (λ n. return (record { span = span_of tree (at + 2); name = n }))
-  unfolding read_superclass ◌>>=◌ ◌>>◌ here go_on
-  super_from zero at e z l = absurd (z refl)
-  super_from (suc depth) at e z l =
-      let q : at + 2 + 8 ≡ at + 10 = omega arith in
-      then_on _ (mark_is_it tree (TreeForm at) marks.EV at (omega arith) e) ∙ then_on _ ((a_span tree).whole (TreeForm at) (at + 2) (omega arith)) ∙
-      ap (λ (k : ℕ). go_on (name tree names (TreeForm at) k) (λ n. return (record { span = span_of tree (at + 2); name = n }))) q
-
-  pub super_unnamed : (depth at : ℕ) → letters tree at ≡ marks.EV → (depth ≡ 0 → ⊥) → at + 10 ≤ length tree → name tree names (TreeForm at) (at + 10) ≡ bad (TreeForm at)
-      → read_superclass tree names depth at ≡ bad (TreeForm at)
-  super_unnamed depth at e z l n = super_from depth at e z l ∙ then_bad _ n
-
-  pub super_is : (depth at : ℕ) → letters tree at ≡ marks.EV → (depth ≡ 0 → ⊥) → at + 10 ≤ length tree → {n m : ℕ} → name tree names (TreeForm at) (at + 10) ≡ got n m
-      → read_superclass tree names depth at ≡ got (record { span = span_of tree (at + 2); name = n }) m
-  unfolding return
-  super_is depth at e z l n = super_from depth at e z l ∙ then_on _ n
+  pub super_is : (depth at : ℕ) → at + 2 ≤ length tree → letters tree at ≡ marks.EV → place (read_expr tree names depth at) ≡ place (read_superclass tree names depth at)
+  unfolding read_superclass read_expr expr_record expr_mark expr_fields var_fields ◌>>=◌ ◌>>◌ here go_on refuse place
+  super_is zero at h e = ap place (then_on _ (variable_mark (TreeForm at) at h e)) ∙ sym (ap place (then_on _ (mark_is_it tree (TreeForm at) marks.EV at h e)))
+  super_is (suc depth) at h e =
+      ap place (then_on _ (variable_mark (TreeForm at) at h e)) ∙
+      same_place (span tree (TreeForm at) (at + 2)) _ _ (λ s n. made (name tree names (TreeForm at) n) _ ∙ sym (made (name tree names (TreeForm at) n) _)) ∙
+      sym (ap place (then_on _ (mark_is_it tree (TreeForm at) marks.EV at h e)))
 
 -- ## A record
 

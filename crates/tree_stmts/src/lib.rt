@@ -11,7 +11,7 @@ ghost use Rattle.fields.specs.Marks as marks;
 
 use fields::Mark;
 use rules::Refusal;
-use tree_exprs::check_exprs;
+use tree_exprs::{check_expr, check_exprs};
 use tree_small::{byte_at, count_at, name_at, names_at};
 
 // What a statement's fields announce. From `at` on stand `init` statements, `cond` expressions, `body` records and `incr` expressions,
@@ -65,16 +65,7 @@ fn superclass(tree: &[u8], names: u16, depth: usize, at: usize) -> Result<usize,
     if fields::mark_at(tree, at) != Mark::VARIABLE {
         return Err(Refusal::TreeForm(at));
     }
-    if depth == 0 {
-        return Err(Refusal::TreeTooDeep(at));
-    }
-    if !fields::has(tree, at, 10) {
-        return Err(Refusal::TreeForm(at));
-    }
-    let Some(_) = name_at(tree, names, at + 10) else {
-        return Err(Refusal::TreeForm(at));
-    };
-    Ok(at + 12)
+    check_expr(tree, names, depth, at)
 }
 
 // `cond` expressions and then `body` records, from `at` on.
@@ -258,9 +249,10 @@ pub fn check_stmt(
 ) -> Result<usize, Refusal>
     ensures { result ≡ stmt_place tree.now names depth funs method at }
 {
-    match open_stmt(tree, names, depth, funs, method, at)? {
-        Head::Kids(plan) => check_kids(tree, names, depth - 1, plan),
-        Head::Exprs(from, count) => Ok(check_exprs(tree, names, depth - 1, count, from)?),
+    match open_stmt(tree, names, depth, funs, method, at) {
+        Err(r) => Err(r),
+        Ok(Head::Kids(plan)) => check_kids(tree, names, depth - 1, plan),
+        Ok(Head::Exprs(from, count)) => Ok(check_exprs(tree, names, depth - 1, count, from)?),
     }
 }
 

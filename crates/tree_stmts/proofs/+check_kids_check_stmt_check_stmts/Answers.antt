@@ -52,26 +52,23 @@ check_kids-returns t c =
 
 -- ## A statement
 
-pub check_stmt-returns-in_err-plan : goal.check_stmt-returns-in_err-plan
+pub check_stmt-returns-in-Err : goal.check_stmt-returns-in-Err
 unfolding follow_head
-check_stmt-returns-in_err-plan t c =
-    let q : c.from_residual.result ≡ Err c.in_err-plan.field-0.0 = search rules in
-    q ∙ follows c.open_stmt.ensures c.in_err-plan.was refl
+check_stmt-returns-in-Err t c = follows c.open_stmt.ensures c.in-Err.is refl
 
-pub check_stmt-returns-in_err-check_exprs-in-Exprs : goal.check_stmt-returns-in_err-check_exprs-in-Exprs
+pub check_stmt-returns-in-Ok-Kids : goal.check_stmt-returns-in-Ok-Kids
 unfolding follow_head
-check_stmt-returns-in_err-check_exprs-in-Exprs t c =
-    let q : c.from_residual-in_err-check_exprs-in-Exprs.result ≡ Err c.in_err-check_exprs-in-Exprs.field-0.0 = search rules in
-    q ∙ follows c.open_stmt.ensures (c.in_ok-plan.was ∙ ap Ok c.in-Exprs.is) c.in_err-check_exprs-in-Exprs.ensures
+check_stmt-returns-in-Ok-Kids t c = follows c.open_stmt.ensures (c.in-Ok-Kids.is ∙ ap Ok c.in-Ok-Kids.field-0-is) c.check_kids.ensures
 
-pub check_stmt-returns-in-Kids : goal.check_stmt-returns-in-Kids
+pub check_stmt-returns-in_err-check_exprs-in-Ok-Exprs : goal.check_stmt-returns-in_err-check_exprs-in-Ok-Exprs
 unfolding follow_head
-check_stmt-returns-in-Kids t c = follows c.open_stmt.ensures (c.in_ok-plan.was ∙ ap Ok c.in-Kids.is) c.check_kids.ensures
+check_stmt-returns-in_err-check_exprs-in-Ok-Exprs t c =
+    let q : c.from_residual.result ≡ Err c.in_err-check_exprs-in-Ok-Exprs.field-0.0 = search rules in
+    q ∙ follows c.open_stmt.ensures (c.in-Ok-Exprs.is ∙ ap Ok c.in-Ok-Exprs.field-0-is) c.in_err-check_exprs-in-Ok-Exprs.ensures
 
-pub check_stmt-returns-in_ok-check_exprs-in-Exprs : goal.check_stmt-returns-in_ok-check_exprs-in-Exprs
+pub check_stmt-returns-in_ok-check_exprs-in-Ok-Exprs : goal.check_stmt-returns-in_ok-check_exprs-in-Ok-Exprs
 unfolding follow_head
-check_stmt-returns-in_ok-check_exprs-in-Exprs t c =
-    follows c.open_stmt.ensures (c.in_ok-plan.was ∙ ap Ok c.in-Exprs.is) c.in_ok-check_exprs-in-Exprs.ensures
+check_stmt-returns-in_ok-check_exprs-in-Ok-Exprs t c = follows c.open_stmt.ensures (c.in-Ok-Exprs.is ∙ ap Ok c.in-Ok-Exprs.field-0-is) c.in_ok-check_exprs-in-Ok-Exprs.ensures
 
 -- ## Statements in a row
 
