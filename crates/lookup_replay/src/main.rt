@@ -5,31 +5,29 @@
 use rules::Answer;
 use std::io;
 use std::io::Read;
-use vectors::Found;
 
-fn wide(n: u32) -> usize {
-    n as usize
-}
-
-// Where the directory stands; 0 where there is none.
-fn directory_at(bytes: &[u8]) -> usize {
+// Where the directory stands, if there is one: the answer then has its place, which is not 0.
+fn directory_at(bytes: &[u8]) -> Option<usize> {
     let a = image::directory_of(bytes);
-    a.at as usize
-}
-
-fn lookup(bytes: &[u8], directory: usize, k: usize) -> Answer {
-    if directory == 0 {
-        return image::code_part(bytes, k);
+    if a.at == 0 {
+        return None;
     }
-    image_directory::code_through(bytes, directory, k)
+    Some(a.at as usize)
 }
 
-fn fold_answer(sum: u64, bytes: &[u8], directory: usize, k: usize) -> u64 {
+fn lookup(bytes: &[u8], directory: Option<usize>, k: usize) -> Answer {
+    match directory {
+        Some(place) => image_directory::code_through(bytes, place, k),
+        None => image::code_part(bytes, k),
+    }
+}
+
+fn fold_answer(sum: u64, bytes: &[u8], directory: Option<usize>, k: usize) -> u64 {
     let a = lookup(bytes, directory, k);
     vectors::fold(vectors::fold(vectors::fold(sum, a.number), a.at), a.end)
 }
 
-fn digest(bytes: &[u8], directory: usize, count: usize) -> u64 {
+fn digest(bytes: &[u8], directory: Option<usize>, count: usize) -> u64 {
     let mut sum: u64 = 0;
     for k in 0..count {
         sum = fold_answer(sum, bytes, directory, k);
@@ -43,14 +41,14 @@ fn line(rt: &impl Print, size: u32, count: u32, sum: u64) -> io::Result<()> {
 
 // One image and its line; false where there is none.
 fn replay<R: Read>(rt: &impl Print, input: &mut R, space: &mut [u8]) -> io::Result<bool> {
-    let Found::Is(count) = vectors::next(input)? else {
+    let Some(count) = vectors::next(input)? else {
         return Ok(false);
     };
     let size = vectors::bytes_next(input, space)?;
-    let n = vectors::least(size, space);
+    let n = space.len().min(size as usize);
     let bytes = &space[..n];
     let directory = directory_at(bytes);
-    line(rt, size, count, digest(bytes, directory, wide(count)))?;
+    line(rt, size, count, digest(bytes, directory, count as usize))?;
     Ok(true)
 }
 

@@ -4,7 +4,7 @@
 // written of what is read.
 #![tactic(auto)]
 
-ghost use Rattle.std.specs.Prelude.{◌≡◌, ◌<◌, length, min, OnOk};
+ghost use Rattle.std.specs.Prelude.{◌<◌, length, OnOk};
 ghost use Rattle.std.specs.Io.KnownBytes.{Appends};
 ghost use Rattle.program.specs.Program.{most, areas, Answered, shown, Wrote};
 
@@ -33,16 +33,6 @@ fn answer(
     entry::compile(tree, 0, out, table, code, spans)
 }
 
-fn least(n: u64, out: &[u8]) -> usize
-    ensures { result ≡ min n (length out.now) }
-{
-    let n = n as usize;
-    if n < out.len() {
-        return n;
-    }
-    out.len()
-}
-
 // A refusal's number and a line end, or the image, which is the front of the output.
 fn show<W: Write>(output: &mut W, a: Answer, out: &[u8]) -> io::Result<()>
     ensures { OnOk result (Appends (W.contents output.old) (W.contents output.new) (shown a out.now)) }
@@ -51,7 +41,7 @@ fn show<W: Write>(output: &mut W, a: Answer, out: &[u8]) -> io::Result<()>
         let number = a.number;
         return writeln!(output, "{number}");
     }
-    let n = least(a.length, out);
+    let n = (a.length as usize).min(out.len());
     output.write_all(&out[..n])
 }
 

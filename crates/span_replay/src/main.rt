@@ -2,25 +2,8 @@
 // in turn). Written is for each list a digest of the answers to that many offsets from 0 on; tests/rust has made what is expected.
 #![tactic(auto)]
 
-ghost use Rattle.std.specs.Prelude.{◌≡◌, length, min};
-
 use std::io;
 use std::io::Read;
-
-fn wide(n: u32) -> usize {
-    n as usize
-}
-
-// How many words of the next list there is room for.
-fn least(n: u32, words: &[u32]) -> usize
-    ensures { result ≡ min n (length words.now) }
-{
-    let n = n as usize;
-    if n < words.len() {
-        return n;
-    }
-    words.len()
-}
 
 fn fill<R: Read>(input: &mut R, words: &mut [u32]) -> io::Result<()> {
     for word in words.iter_mut() {
@@ -53,10 +36,11 @@ fn replay<R: Read>(rt: &impl Print, input: &mut R, words: &mut [u32]) -> io::Res
     if offsets == 0 {
         return Ok(false);
     }
-    let n = least(size, words);
+    // As many words as there is room for.
+    let n = words.len().min(size as usize);
     let part = &mut words[..n];
     fill(input, part)?;
-    line(rt, size, offsets, digest(part, wide(offsets)))?;
+    line(rt, size, offsets, digest(part, offsets as usize))?;
     Ok(true)
 }
 

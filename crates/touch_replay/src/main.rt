@@ -4,10 +4,6 @@
 
 use std::io;
 use std::io::Read;
-use vectors::Found;
-
-// No image is asked for more names.
-const MOST: u32 = 65535;
 
 fn fold_answer(sum: u64, bytes: &[u8], name: u16) -> u64 {
     let a = image_touch::touch(bytes, name);
@@ -23,22 +19,23 @@ fn digest(bytes: &[u8], count: u16) -> u64 {
     sum
 }
 
-fn line(rt: &impl Print, size: u32, count: u32, sum: u64) -> io::Result<()> {
+fn line(rt: &impl Print, size: u32, count: u16, sum: u64) -> io::Result<()> {
     println!(rt; "{size} bytes, {count} names, digest {sum}")
 }
 
 // One image and its line; false where there is none.
 fn replay<R: Read>(rt: &impl Print, input: &mut R, space: &mut [u8]) -> io::Result<bool> {
-    let Found::Is(count) = vectors::next(input)? else {
+    let Some(count) = vectors::next(input)? else {
         return Ok(false);
     };
-    if count > MOST {
+    // No image is asked for more names than a name's number can tell apart.
+    let Ok(count) = u16::try_from(count) else {
         return Ok(false);
-    }
+    };
     let size = vectors::bytes_next(input, space)?;
-    let n = vectors::least(size, space);
+    let n = space.len().min(size as usize);
     let bytes = &space[..n];
-    line(rt, size, count, digest(bytes, count as u16))?;
+    line(rt, size, count, digest(bytes, count))?;
     Ok(true)
 }
 

@@ -1,8 +1,5 @@
 // The packed vectors, one after the other.
-ghost use Rattle.std.specs.Prelude.{◌≤◌};
-
 use crate::Kind;
-use crate::input::Found;
 use reading::read_full;
 use std::io;
 use std::io::Read;
@@ -15,7 +12,7 @@ struct Told {
 }
 
 // The length of the next vector's file. A case has what is lent before it, three numbers that nobody needs here.
-fn length_next<R: Read>(input: &mut R, kind: Kind) -> io::Result<Found> {
+fn length_next<R: Read>(input: &mut R, kind: Kind) -> io::Result<Option<u32>> {
     match kind {
         Kind::Trees => {
             let mut lent = [0u8; 12];
@@ -44,24 +41,15 @@ fn told_next<R: Read>(input: &mut R, kind: Kind, packed: &mut [u8]) -> io::Resul
 // A case's own answer is the whole compiler's: the reader gives 2 to 5 where it does, and else reads the file.
 fn tree_agrees(bytes: &[u8], told: Told) -> bool {
     let a = crate::answer(Kind::Trees, bytes);
-    if told.number < 2 {
+    if told.number < 2 || 5 < told.number {
         return a.number == 0;
     }
-    if 5 < told.number {
-        return a.number == 0;
-    }
-    if a.number != told.number as u64 {
-        return false;
-    }
-    a.at == told.second as u64
+    a.number == told.number as u64 && a.at == told.second as u64
 }
 
 fn image_agrees(bytes: &[u8], told: Told) -> bool {
     let a = crate::answer(Kind::Images, bytes);
-    if a.number != told.number as u64 {
-        return false;
-    }
-    a.length == told.second as u64
+    a.number == told.number as u64 && a.length == told.second as u64
 }
 
 fn agrees(kind: Kind, bytes: &[u8], told: Told) -> bool {
@@ -71,42 +59,44 @@ fn agrees(kind: Kind, bytes: &[u8], told: Told) -> bool {
     }
 }
 
-// One vector: 0 where there is none, 1 where it agrees, 2 where it differs.
+// One vector: whether it agrees, None where there is none.
 fn replay<R: Read>(
     input: &mut R,
     kind: Kind,
     packed: &mut [u8],
     space: &mut [u8],
-) -> io::Result<u8> {
-    let Found::Is(length) = length_next(input, kind)? else {
-        return Ok(0);
+) -> io::Result<Option<bool>> {
+    let Some(length) = length_next(input, kind)? else {
+        return Ok(None);
     };
-    let n = crate::input::least(length, space);
+    let n = space.len().min(length as usize);
+    let bytes = &mut space[..n];
     let size = crate::input::bytes_next(input, packed)?;
-    let m = crate::input::least(size, packed);
-    let whole = crate::pack::unpack(&packed[..m], &mut space[..n]);
+    let m = packed.len().min(size as usize);
+    let whole = crate::pack::unpack(&packed[..m], bytes);
     let told = told_next(input, kind, packed)?;
-    if !whole {
-        return Ok(2);
-    }
-    let k = crate::input::least(length, space);
-    if agrees(kind, &space[..k], told) {
-        return Ok(1);
-    }
-    Ok(2)
+    Ok(Some(whole && agrees(kind, bytes, told)))
 }
 
-pub fn one_if(a: u8, b: u8) -> u64
-    ensures { result ≤ 1 }
+// Vectors until there are no more: how many agree, and how many differ.
+pub fn count<F: FnMut() -> io::Result<Option<bool>>>(
+    rt: &impl Print,
+    mut replay: F,
+) -> io::Result<()>
+    requires { (f : _) → F.pre f }
 {
-    if a == b {
-        return 1;
+    let mut same: u64 = 0;
+    let mut other: u64 = 0;
+    for k in 0..100000u64 {
+        let Some(agrees) = replay()? else {
+            break;
+        };
+        if agrees {
+            same += 1;
+        } else {
+            other += 1;
+        }
     }
-    0
-}
-
-// How many agree, and how many differ.
-pub fn report(rt: &impl Print, same: u64, other: u64) -> io::Result<()> {
     println!(rt; "{same} vectors agree")?;
     if 0 < other {
         println!(rt; "{other} differ")?;
@@ -121,15 +111,5 @@ pub fn replay_all<R: Read>(
     packed: &mut [u8; 524288],
     space: &mut [u8; 1048577],
 ) -> io::Result<()> {
-    let mut same: u64 = 0;
-    let mut other: u64 = 0;
-    for k in 0..100000u64 {
-        let r = replay(input, kind, packed, space)?;
-        if r == 0 {
-            break;
-        }
-        same += one_if(r, 1);
-        other += one_if(r, 2);
-    }
-    report(rt, same, other)
+    count(rt, || replay(input, kind, packed, space))
 }

@@ -15,14 +15,9 @@ fn fold_answer(kind: Kind, sum: u64, bytes: &[u8]) -> u64 {
     fold(fold(fold(sum, a.number), a.at), a.length)
 }
 
-fn next_byte(b: u8) -> u8 {
-    ((b as u16 + 1) % 256) as u8
-}
-
 fn add_one(bytes: &mut [u8], at: usize) {
-    if at < bytes.len() {
-        let b = bytes[at];
-        bytes[at] = next_byte(b);
+    if let Some(b) = bytes.get_mut(at) {
+        *b = b.wrapping_add(1);
     }
 }
 
@@ -83,7 +78,7 @@ fn vary<R: Read>(rt: &impl Print, input: &mut R, kind: Kind, space: &mut [u8]) -
     if size == 0 {
         return Ok(false);
     }
-    let n = crate::input::least(size, space);
+    let n = space.len().min(size as usize);
     line(rt, size, digest(kind, &mut space[..n]))?;
     Ok(true)
 }
