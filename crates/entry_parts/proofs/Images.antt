@@ -7,7 +7,7 @@ use native.Mathlib.Omega.{arith}
 use lib.ListN.{length, replicate, length-append}
 use borrow.Author.Tests.{le-leb, lt-leb}
 use Rattle.rules.specs.Base.{le}
-use Rattle.std.specs.Prelude.{if◌then◌else◌}
+use Rattle.std.specs.Prelude.{if◌then◌else◌, Ok, Err}
 use Rattle.rules.specs.declared.Stopped.{Stopped}
 use Rattle.rules.specs.declared.Refusal.TheVariants.{OutFull}
 use Rattle.rules.specs.Answer.{refusal, accepted, outside, refusal_in}
@@ -18,7 +18,6 @@ use Rattle.writer.specs.Put.{padded, Headed, Records}
 use Rattle.writer.proofs.Padding.{whole_padded}
 use Rattle.writer_directory.specs.Walk.{Directed}
 use Rattle.entry_parts.specs.Ends.{Finished}
-use Rattle.entry_parts.specs.declared.Made.TheVariants.{Image, Refused}
 
 -- ## How long
 
@@ -109,7 +108,7 @@ module _ (options count n : ℕ) {whole : ℕ} {directory : Bool} {out : List �
   long_is : {functions : List ObjectFunction} → Records out n functions → count ≡ length functions → whole ≡ length (wanted options functions)
   long_is {functions} records few = long ∙ with_long records few directory ∙ ap (λ (d : Bool). length (image_with d functions)) asked
 
-  pub finished_full : {x : Stopped} → x ≡ outside (OutFull whole) → length out < whole → Finished options count n out out (Refused x)
+  pub finished_full : {x : Stopped} → x ≡ outside (OutFull whole) → length out < whole → Finished options count n out out (Err x)
   unfolding refusal refusal_in
   finished_full q h = record {
     size = refl;
@@ -121,7 +120,7 @@ module _ (options count n : ℕ) {whole : ℕ} {directory : Bool} {out : List �
   }
 
   pub finished_whole : {mid out' : List ℕ} → whole ≤ length out → Behind directory count n out mid → Headed count mid out'
-      → Finished options count n out out' (Image whole)
+      → Finished options count n out out' (Ok whole)
   finished_whole h d head = record {
     size = head.size ∙ d.size;
     is = λ fs records few lent o.

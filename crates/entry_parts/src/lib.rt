@@ -1,4 +1,4 @@
-// Parts of the entry that need no compiler: the code limit, what is asked for, which refusal the compiler's numbers are, and how a call
+// Parts of the entry that need no compiler: the code limit, what is asked for, which refusal the compiler's answer is, and how a call
 // ends.
 #![tactic(auto)]
 
@@ -12,31 +12,15 @@ ghost use Rattle.entry_parts.specs.Ends.{lent_of, answer_of, output_of, Finished
 use answers::{accepted, outside, refused_in};
 use rules::{Answer, Limit, Refusal, Stopped};
 use state::Table;
-use steps::Why;
+use steps::{Reason, Why};
 use writer::put_header;
 use writer_directory::put_directory;
-
-// What became of a tree: an image of so many bytes in the output, or a refusal.
-#[derive(Drop)]
-pub enum Made {
-    Image(usize),
-    Refused(Stopped),
-}
-
-fn least(a: usize, b: usize) -> usize
-    ensures { result ≡ min a b }
-{
-    if a < b {
-        return a;
-    }
-    b
-}
 
 // By the code bytes and the span words that are lent.
 pub fn code_limit(code: usize, spans: usize) -> usize
     ensures { result ≡ min (min code (spans / 3)) max_code }
 {
-    least(least(code, spans / 3), Limit::CODE_BYTES)
+    code.min(spans / 3).min(Limit::CODE_BYTES)
 }
 
 // The image is to end in a directory. The other bits say nothing.
@@ -46,28 +30,28 @@ fn asks_directory(options: u32) -> bool
     options / 2 % 2 == 1
 }
 
+#[tactic(auto, unfolding(steps::specs::Why::refusal_of))]
 fn refusal_of(why: Why) -> Refusal
     ensures { result ≡ refusal_of why }
 {
-    let number = why.number;
     let span = why.span;
     let name = why.name;
-    match number {
-        Why::ALREADY_DEFINED => Refusal::AlreadyDefined(span, name),
-        Why::ACCESS_INSIDE_INITIALIZER => Refusal::AccessInsideInitializer(span, name),
-        Why::CLASS_INHERIT_FROM_SELF => Refusal::ClassInheritFromSelf(span, name),
-        Why::JUMP_TOO_LARGE => Refusal::JumpTooLarge(span),
-        Why::TOO_MANY_ARGS => Refusal::TooManyArgs(span),
-        Why::TOO_MANY_CONSTANTS => Refusal::TooManyConstants(span),
-        Why::TOO_MANY_LOCALS => Refusal::TooManyLocals(span),
-        Why::TOO_MANY_PARAMS => Refusal::TooManyParams(span),
-        Why::TOO_MANY_UPVALUES => Refusal::TooManyUpvalues(span),
-        Why::RETURN_IN_INITIALIZER => Refusal::ReturnInInitializer(span),
-        Why::RETURN_OUTSIDE_FUNCTION => Refusal::ReturnOutsideFunction(span),
-        Why::SUPER_OUTSIDE_CLASS => Refusal::SuperOutsideClass(span),
-        Why::SUPER_WITHOUT_SUPERCLASS => Refusal::SuperWithoutSuperclass(span),
-        Why::THIS_OUTSIDE_CLASS => Refusal::ThisOutsideClass(span),
-        _ => Refusal::CodeFull,
+    match why.reason {
+        Reason::AlreadyDefined => Refusal::AlreadyDefined(span, name),
+        Reason::AccessInsideInitializer => Refusal::AccessInsideInitializer(span, name),
+        Reason::ClassInheritFromSelf => Refusal::ClassInheritFromSelf(span, name),
+        Reason::JumpTooLarge => Refusal::JumpTooLarge(span),
+        Reason::TooManyArgs => Refusal::TooManyArgs(span),
+        Reason::TooManyConstants => Refusal::TooManyConstants(span),
+        Reason::TooManyLocals => Refusal::TooManyLocals(span),
+        Reason::TooManyParams => Refusal::TooManyParams(span),
+        Reason::TooManyUpvalues => Refusal::TooManyUpvalues(span),
+        Reason::ReturnInInitializer => Refusal::ReturnInInitializer(span),
+        Reason::ReturnOutsideFunction => Refusal::ReturnOutsideFunction(span),
+        Reason::SuperOutsideClass => Refusal::SuperOutsideClass(span),
+        Reason::SuperWithoutSuperclass => Refusal::SuperWithoutSuperclass(span),
+        Reason::ThisOutsideClass => Refusal::ThisOutsideClass(span),
+        Reason::CodeFull => Refusal::CodeFull,
     }
 }
 
@@ -106,26 +90,31 @@ fn whole_bytes(n: usize, functions: usize, directory: bool) -> usize
 }
 
 // An image whose records end at `n`: in the output its header is missing, and its directory where that is asked for. 31 comes after all else.
-pub fn finish_image(out: &mut [u8], n: usize, functions: u64, options: u32) -> Made
+pub fn finish_image(
+    out: &mut [u8],
+    n: usize,
+    functions: u64,
+    options: u32,
+) -> Result<usize, Stopped>
     requires { (6 ≤ n) × (n + 6 + 4 * functions ≤ 1152921504606846976) }
     ensures { Finished options functions n out.old out.new result }
 {
     let directory = asks_directory(options);
     let whole = whole_bytes(n, functions as usize, directory);
     if out.len() < whole {
-        return Made::Refused(outside(Refusal::OutFull(whole)));
+        return Err(outside(Refusal::OutFull(whole)));
     }
     if directory {
         put_directory(out, n, functions);
     }
     put_header(out, functions);
-    Made::Image(whole)
+    Ok(whole)
 }
 
 // Whatever was made, what the work areas held is gone, and after a refusal what the output held too. What was asked for has no part in that, so the
 // contract says it of 0.
 pub fn end_call(
-    made: Made,
+    made: Result<usize, Stopped>,
     out: &mut [u8],
     table: &mut [u64],
     code: &mut [u8],
@@ -137,8 +126,8 @@ pub fn end_call(
     areas::clear8(code);
     areas::clear32(spans);
     match made {
-        Made::Image(n) => accepted(n),
-        Made::Refused(x) => {
+        Ok(n) => accepted(n),
+        Err(x) => {
             areas::clear8(out);
             refused_in(x)
         }

@@ -13,7 +13,7 @@ use rules::{Limit, Name, Span};
 use step_bytes::{emit_invoke, emit_op_u8};
 use step_names::get_variable;
 use step_returns::need_super;
-use steps::{Step, Why};
+use steps::{Reason, Step, Why};
 
 // A call up to its first part that is compiled; the answer's value is where that part stands.
 pub fn call_open(
@@ -31,8 +31,8 @@ pub fn call_open(
     ensures { CallOpened class limit level tree.now at span (mem t.old code.old spans.old) (mem t.new code.new spans.new) result }
 {
     if Limit::ARGS < u16_at(tree, at + 10) {
-        return Step::Stop(Why {
-            number: Why::TOO_MANY_ARGS,
+        return Err(Why {
+            reason: Reason::TooManyArgs,
             span,
             name: 0,
             around: level,
@@ -41,7 +41,7 @@ pub fn call_open(
     let mark = mark_at(tree, at + 12);
     if mark == Mark::SUPER {
         let n = need_super(level, class, span, 0);
-        let Step::Next(_) = n else {
+        let Ok(_) = n else {
             return n;
         };
         return get_variable(
@@ -57,9 +57,9 @@ pub fn call_open(
         );
     }
     if mark == Mark::GET {
-        return Step::Next(at + 24);
+        return Ok(at + 24);
     }
-    Step::Next(at + 12)
+    Ok(at + 12)
 }
 
 // How many parts are compiled one after the other: the arguments, and but for a call on `super` the object or the callee before them.
@@ -93,7 +93,7 @@ pub fn call_close(
     let mark = mark_at(tree, at + 12);
     if mark == Mark::SUPER {
         let a = get_variable(t, code, spans, level, limit, class, Name::SUPER, span, next);
-        let Step::Next(_) = a else {
+        let Ok(_) = a else {
             return a;
         };
         let name = u16_at(tree, at + 22);

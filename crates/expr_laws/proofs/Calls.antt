@@ -1,4 +1,5 @@
 -- Calls: cut around the parts that are compiled one after the other, and the walk over those.
+use Rattle.std.specs.Prelude.{Ok, Err}
 use mathlib.Core.Path.{◌≡◌, refl, sym, ap, subst, ◌∙◌}
 use mathlib.Core.Bool.{Bool, true, false}
 use mathlib.Core.List.{List}
@@ -24,15 +25,13 @@ use Rattle.tree_laws.proofs.Expressions.{RowAt, none_left, one_more, row_read, a
 use Rattle.tree_laws.proofs.Deeper.{deeper}
 use Rattle.steps.specs.View.{Mem, t_of, Rest, view, Agrees, Fit, steady, Ahead, Gave, Refused, Did}
 use Rattle.steps.proofs.Steps.{went, valued, stuck, next, stop, halt, then_on, ahead_then, refused_seq, ask_seq, passed, failed}
-use Rattle.steps.specs.declared.Step.{Step}
-use Rattle.steps.specs.declared.Step.TheVariants.{Next, Stop}
 use Rattle.expr_laws.specs.Exprs.{There, expr_at, Ran, Callee, on_object, on_super, on_value, callee_of, parts, first_part, part_count, open_callee, call_open, call_close, CallOpened, CallParts}
 use Rattle.expr_laws.specs.Exprs.{CallClosed}
 use Rattle.steps.proofs.Monad.{regroup, nothing}
 use Rattle.fields.specs.Marks as marks
 use Rattle.steps.proofs.Jumps.{ahead_none}
 use Rattle.steps.specs.declared.Why.{Why}
-use Rattle.steps.specs.Why.{too_many_args, refusal_of, told}
+use Rattle.steps.specs.Why.{too_many_args, refusal_of, told, Step}
 
 -- ## The parts make the whole
 
@@ -147,7 +146,7 @@ name_is : (tree : List ℕ) (at n : ℕ) → n ≡ word16 tree (at + 22) → n �
 name_is tree at n q = q ∙ ap (word16 tree) (sym (twenty_two at))
 
 module _ {class limit l : ℕ} (tree : List ℕ) (at : ℕ) (span : Span) {before : Mem} where
-  pub too_many : 255 < word16 tree (at + 10) → CallOpened class limit l tree at span before before (Stop (too_many_args l span))
+  pub too_many : 255 < word16 tree (at + 10) → CallOpened class limit l tree at span before before (Err (too_many_args l span))
   unfolding call_open refusal_of
   too_many h = record {
     did = λ d e n r. stop before (refused_seq (failed (leb (word16 tree (at + 10)) 255) (too_many_args l span) refl (lt-leb _ _ h)) _);
@@ -165,34 +164,34 @@ module _ {class limit l : ℕ} (tree : List ℕ) (at : ℕ) (span : Span) {befor
   }
 
   pub super_stop : {now : Mem} {r : Step} {x : Why} {v : ℕ} → word16 tree (at + 10) ≤ 255 → letters tree (at + 12) ≡ marks.EU
-      → Did class limit l v steady (need_super span) before now r → r ≡ Stop x → CallOpened class limit l tree at span before now r
+      → Did class limit l v steady (need_super span) before now r → r ≡ Err x → CallOpened class limit l tree at span before now r
   unfolding open_callee
   super_stop h m d q = few_open h (λ k e n r. as_open at span (super_of tree _ k (at + 12) r m) (halt _ d q))
 
   pub super_open : {mid now : Mem} {r r' : Step} {v k : ℕ} → word16 tree (at + 10) ≤ 255 → letters tree (at + 12) ≡ marks.EU
-      → Did class limit l k steady (need_super span) before mid r → r ≡ Next v → Did class limit l (at + 24) steady (get_variable limit this_name span) mid now r'
+      → Did class limit l k steady (need_super span) before mid r → r ≡ Ok v → Did class limit l (at + 24) steady (get_variable limit this_name span) mid now r'
       → CallOpened class limit l tree at span before now r'
   unfolding open_callee first_part
   super_open h m d q d' = few_open h (λ k e n r. as_open at span (super_of tree _ k (at + 12) r m) (then_on _ d q d'))
 
-  pub object_open : Fit before l limit → word16 tree (at + 10) ≤ 255 → letters tree (at + 12) ≡ marks.EG → CallOpened class limit l tree at span before before (Next (at + 24))
+  pub object_open : Fit before l limit → word16 tree (at + 10) ≤ 255 → letters tree (at + 12) ≡ marks.EG → CallOpened class limit l tree at span before before (Ok (at + 24))
   unfolding open_callee first_part
   object_open fit h m = few_open h (λ k e n r. as_open at span (object_of tree _ k (at + 12) r m) (next (nothing fit)))
 
   pub value_open : Fit before l limit → word16 tree (at + 10) ≤ 255 → (letters tree (at + 12) ≡ marks.EG → ⊥) → (letters tree (at + 12) ≡ marks.EU → ⊥)
-      → CallOpened class limit l tree at span before before (Next (at + 12))
+      → CallOpened class limit l tree at span before before (Ok (at + 12))
   unfolding open_callee first_part
   value_open fit h g u = few_open h (λ k e n r. as_open at span (value_of tree _ k (at + 12) r g u) (next (nothing fit)))
 
   pub close_super_stop : (next : ℕ) {now : Mem} {r : Step} {x : Why} {k : ℕ} → letters tree (at + 12) ≡ marks.EU → Did class limit l k steady (get_variable limit super_name span) before now r
-      → r ≡ Stop x
+      → r ≡ Err x
       → CallClosed class limit l tree at next span before now r
   unfolding call_close
   close_super_stop next m d q = record { did = λ k e n r. as_close _ span (super_of tree _ k (at + 12) r m) (halt _ d q) }
 
   module _ (next name count : ℕ) (c : count ≡ word16 tree (at + 10)) where
     pub close_super : {mid now : Mem} {r r' : Step} {k v : ℕ} → letters tree (at + 12) ≡ marks.EU → name ≡ word16 tree (at + 22)
-        → Did class limit l k steady (get_variable limit super_name span) before mid r → r ≡ Next v
+        → Did class limit l k steady (get_variable limit super_name span) before mid r → r ≡ Ok v
         → Did class limit l next steady (emit_invoke limit op.SUPER_INVOKE (CS name) count span) mid now r' → CallClosed class limit l tree at next span before now r'
     unfolding call_close
     close_super {mid} {now} {r' = r'} m p d q d' = record {
@@ -250,8 +249,8 @@ pub record Walk (class limit l : ℕ) (expr : Reader Expr) (count from : ℕ) (b
   pub to : (es : Exprs) (n : ℕ) → read_exprs count expr from ≡ got es n → Left class limit l expr (compile_exprs limit es) n before now next left
 
 module _ {class limit l : ℕ} {expr : Reader Expr} {count from : ℕ} {before : Mem} where
-  pub walk_start : Fit before l limit → Walk class limit l expr count from before before from count
-  walk_start fit = record { fit = fit; to = λ es n r. record { es = es; is = r; same = λ rest q. refl; agrees = λ rest q. q; ahead = ahead_none fit } }
+  pub walk_start : Fit before l limit → {left : ℕ} → left ≡ count → Walk class limit l expr count from before before from left
+  walk_start fit e = record { fit = fit; to = λ es n r. record { es = es; is = ap (λ (k : ℕ). read_exprs k expr from) e ∙ r; same = λ rest q. refl; agrees = λ rest q. q; ahead = ahead_none fit } }
 
   module _ {now : Mem} {next left : ℕ} (w : Walk class limit l expr count from before now next left) {es : Exprs} {n : ℕ} (r : read_exprs count expr from ≡ got es n) where
     -- one more is there
@@ -263,7 +262,7 @@ module _ {class limit l : ℕ} {expr : Reader Expr} {count from : ℕ} {before :
     pub walk_there : 0 < left → There (expr next)
     walk_there h = let i = head_of h in record { thing = i.one; next = i.mid; is = i.head }
 
-    pub walk_stop : {now' : Mem} {a : Step} {x : Why} → 0 < left → Ran class limit l (expr next) now now' a → a ≡ Stop x → Refused class l (compile_exprs limit es) before (told (t_of now') x)
+    pub walk_stop : {now' : Mem} {a : Step} {x : Why} → 0 < left → Ran class limit l (expr next) now now' a → a ≡ Err x → Refused class l (compile_exprs limit es) before (told (t_of now') x)
     unfolding compile_exprs
     walk_stop h b q =
         let i = head_of h in
@@ -282,7 +281,7 @@ module _ {class limit l : ℕ} {expr : Reader Expr} {count from : ℕ} {before :
         )
 
   module _ {now : Mem} {next left : ℕ} (w : Walk class limit l expr count from before now next left) {now' : Mem} {a : Step} {v : ℕ} (h : 0 < left)
-      (b : Ran class limit l (expr next) now now' a) (q : a ≡ Next v) where
+      (b : Ran class limit l (expr next) now now' a) (q : a ≡ Ok v) where
     step_left : {es : Exprs} {n : ℕ} → read_exprs count expr from ≡ got es n → Left class limit l expr (compile_exprs limit es) n before now' v (left - 1)
     unfolding compile_exprs ◌>>◌ go_on
     step_left {es} {n} r =
@@ -299,5 +298,7 @@ module _ {class limit l : ℕ} {expr : Reader Expr} {count from : ℕ} {before :
           ahead = ahead_then o.ahead g.ahead;
         }
 
-    pub walk_step : Fit now' l limit → Walk class limit l expr count from before now' v (left - 1)
-    walk_step fit = record { fit = fit; to = λ es n r. step_left r }
+    pub walk_step : Fit now' l limit → {less : ℕ} → less + 1 ≡ left → Walk class limit l expr count from before now' v less
+    walk_step fit {less} e =
+        let p : left - 1 ≡ less = omega arith in
+        record { fit = fit; to = λ es n r. subst (Left class limit l expr (compile_exprs limit es) n before now' v) p (step_left r) }

@@ -1,4 +1,5 @@
 -- Operators: their opcodes, and an infix operator cut at its right side.
+use Rattle.std.specs.Prelude.{Ok, Err}
 use mathlib.Core.Path.{◌≡◌, refl, sym, ap, subst, ◌∙◌}
 use mathlib.Core.Option.{some}
 use mathlib.Core.List.{List, ◌∷◌, []}
@@ -16,12 +17,10 @@ use Rattle.rules.specs.Compiler.{Compiler, Compile, go_on, ◌>>=◌, ◌>>◌, 
 use Rattle.tree_laws.proofs.Taken.{row, no_row}
 use Rattle.steps.specs.View.{Mem, t_of, Fit, code_len, steady, Gave, Refused, Did, Opened}
 use Rattle.steps.proofs.Steps.{went, went_to, placed, stuck, stuck_to, still, gave_bind, gave_seq, gave_refused, gave_refused_seq, refused_bind, refused_seq, by_name}
-use Rattle.steps.specs.declared.Step.{Step}
-use Rattle.steps.specs.declared.Step.TheVariants.{Next, Stop}
 use Rattle.expr_laws.specs.Exprs.{PrefixOp, InfixOp, before_right, after_right, BegunAs, BegunBy, Begun, Closed}
 use Rattle.steps.proofs.Monad.{returned, cut_and, cut_or}
 use Rattle.tree_laws.proofs.Statements.{same_some}
-use Rattle.steps.specs.Why.{told}
+use Rattle.steps.specs.Why.{told, Step}
 use Rattle.steps.specs.declared.Why.{Why}
 
 -- ## Opcodes
@@ -119,13 +118,13 @@ module _ {class limit l n : ℕ} where
       → BegunBy class limit l n (before_right limit o' span) before now r
   begun_by span {before = before} {now = now} {r = r} e d = subst (λ (x : OpInfix). BegunBy class limit l n (before_right limit x span) before now r) e d
 
-  stopped_by : {m : Compile ℕ} {before now : Mem} {r : Step} {x : Why} → r ≡ Stop x → Refused class l m before (told (t_of now) x) → BegunBy class limit l n m before now r
+  stopped_by : {m : Compile ℕ} {before now : Mem} {r : Step} {x : Why} → r ≡ Err x → Refused class l m before (told (t_of now) x) → BegunBy class limit l n m before now r
   stopped_by {m} {before} {now} q h = record { does = subst (λ (s : Step). BegunAs class limit l n m before now s) (sym q) h }
 
   -- the last step, and then the place
   last_as : (place : ℕ) {m : Compile Unit} {mid now : Mem} → place + 2 ≤ code_len mid l → (r : Step) → Did class limit l place steady m mid now r
       → BegunBy class limit l n (m >> return place) mid now r
-  last_as place {m} {mid} {now} h (Next v) d =
+  last_as place {m} {mid} {now} h (Ok v) d =
       let g = d.does.0 in
       record {
         does = (
@@ -133,19 +132,19 @@ module _ {class limit l n : ℕ} where
           λ _. subst (λ (k : ℕ). k + 2 ≤ code_len now l) (sym d.does.1) (le_trans h g.ahead.up),
         );
       }
-  last_as place h (Stop x) d = record { does = refused_seq d.does (return place) }
+  last_as place h (Err x) d = record { does = refused_seq d.does (return place) }
 
   bind_as : {A : Type 0} {m : Compile A} {v : A} {before mid now : Mem} → Gave class limit l steady m v before mid → (next : A → Compile ℕ) → (r : Step) → BegunBy class limit l n (next v) mid now r
       → BegunBy class limit l n (m >>= next) before now r
-  bind_as g next (Next v) d = record { does = (gave_bind g next d.does.0, d.does.1) }
-  bind_as g next (Stop x) d = record { does = gave_refused g next d.does }
+  bind_as g next (Ok v) d = record { does = (gave_bind g next d.does.0, d.does.1) }
+  bind_as g next (Err x) d = record { does = gave_refused g next d.does }
 
   seq_as : {A : Type 0} {m : Compile A} {v : A} {before mid now : Mem} → Gave class limit l steady m v before mid → (next : Compile ℕ) → (r : Step) → BegunBy class limit l n next mid now r
       → BegunBy class limit l n (m >> next) before now r
-  seq_as g next (Next v) d = record { does = (gave_seq g next d.does.0, d.does.1) }
-  seq_as g next (Stop x) d = record { does = gave_refused_seq g next d.does }
+  seq_as g next (Ok v) d = record { does = (gave_seq g next d.does.0, d.does.1) }
+  seq_as g next (Err x) d = record { does = gave_refused_seq g next d.does }
 
-  pub begun_plain : (span : Span) {m : Mem} → n < 10 → Fit m l limit → Begun class limit l n span m m (Next 0)
+  pub begun_plain : (span : Span) {m : Mem} → n < 10 → Fit m l limit → Begun class limit l n span m m (Ok 0)
   begun_plain span {m} b fit = record {
     did = λ o h. record {
       does =
@@ -153,7 +152,7 @@ module _ {class limit l n : ℕ} where
     };
   }
 
-  pub begun_stop : (span : Span) {before now : Mem} {r : Step} {x : Why} → 10 ≤ n → Opened class limit l steady (emit_jump limit op.JUMP_IF_FALSE span) before now r → r ≡ Stop x
+  pub begun_stop : (span : Span) {before now : Mem} {r : Step} {x : Why} → 10 ≤ n → Opened class limit l steady (emit_jump limit op.JUMP_IF_FALSE span) before now r → r ≡ Err x
       → Begun class limit l n span before now r
   unfolding before_right
   begun_stop span b a q = record {
@@ -164,7 +163,7 @@ module _ {class limit l n : ℕ} where
         (eleven n h b);
   }
 
-  pub begun_and : (span : Span) {before mid now : Mem} {r r' : Step} {j : ℕ} → n ≡ 10 → Opened class limit l steady (emit_jump limit op.JUMP_IF_FALSE span) before mid r → r ≡ Next j
+  pub begun_and : (span : Span) {before mid now : Mem} {r r' : Step} {j : ℕ} → n ≡ 10 → Opened class limit l steady (emit_jump limit op.JUMP_IF_FALSE span) before mid r → r ≡ Ok j
       → Did class limit l j steady (emit_op limit op.POP span) mid now r' → Begun class limit l n span before now r'
   unfolding before_right
   begun_and span {r' = r'} {j = j} e a q d = record { did = λ o h. begun_by span (is_and n h e) (bind_as (went_to a q) _ r' (last_as j (placed a q) r' d)) }
@@ -173,21 +172,21 @@ module _ {class limit l n : ℕ} where
   or_as span b z d = record { did = λ o h. ⊎_elim (λ e. absurd (z e)) (λ e. begun_by span (is_or n h e) d) (eleven n h b) }
 
   pub begun_or_stop : (span : Span) {before mid now : Mem} {r r' : Step} {j : ℕ} {x : Why} → 10 ≤ n → (n ≡ 10 → ⊥)
-      → Opened class limit l steady (emit_jump limit op.JUMP_IF_FALSE span) before mid r → r ≡ Next j
-      → Opened class limit l steady (emit_jump limit op.JUMP span) mid now r' → r' ≡ Stop x → Begun class limit l n span before now r'
+      → Opened class limit l steady (emit_jump limit op.JUMP_IF_FALSE span) before mid r → r ≡ Ok j
+      → Opened class limit l steady (emit_jump limit op.JUMP span) mid now r' → r' ≡ Err x → Begun class limit l n span before now r'
   unfolding before_right
   begun_or_stop span {r' = r'} b z a q d q' = or_as span b z (bind_as (went_to a q) _ r' (stopped_by q' (refused_bind (stuck_to d q') _)))
 
   pub begun_or_stop_2 : (span : Span) {before mid late now : Mem} {r r' r'' : Step} {i j k : ℕ} {x : Why} → 10 ≤ n → (n ≡ 10 → ⊥)
-      → Opened class limit l steady (emit_jump limit op.JUMP_IF_FALSE span) before mid r → r ≡ Next i
-      → Opened class limit l steady (emit_jump limit op.JUMP span) mid late r' → r' ≡ Next j → Did class limit l k steady (patch_jump i span) late now r'' → r'' ≡ Stop x
+      → Opened class limit l steady (emit_jump limit op.JUMP_IF_FALSE span) before mid r → r ≡ Ok i
+      → Opened class limit l steady (emit_jump limit op.JUMP span) mid late r' → r' ≡ Ok j → Did class limit l k steady (patch_jump i span) late now r'' → r'' ≡ Err x
       → Begun class limit l n span before now r''
   unfolding before_right
   begun_or_stop_2 span {r'' = r''} b z a q d q' f q'' = or_as span b z (bind_as (went_to a q) _ r'' (bind_as (went_to d q') _ r'' (stopped_by q'' (refused_seq (stuck f q'') _))))
 
   pub begun_or : (span : Span) {before mid late last now : Mem} {r r' r'' r''' : Step} {i j k v : ℕ} → 10 ≤ n → (n ≡ 10 → ⊥)
-      → Opened class limit l steady (emit_jump limit op.JUMP_IF_FALSE span) before mid r → r ≡ Next i
-      → Opened class limit l steady (emit_jump limit op.JUMP span) mid late r' → r' ≡ Next j → Did class limit l k steady (patch_jump i span) late last r'' → r'' ≡ Next v
+      → Opened class limit l steady (emit_jump limit op.JUMP_IF_FALSE span) before mid r → r ≡ Ok i
+      → Opened class limit l steady (emit_jump limit op.JUMP span) mid late r' → r' ≡ Ok j → Did class limit l k steady (patch_jump i span) late last r'' → r'' ≡ Ok v
       → Did class limit l j steady (emit_op limit op.POP span) last now r''' → Begun class limit l n span before now r'''
   unfolding before_right
   begun_or span {r''' = r'''} {j = j} b z a q d q' f q'' g =

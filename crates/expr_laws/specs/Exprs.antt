@@ -1,6 +1,6 @@
 -- What the functions that compile an expression say: what was read at a place is compiled by the rules' `compile_expr`. An infix operator and a
 -- call are cut in parts, since their children are compiled in between; proofs/ has the laws that the parts make the whole.
-use Rattle.std.specs.Prelude.{◌≡◌, List, ℕ, suc, ◌+◌, ◌≤◌, leb}
+use Rattle.std.specs.Prelude.{◌≡◌, List, ℕ, suc, ◌+◌, ◌≤◌, leb, Ok, Err}
 use Rattle.std.proofs.Math.Option.{some}
 use Rattle.rules.specs.Base.{lookup}
 use Rattle.rules.specs.declared.Span.{Span}
@@ -13,10 +13,8 @@ use Rattle.rules.specs.Op as op
 use Rattle.rules.specs.Chunk.{CS}
 use Rattle.rules.specs.Compiler.{Compile, return, done, need, emit_op, emit_op_u8, emit_invoke, emit_jump, patch_jump, prefix_op, need_super, get_variable, compile_expr, ◌>>=◌, ◌>>◌}
 use Rattle.fields.specs.Words.{word16}
-use Rattle.steps.specs.Why.{told}
+use Rattle.steps.specs.Why.{told, Step}
 use Rattle.steps.specs.View.{Mem, t_of, code_len, steady, Gave, Refused, Did}
-use Rattle.steps.specs.declared.Step.{Step}
-use Rattle.steps.specs.declared.Step.TheVariants.{Next, Stop}
 
 -- ## What was read
 
@@ -88,8 +86,8 @@ pub record InfixOp (n r : ℕ) : Type 0 where
   pub is : (o : OpInfix) → lookup n infix_ops ≡ some o → (limit place : ℕ) (span : Span) → after_right limit o place span ≡ emit_op limit r span
 
 abbrev pub BegunAs : (class limit l n : ℕ) → Compile ℕ → (before now : Mem) → Step → Type 0
-BegunAs class limit l n m before now (Next v) = Gave class limit l steady m v before now × (10 ≤ n → v + 2 ≤ code_len now l)
-BegunAs class limit l n m before now (Stop x) = Refused class l m before (told (t_of now) x)
+BegunAs class limit l n m before now (Ok v) = Gave class limit l steady m v before now × (10 ≤ n → v + 2 ≤ code_len now l)
+BegunAs class limit l n m before now (Err x) = Refused class l m before (told (t_of now) x)
 
 pub record BegunBy (class limit l n : ℕ) (m : Compile ℕ) (before now : Mem) (r : Step) : Type 0 where
   pub does : BegunAs class limit l n m before now r
@@ -161,7 +159,7 @@ module _ (limit : ℕ) where
 pub record CallOpened (class limit l : ℕ) (tree : List ℕ) (at : ℕ) (span : Span) (before now : Mem) (r : Step) : Type 0 where
   pub did : (d : ℕ) (e : Expr) (n : ℕ) → expr_at tree d (at + 12) ≡ got e n
       → Did class limit l (first_part (callee_of e) at) steady (call_open limit (callee_of e) (word16 tree (at + 10)) span) before now r
-  pub few : (v : ℕ) → r ≡ Next v → word16 tree (at + 10) ≤ 255
+  pub few : (v : ℕ) → r ≡ Ok v → word16 tree (at + 10) ≤ 255
 
 pub record CallParts (tree : List ℕ) (at r : ℕ) : Type 0 where
   pub is : (d : ℕ) (e : Expr) (n : ℕ) → expr_at tree d (at + 12) ≡ got e n → r ≡ part_count (callee_of e) (word16 tree (at + 10))

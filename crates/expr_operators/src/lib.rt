@@ -56,21 +56,21 @@ pub fn before_right(
     ensures { (class : ℕ) → Begun class limit level operator span (mem t.old code.old spans.old) (mem t.new code.new spans.new) result }
 {
     if operator < 10 {
-        return Step::Next(0);
+        return Ok(0);
     }
     let a = emit_jump(t, code, spans, level, limit, Op::JUMP_IF_FALSE, span);
-    let Step::Next(first) = a else {
+    let Ok(first) = a else {
         return a;
     };
     if operator == 10 {
         return emit_op(t, code, spans, level, limit, Op::POP, span, first);
     }
     let b = emit_jump(t, code, spans, level, limit, Op::JUMP, span);
-    let Step::Next(second) = b else {
+    let Ok(second) = b else {
         return b;
     };
     let d = patch_jump(t, code, spans, level, limit, first, span, 0);
-    let Step::Next(_) = d else {
+    let Ok(_) = d else {
         return d;
     };
     emit_op(t, code, spans, level, limit, Op::POP, span, second)

@@ -27,15 +27,15 @@ pub fn compile_super(
     ensures { Did class limit level next steady (compile_super limit name span) (mem t.old code.old spans.old) (mem t.new code.new spans.new) result }
 {
     let n = need_super(level, class, span, next);
-    let Step::Next(_) = n else {
+    let Ok(_) = n else {
         return n;
     };
     let a = get_variable(t, code, spans, level, limit, class, Name::THIS, span, next);
-    let Step::Next(_) = a else {
+    let Ok(_) = a else {
         return a;
     };
     let b = get_variable(t, code, spans, level, limit, class, Name::SUPER, span, next);
-    let Step::Next(_) = b else {
+    let Ok(_) = b else {
         return b;
     };
     emit_op_name(

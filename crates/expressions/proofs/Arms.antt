@@ -1,4 +1,5 @@
 -- The arms of `compile_expr`: from what is known of its steps, that the expression that was read is compiled. One law for each way out.
+use Rattle.std.specs.Prelude.{Ok, Err}
 use mathlib.Core.Path.{◌≡◌, sym, ap, ap₂, subst, ◌∙◌}
 use mathlib.Core.Bool.{true, false}
 use mathlib.Core.Option.{some}
@@ -23,22 +24,20 @@ use Rattle.tree_laws.proofs.Later.{later_expr}
 use Rattle.state.specs.Layout.{constant_of}
 use Rattle.steps.specs.View.{Mem, t_of, Fit, code_len, steady, Gave, Refused, Did}
 use Rattle.steps.proofs.Steps.{went, valued, still, stop, halt, then_on, did_bind, did_seq, refused_bind, refused_seq, gave_refused_seq}
-use Rattle.steps.specs.declared.Step.{Step}
-use Rattle.steps.specs.declared.Step.TheVariants.{Next, Stop}
 use Rattle.expr_laws.specs.Exprs.{There, Somewhere, expr_at, Ran, PrefixOp, before_right, after_right, BegunAs, BegunBy, Begun, Closed, callee_of, parts, first_part, part_count, call_open}
 use Rattle.expr_laws.specs.Exprs.{call_close, CallOpened, CallParts, CallClosed}
 use Rattle.steps.proofs.Monad.{like, on_to}
 use Rattle.expr_laws.proofs.Operators.{infix_cut}
 use Rattle.expr_laws.proofs.Calls.{call_cut, first_on, parts_read, Walk, walk_stop, walk_done}
 use Rattle.fields.specs.Marks as marks
-use Rattle.steps.specs.Why.{told}
+use Rattle.steps.specs.Why.{told, Step}
 use Rattle.steps.specs.declared.Why.{Why}
 
 -- a number's word is the number
 number_word : (n : ℕ) → n ≤ max_bits → constant_of n ≡ CN n
 number_word n h = let b : n < 2 ^ 63 = omega arith in rw (lt-ltb n (2 ^ 63) b)
 
-same_stop : {class limit l n : ℕ} {m : Compile Unit} {before now : Mem} {r : Step} {x : Why} → r ≡ Stop x → Refused class l m before (told (t_of now) x) → Did class limit l n steady m before now r
+same_stop : {class limit l n : ℕ} {m : Compile Unit} {before now : Mem} {r : Step} {x : Why} → r ≡ Err x → Refused class l m before (told (t_of now) x) → Did class limit l n steady m before now r
 same_stop {class} {limit} {l} {n} {m} {before} {now} q h = subst (λ (s : Step). Did class limit l n steady m before now s) (sym q) (stop now h)
 
 module _ {class limit l : ℕ} {before : Mem} where
@@ -112,7 +111,7 @@ module _ {class limit l : ℕ} {before : Mem} where
 
     -- ## A name and an expression
 
-    pub assign_done : {mid now : Mem} {r r' : Step} {v : ℕ} → letters tree at ≡ marks.EA → Ran class limit l (expr_at tree (d - 1) (at + 12)) before mid r → r ≡ Next v
+    pub assign_done : {mid now : Mem} {r r' : Step} {v : ℕ} → letters tree at ≡ marks.EA → Ran class limit l (expr_at tree (d - 1) (at + 12)) before mid r → r ≡ Ok v
         → Did class limit l v steady (set_variable limit name sp) mid now r' → Ran class limit l (expr_at tree d at) before now r'
     unfolding compile_expr
     assign_done m a q b = record {
@@ -122,7 +121,7 @@ module _ {class limit l : ℕ} {before : Mem} where
           by (i.is ∙ ap₂ (λ w k. ExprAssign w k i.value) (sym s) (sym p)) (then_on _ c q (on_to (valued c q) b));
     }
 
-    pub get_done : {mid now : Mem} {r r' : Step} {v : ℕ} → letters tree at ≡ marks.EG → Ran class limit l (expr_at tree (d - 1) (at + 12)) before mid r → r ≡ Next v
+    pub get_done : {mid now : Mem} {r r' : Step} {v : ℕ} → letters tree at ≡ marks.EG → Ran class limit l (expr_at tree (d - 1) (at + 12)) before mid r → r ≡ Ok v
         → Did class limit l v steady (emit_op_constant limit op.GET_PROPERTY (CS name) sp) mid now r' → Ran class limit l (expr_at tree d at) before now r'
     unfolding compile_expr
     get_done m a q b = record {
@@ -132,8 +131,8 @@ module _ {class limit l : ℕ} {before : Mem} where
           by (i.is ∙ ap₂ (λ w k. ExprGet w k i.object) (sym s) (sym p)) (then_on _ c q (on_to (valued c q) b));
     }
 
-    pub set_done : {mid late now : Mem} {r r' r'' : Step} {v v' : ℕ} → letters tree at ≡ marks.ES → Ran class limit l (expr_at tree (d - 1) (at + 12)) before mid r → r ≡ Next v
-        → Ran class limit l (expr_at tree (d - 1) v) mid late r' → r' ≡ Next v' → Did class limit l v' steady (emit_op_constant limit op.SET_PROPERTY (CS name) sp) late now r''
+    pub set_done : {mid late now : Mem} {r r' r'' : Step} {v v' : ℕ} → letters tree at ≡ marks.ES → Ran class limit l (expr_at tree (d - 1) (at + 12)) before mid r → r ≡ Ok v
+        → Ran class limit l (expr_at tree (d - 1) v) mid late r' → r' ≡ Ok v' → Did class limit l v' steady (emit_op_constant limit op.SET_PROPERTY (CS name) sp) late now r''
         → Ran class limit l (expr_at tree d at) before now r''
     unfolding compile_expr
     set_done m a q b q' f = record {
@@ -146,29 +145,29 @@ module _ {class limit l : ℕ} {before : Mem} where
 
   module _ (tree : List ℕ) (d at : ℕ) where
     -- the first child stopped
-    pub assign_stop : {now : Mem} {r : Step} {x : Why} → letters tree at ≡ marks.EA → Ran class limit l (expr_at tree (d - 1) (at + 12)) before now r → r ≡ Stop x
+    pub assign_stop : {now : Mem} {r : Step} {x : Why} → letters tree at ≡ marks.EA → Ran class limit l (expr_at tree (d - 1) (at + 12)) before now r → r ≡ Err x
         → Ran class limit l (expr_at tree d at) before now r
     unfolding compile_expr
     assign_stop m a q = record { did = λ e n z. let i = assign_at tree (word16 tree 2) d at m z in by i.is (halt _ (a.did i.value n i.one) q) }
 
-    pub get_stop : {now : Mem} {r : Step} {x : Why} → letters tree at ≡ marks.EG → Ran class limit l (expr_at tree (d - 1) (at + 12)) before now r → r ≡ Stop x
+    pub get_stop : {now : Mem} {r : Step} {x : Why} → letters tree at ≡ marks.EG → Ran class limit l (expr_at tree (d - 1) (at + 12)) before now r → r ≡ Err x
         → Ran class limit l (expr_at tree d at) before now r
     unfolding compile_expr
     get_stop m a q = record { did = λ e n z. let i = get_at tree (word16 tree 2) d at m z in by i.is (halt _ (a.did i.object n i.one) q) }
 
-    pub set_stop : {now : Mem} {r : Step} {x : Why} → letters tree at ≡ marks.ES → Ran class limit l (expr_at tree (d - 1) (at + 12)) before now r → r ≡ Stop x
+    pub set_stop : {now : Mem} {r : Step} {x : Why} → letters tree at ≡ marks.ES → Ran class limit l (expr_at tree (d - 1) (at + 12)) before now r → r ≡ Err x
         → Ran class limit l (expr_at tree d at) before now r
     unfolding compile_expr
     set_stop m a q = record { did = λ e n z. let i = set_at tree (word16 tree 2) d at m z in by i.is (halt _ (a.did i.value i.mid i.one) q) }
 
     pub set_second : {mid : Mem} {r : Step} {v n : ℕ} {e : Expr} → letters tree at ≡ marks.ES → expr_at tree d at ≡ got e n → Ran class limit l (expr_at tree (d - 1) (at + 12)) before mid r
-        → r ≡ Next v → There (expr_at tree (d - 1) v)
+        → r ≡ Ok v → There (expr_at tree (d - 1) v)
     set_second m z a q =
         let i = set_at tree (word16 tree 2) d at m z in
         record { thing = i.object; next = _; is = ap (expr_at tree (d - 1)) (valued (a.did i.value i.mid i.one) q) ∙ i.two }
 
-    pub set_stop_2 : {mid now : Mem} {r r' : Step} {v : ℕ} {x : Why} → letters tree at ≡ marks.ES → Ran class limit l (expr_at tree (d - 1) (at + 12)) before mid r → r ≡ Next v
-        → Ran class limit l (expr_at tree (d - 1) v) mid now r' → r' ≡ Stop x → Ran class limit l (expr_at tree d at) before now r'
+    pub set_stop_2 : {mid now : Mem} {r r' : Step} {v : ℕ} {x : Why} → letters tree at ≡ marks.ES → Ran class limit l (expr_at tree (d - 1) (at + 12)) before mid r → r ≡ Ok v
+        → Ran class limit l (expr_at tree (d - 1) v) mid now r' → r' ≡ Err x → Ran class limit l (expr_at tree d at) before now r'
     unfolding compile_expr
     set_stop_2 m a q b q' = record {
       did = λ e n z.
@@ -180,14 +179,14 @@ module _ {class limit l : ℕ} {before : Mem} where
 
     -- ## Operators
 
-    pub prefix_stop : {now : Mem} {r : Step} {x : Why} → letters tree at ≡ marks.EP → Ran class limit l (expr_at tree (d - 1) (at + 11)) before now r → r ≡ Stop x
+    pub prefix_stop : {now : Mem} {r : Step} {x : Why} → letters tree at ≡ marks.EP → Ran class limit l (expr_at tree (d - 1) (at + 11)) before now r → r ≡ Err x
         → Ran class limit l (expr_at tree d at) before now r
     unfolding compile_expr
     prefix_stop m a q = record { did = λ e n z. let i = prefix_at tree (word16 tree 2) d at m z in by i.is (halt _ (a.did i.rt n i.one) q) }
 
     pub prefix_done : {mid now : Mem} {r r' : Step} {v : ℕ} (byte operator : ℕ) (sp : Span) → sp ≡ span_of tree (at + 2) → operator ≡ word8 tree (at + 10) → PrefixOp operator byte
         → letters tree at ≡ marks.EP
-        → Ran class limit l (expr_at tree (d - 1) (at + 11)) before mid r → r ≡ Next v → Did class limit l v steady (emit_op limit byte sp) mid now r'
+        → Ran class limit l (expr_at tree (d - 1) (at + 11)) before mid r → r ≡ Ok v → Did class limit l v steady (emit_op limit byte sp) mid now r'
         → Ran class limit l (expr_at tree d at) before now r'
     unfolding compile_expr
     prefix_done {mid} {now} {r' = r'} {v = v} byte operator sp s w p m a q b = record {
@@ -199,26 +198,26 @@ module _ {class limit l : ℕ} {before : Mem} where
           (then_on _ c q (on_to (valued c q) (subst (λ (k : ℕ). Did class limit l v steady (emit_op limit k sp) mid now r') y b)));
     }
 
-    pub infix_stop : {now : Mem} {r : Step} {x : Why} → letters tree at ≡ marks.EI → Ran class limit l (expr_at tree (d - 1) (at + 11)) before now r → r ≡ Stop x
+    pub infix_stop : {now : Mem} {r : Step} {x : Why} → letters tree at ≡ marks.EI → Ran class limit l (expr_at tree (d - 1) (at + 11)) before now r → r ≡ Err x
         → Ran class limit l (expr_at tree d at) before now r
     unfolding compile_expr
     infix_stop m a q = record { did = λ e n z. let i = infix_at tree (word16 tree 2) d at m z in by i.is (halt _ (a.did i.lt i.mid i.one) q) }
 
     pub infix_second : {mid : Mem} {r : Step} {v n : ℕ} {e : Expr} → letters tree at ≡ marks.EI → expr_at tree d at ≡ got e n → Ran class limit l (expr_at tree (d - 1) (at + 11)) before mid r
-        → r ≡ Next v → There (expr_at tree (d - 1) v)
+        → r ≡ Ok v → There (expr_at tree (d - 1) v)
     infix_second m z a q =
         let i = infix_at tree (word16 tree 2) d at m z in
         record { thing = i.rt; next = _; is = ap (expr_at tree (d - 1)) (valued (a.did i.lt i.mid i.one) q) ∙ i.two }
 
   -- the operator, once its left side is compiled
-  begun_gave : {n v : ℕ} {m : Compile ℕ} {now : Mem} {r : Step} → BegunBy class limit l n m before now r → r ≡ Next v → Gave class limit l steady m v before now × (10 ≤ n → v + 2 ≤ code_len now l)
+  begun_gave : {n v : ℕ} {m : Compile ℕ} {now : Mem} {r : Step} → BegunBy class limit l n m before now r → r ≡ Ok v → Gave class limit l steady m v before now × (10 ≤ n → v + 2 ≤ code_len now l)
   begun_gave {n} {m = m} {now = now} d q = subst (λ (s : Step). BegunAs class limit l n m before now s) q d.does
 
-  begun_refused : {n : ℕ} {m : Compile ℕ} {now : Mem} {r : Step} {x : Why} → BegunBy class limit l n m before now r → r ≡ Stop x → Refused class l m before (told (t_of now) x)
+  begun_refused : {n : ℕ} {m : Compile ℕ} {now : Mem} {r : Step} {x : Why} → BegunBy class limit l n m before now r → r ≡ Err x → Refused class l m before (told (t_of now) x)
   begun_refused {n} {m} {now} d q = subst (λ (s : Step). BegunAs class limit l n m before now s) q d.does
 
 module _ {class limit l : ℕ} {before mid : Mem} (tree : List ℕ) (d at operator : ℕ) (sp : Span) (s : sp ≡ span_of tree (at + 2)) (w : operator ≡ word8 tree (at + 10)) (m : letters tree at ≡ marks.EI)
-    {r : Step} {v : ℕ} (a : Ran class limit l (expr_at tree (d - 1) (at + 11)) before mid r) (q : r ≡ Next v) where
+    {r : Step} {v : ℕ} (a : Ran class limit l (expr_at tree (d - 1) (at + 11)) before mid r) (q : r ≡ Ok v) where
   -- what is left after the left side
   infix_by : {now : Mem} {r' : Step} → ((o : OpInfix) (rt : Expr) (n : ℕ) → lookup operator infix_ops ≡ some o → expr_at tree (d - 1) v ≡ got rt n
       → Did class limit l n steady (before_right limit o sp >>= λ place. compile_expr limit rt >> after_right limit o place sp) mid now r') → Ran class limit l (expr_at tree d at) before now r'
@@ -232,22 +231,22 @@ module _ {class limit l : ℕ} {before mid : Mem} (tree : List ℕ) (d at operat
         (f i.op i.rt n (ap (λ (k : ℕ). lookup k infix_ops) w ∙ i.look) (ap (expr_at tree (d - 1)) (valued c q) ∙ i.two))));
   }
 
-  pub infix_stop_2 : {now : Mem} {r' : Step} {x : Why} → Begun class limit l operator sp mid now r' → r' ≡ Stop x → Ran class limit l (expr_at tree d at) before now r'
+  pub infix_stop_2 : {now : Mem} {r' : Step} {x : Why} → Begun class limit l operator sp mid now r' → r' ≡ Err x → Ran class limit l (expr_at tree d at) before now r'
   infix_stop_2 b q' = infix_by (λ o rt n h z. same_stop q' (refused_bind (begun_refused (b.did o h) q') _))
 
-  pub infix_stop_3 : {late now : Mem} {r' r'' : Step} {place : ℕ} {x : Why} → Begun class limit l operator sp mid late r' → r' ≡ Next place
-      → Ran class limit l (expr_at tree (d - 1) v) late now r'' → r'' ≡ Stop x → Ran class limit l (expr_at tree d at) before now r''
+  pub infix_stop_3 : {late now : Mem} {r' r'' : Step} {place : ℕ} {x : Why} → Begun class limit l operator sp mid late r' → r' ≡ Ok place
+      → Ran class limit l (expr_at tree (d - 1) v) late now r'' → r'' ≡ Err x → Ran class limit l (expr_at tree d at) before now r''
   infix_stop_3 b q' f q'' = infix_by (λ o rt n h z. did_bind (begun_gave (b.did o h) q').0 _ (halt _ (f.did rt n z) q''))
 
-  pub infix_done : {late last now : Mem} {r' r'' r''' : Step} {place v' : ℕ} → Begun class limit l operator sp mid late r' → r' ≡ Next place
-      → Ran class limit l (expr_at tree (d - 1) v) late last r'' → r'' ≡ Next v' → Closed class limit l operator place v' sp last now r''' → Ran class limit l (expr_at tree d at) before now r'''
+  pub infix_done : {late last now : Mem} {r' r'' r''' : Step} {place v' : ℕ} → Begun class limit l operator sp mid late r' → r' ≡ Ok place
+      → Ran class limit l (expr_at tree (d - 1) v) late last r'' → r'' ≡ Ok v' → Closed class limit l operator place v' sp last now r''' → Ran class limit l (expr_at tree d at) before now r'''
   infix_done b q' f q'' g = infix_by (λ o rt n h z. let c = f.did rt n z in did_bind (begun_gave (b.did o h) q').0 _ (then_on _ c q'' (on_to (valued c q'') (g.did o h))))
 
 -- what the steps after the left side need
 pub begun_fit : {class limit l operator place : ℕ} (tree : List ℕ) (d at : ℕ) {sp : Span} {e : Expr} {n : ℕ} {before now : Mem} {r : Step} → operator ≡ word8
     tree (at + 10) → letters tree at ≡ marks.EI
     → expr_at tree d at ≡ got e n
-    → Begun class limit l operator sp before now r → r ≡ Next place → Fit now l limit × (10 ≤ operator → place + 2 ≤ code_len now l)
+    → Begun class limit l operator sp before now r → r ≡ Ok place → Fit now l limit × (10 ≤ operator → place + 2 ≤ code_len now l)
 begun_fit tree d at w m z b q =
     let i = infix_at tree (word16 tree 2) d at m z in
     let g = begun_gave (b.did i.op (ap (λ (k : ℕ). lookup k infix_ops) w ∙ i.look)) q in
@@ -278,10 +277,10 @@ module _ {class limit l : ℕ} {before : Mem} (tree : List ℕ) (d at : ℕ) (sp
         (sym c) x));
   }
 
-  pub call_stop : {now : Mem} {r : Step} {x : Why} → CallOpened class limit l tree at sp before now r → r ≡ Stop x → Ran class limit l (expr_at tree d at) before now r
+  pub call_stop : {now : Mem} {r : Step} {x : Why} → CallOpened class limit l tree at sp before now r → r ≡ Err x → Ran class limit l (expr_at tree d at) before now r
   call_stop o q = call_by (λ callee args mid n z y. halt _ (o.did (d - 1) callee mid z) q)
 
-  module _ {mid : Mem} {r : Step} {from count : ℕ} (o : CallOpened class limit l tree at sp before mid r) (q : r ≡ Next from) (c : CallParts tree at count) where
+  module _ {mid : Mem} {r : Step} {from count : ℕ} (o : CallOpened class limit l tree at sp before mid r) (q : r ≡ Ok from) (c : CallParts tree at count) where
     parts_at : (callee : Expr) (args : Exprs) {next n : ℕ} → expr_at tree (d - 1) (at + 12) ≡ got callee next
         → read_exprs (part_count (callee_of callee) (word16 tree (at + 10))) (expr_at tree (d - 1)) (first_part (callee_of callee) at) ≡ got (parts (callee_of callee) callee args) n
         → read_exprs count (expr_at tree (d - 1)) from ≡ got (parts (callee_of callee) callee args) n
@@ -303,7 +302,7 @@ module _ {class limit l : ℕ} {before : Mem} (tree : List ℕ) (d at : ℕ) (sp
         omega (arith, v, h)
 
     module _ {late : Mem} {next left : ℕ} (w : Walk class limit l (expr_at tree (d - 1)) count from mid late next left) where
-      pub part_stop : {now : Mem} {r' : Step} {x : Why} → 0 < left → Ran class limit l (expr_at tree (d - 1) next) late now r' → r' ≡ Stop x → Ran class limit l (expr_at tree d at) before now r'
+      pub part_stop : {now : Mem} {r' : Step} {x : Why} → 0 < left → Ran class limit l (expr_at tree (d - 1) next) late now r' → r' ≡ Err x → Ran class limit l (expr_at tree d at) before now r'
       part_stop h b q' = call_by (λ callee args k n z y.
           let g = went (o.did (d - 1) callee k z) q in
           same_stop q' (gave_refused_seq g _ (refused_seq (walk_stop w (parts_at callee args z y) h b q') _)))
@@ -354,14 +353,14 @@ module _ (tree : List ℕ) (d at : ℕ) {e : Expr} {n : ℕ} (z : expr_at tree d
 
   module _ {class limit l : ℕ} {before mid : Mem} {r : Step} {v : ℕ} where
     -- a second child stands where the first ended
-    pub infix_right : letters tree at ≡ marks.EI → Ran class limit l (expr_at tree (d - 1) (at + 11)) before mid r → r ≡ Next v → Child tree t v
+    pub infix_right : letters tree at ≡ marks.EI → Ran class limit l (expr_at tree (d - 1) (at + 11)) before mid r → r ≡ Ok v → Child tree t v
     infix_right m a w =
         let i = infix_at tree (word16 tree 2) d at m z in
         let p = valued (a.did i.lt i.mid i.one) w in
         let g = later_expr tree (word16 tree 2) (d - 1) (at + 11) i.one in
         child (omega (arith, p, g)) (infix_second tree d at m z a w)
 
-    pub set_object : letters tree at ≡ marks.ES → Ran class limit l (expr_at tree (d - 1) (at + 12)) before mid r → r ≡ Next v → Child tree t v
+    pub set_object : letters tree at ≡ marks.ES → Ran class limit l (expr_at tree (d - 1) (at + 12)) before mid r → r ≡ Ok v → Child tree t v
     set_object m a w =
         let i = set_at tree (word16 tree 2) d at m z in
         let p = valued (a.did i.value i.mid i.one) w in
@@ -370,7 +369,7 @@ module _ (tree : List ℕ) (d at : ℕ) {e : Expr} {n : ℕ} (z : expr_at tree d
 
 -- after a child: the areas fit, what was there still is, and its end stands further on
 module _ {class limit l next v : ℕ} {tree : List ℕ} {before now : Mem} {r : Step} (s : Somewhere tree next)
-    (a : (d : ℕ) → Ran class limit l (expr_at tree d next) before now r) (q : r ≡ Next v) where
+    (a : (d : ℕ) → Ran class limit l (expr_at tree d next) before now r) (q : r ≡ Ok v) where
   pub ran_fit : Fit now l limit
   ran_fit = (went ((a s.depth).did s.there.thing s.there.next s.there.is) q).ahead.fit
 

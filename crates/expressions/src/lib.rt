@@ -88,96 +88,95 @@ pub fn compile_expr(
     let span = span_at(tree, at + 2);
     if mark == Mark::LITERAL {
         let plain = literal(tree, at, t, code, spans, level, limit, span);
-        let Step::Next(end) = plain else {
+        let Ok(end) = plain else {
             return plain;
         };
-        return Step::Next(end);
+        return Ok(end);
     }
     if mark == Mark::VARIABLE {
         let variable = u16_at(tree, at + 10);
         let fetched = get_variable(t, code, spans, level, limit, class, variable, span, at + 12);
-        let Step::Next(end) = fetched else {
+        let Ok(end) = fetched else {
             return fetched;
         };
-        return Step::Next(end);
+        return Ok(end);
     }
     if mark == Mark::INFIX {
         let operator = u8_at(tree, at + 10);
         let lhs = compile_expr(&tree[..], at + 11, t, code, spans, level, limit, class);
-        let Step::Next(right) = lhs else {
+        let Ok(right) = lhs else {
             return lhs;
         };
         let begun = before_right(t, code, spans, level, limit, operator, span);
-        let Step::Next(place) = begun else {
+        let Ok(place) = begun else {
             return begun;
         };
         let rhs = compile_expr(&tree[..], right, t, code, spans, level, limit, class);
-        let Step::Next(next) = rhs else {
+        let Ok(next) = rhs else {
             return rhs;
         };
         let joined = after_right(t, code, spans, level, limit, operator, place, span, next);
-        let Step::Next(end) = joined else {
+        let Ok(end) = joined else {
             return joined;
         };
-        return Step::Next(end);
+        return Ok(end);
     }
     if mark == Mark::PREFIX {
         let sign = u8_at(tree, at + 10);
         let operand = compile_expr(&tree[..], at + 11, t, code, spans, level, limit, class);
-        let Step::Next(next) = operand else {
+        let Ok(next) = operand else {
             return operand;
         };
         let signed = emit_op(t, code, spans, level, limit, prefix_op(sign), span, next);
-        let Step::Next(end) = signed else {
+        let Ok(end) = signed else {
             return signed;
         };
-        return Step::Next(end);
+        return Ok(end);
     }
     if mark == Mark::CALL {
         let opened = call_open(tree, at, t, code, spans, level, limit, class, span);
-        let Step::Next(first) = opened else {
+        let Ok(first) = opened else {
             return opened;
         };
         let mut next = first;
-        let mut parts = call_parts(tree, at);
-        while 0 < parts {
+        let parts = call_parts(tree, at);
+        for _ in 0..parts {
             let part = compile_expr(&tree[..], next, t, code, spans, level, limit, class);
-            let Step::Next(n) = part else {
+            let Ok(n) = part else {
                 return part;
             };
             next = n;
-            parts -= 1;
         }
         let called = call_close(tree, at, t, code, spans, level, limit, class, span, next);
-        let Step::Next(end) = called else {
+        let Ok(end) = called else {
             return called;
         };
-        return Step::Next(end);
+        return Ok(end);
     }
     if mark == Mark::SUPER {
         let method = u16_at(tree, at + 10);
         let bound = compile_super(t, code, spans, level, limit, class, method, span, at + 12);
-        let Step::Next(end) = bound else {
+        let Ok(end) = bound else {
             return bound;
         };
-        return Step::Next(end);
+        return Ok(end);
     }
     if mark == Mark::ASSIGN {
         let assigned = u16_at(tree, at + 10);
         let given = compile_expr(&tree[..], at + 12, t, code, spans, level, limit, class);
-        let Step::Next(next) = given else {
+        let Ok(next) = given else {
             return given;
         };
         let stored = set_variable(t, code, spans, level, limit, assigned, span, next);
-        let Step::Next(end) = stored else {
+        let Ok(end) = stored else {
             return stored;
         };
-        return Step::Next(end);
+        return Ok(end);
     }
     if mark == Mark::GET {
         let property = u16_at(tree, at + 10);
         let object = compile_expr(&tree[..], at + 12, t, code, spans, level, limit, class);
-        let Step::Next(next) = object else {
+        let Ok(next) = object else {
             return object;
         };
         let read = emit_op_name(
@@ -191,20 +190,20 @@ pub fn compile_expr(
             span,
             next,
         );
-        let Step::Next(end) = read else {
+        let Ok(end) = read else {
             return read;
         };
-        return Step::Next(end);
+        return Ok(end);
     }
     // A set: the value stands before the object, whose place is known once the value is compiled.
     let field = u16_at(tree, at + 10);
     let from = at + 12;
     let value = compile_expr(&tree[..], from, t, code, spans, level, limit, class);
-    let Step::Next(after) = value else {
+    let Ok(after) = value else {
         return value;
     };
     let holder = compile_expr(&tree[..], after, t, code, spans, level, limit, class);
-    let Step::Next(next) = holder else {
+    let Ok(next) = holder else {
         return holder;
     };
     let put = emit_op_name(
@@ -218,8 +217,8 @@ pub fn compile_expr(
         span,
         next,
     );
-    let Step::Next(end) = put else {
+    let Ok(end) = put else {
         return put;
     };
-    Step::Next(end)
+    Ok(end)
 }

@@ -1,4 +1,6 @@
 -- A block, the levels left being some number that no code has: the laws of crates/stmt_laws at the depth that the statement was read at.
+use Rattle.steps.specs.Why.{Step}
+use Rattle.std.specs.Prelude.{Err}
 use mathlib.Core.Path.{◌≡◌, refl}
 use mathlib.Core.List.{List}
 use Prim.Native.Nat.{ℕ, ◌+◌, ◌-◌, ◌*◌, ◌≤◌, ◌<◌}
@@ -9,8 +11,6 @@ use Rattle.rules.specs.Compiler.{begin_scope, end_scope}
 use Rattle.fields.specs.Words.{word16, letters, span_of}
 use Rattle.tree_laws.proofs.Statements.{block_at}
 use Rattle.steps.specs.View.{Mem, mem, Fit, deeper, shallower, Gave, Did}
-use Rattle.steps.specs.declared.Step.{Step}
-use Rattle.steps.specs.declared.Step.TheVariants.{Stop}
 use Rattle.stmt_output_laws.specs.Output.{funs_left}
 use Rattle.stmt_laws.proofs.Calls as calls
 use Rattle.stmt_laws.proofs.Blocks as ways
@@ -42,7 +42,7 @@ module _ {tree : List ℕ} {l at limit : ℕ} {before : Mem} (p : StmtThere tree
 
     module _ {span : Span} (sp : span ≡ span_of tree (at + 2)) {t1 code1 spans1 out out1 : List ℕ} {next more : ℕ}
         (w : RowIn class limit l tree at (word16 tree (at + 10)) (at + 12) m0 out (mem t1 code1 spans1) out1 next more) where
-      pub stop : 0 < more → {m2 : Mem} {out2 : List ℕ} {a : Step} → StmtDone class limit l tree next (mem t1 code1 spans1) out1 m2 out2 a → {x : Why} → a ≡ Stop x
+      pub stop : 0 < more → {m2 : Mem} {out2 : List ℕ} {a : Step} → StmtDone class limit l tree next (mem t1 code1 spans1) out1 m2 out2 a → {x : Why} → a ≡ Err x
           → StmtDone class limit l tree at before out m2 out2 a
       stop h b q = done_of p (ways.block_stop tree l at p.left mark sp o ((row_stop w.row h b q).at_depth (p.left - 1)) q)
 

@@ -1,5 +1,7 @@
 -- A `for`, the levels left being some number that no code has: the laws of crates/stmt_laws at the depth that the statement was read at. Those are over a row
 -- of none or one for the start, which may be missing.
+use Rattle.steps.specs.Why.{Step}
+use Rattle.std.specs.Prelude.{Result, Ok, Err, IfSome}
 use mathlib.Core.Path.{◌≡◌, refl, sym, ap, subst}
 use mathlib.Core.Bool.{true}
 use mathlib.Core.List.{List}
@@ -11,12 +13,10 @@ use Rattle.rules.specs.Compiler.{begin_scope, end_scope, compile_stmts}
 use Rattle.fields.specs.Words.{word8, word16, letters, span_of}
 use Rattle.tree_laws.proofs.Statements.{for_at}
 use Rattle.steps.specs.View.{Mem, mem, Fit, code_len, steady, deeper, shallower, Gave, Did, Measured}
-use Rattle.steps.specs.declared.Step.{Step}
-use Rattle.steps.specs.declared.Step.TheVariants.{Next, Stop}
 use Rattle.expr_laws.specs.Exprs.{There}
 use Rattle.stmt_output_laws.specs.Output.{funs_left, stmts_at, Walked, Ready}
-use Rattle.stmt_jumps.specs.Jumps.{close_loop}
-use Rattle.stmt_loops.specs.Loops.{cond_at, incr_at, place_of, CondThere, IncrThere, Conditioned, Incremented}
+use Rattle.stmt_jumps.specs.Jumps.{close_loop, place_of}
+use Rattle.stmt_loops.specs.Loops.{cond_at, incr_at, CondThere, IncrThere, Conditioned, Incremented}
 use Rattle.stmt_loops.specs.declared.Cond.{Cond}
 use Rattle.stmt_laws.proofs.Calls as calls
 use Rattle.stmt_laws.proofs.Blocks as blocks
@@ -40,7 +40,7 @@ further at = omega arith
 
 -- what the start comes to, where it goes well
 abbrev pub Init : (class limit l : ℕ) → (tree : List ℕ) → (left at : ℕ) → Mem → List ℕ → Mem → List ℕ → ℕ → Type 0
-Init class limit l tree left at m0 out m1 out1 n1 = Walked class limit l (at + 11) (stmts_at tree (word8 tree (at + 10) % 2) (left - 1) l (at + 11)) (compile_stmts limit) m0 out m1 out1 (Next n1)
+Init class limit l tree left at m0 out m1 out1 n1 = Walked class limit l (at + 11) (stmts_at tree (word8 tree (at + 10) % 2) (left - 1) l (at + 11)) (compile_stmts limit) m0 out m1 out1 (Ok n1)
 
 -- the same of values by other names
 pub came : {tree : List ℕ} {l at limit : ℕ} {before : Mem} (p : StmtThere tree before at l limit) {class : ℕ} {m0 : Mem} {out t1 code1 spans1 out1 t2 code2 spans2 out2 : List ℕ} {n1 n2 : ℕ}
@@ -72,12 +72,12 @@ module _ {tree : List ℕ} {l at limit : ℕ} {before : Mem} (p : StmtThere tree
       init s = child_of p s (further at) (ones.one_there tree l (at + 11) (p.left - 1) init_ready init_there) init_ready
 
       module _ {m1 : Mem} {out out1 : List ℕ} {ra : Step} (b : StmtDone class limit l tree (at + 11) m0 out m1 out1 ra) where
-        pub stop : {span : Span} → span ≡ span_of tree (at + 2) → {x : Why} → ra ≡ Stop x → StmtDone class limit l tree at before out m1 out1 ra
+        pub stop : {span : Span} → span ≡ span_of tree (at + 2) → {x : Why} → ra ≡ Err x → StmtDone class limit l tree at before out m1 out1 ra
         stop {span} sp q = done_of p
             (ways.for_stop tree l at p.left mark span o
             (calls.walked_as tree (p.left - 1) l (at + 11) (one_of ep z) (ones.one_stop tree l (at + 11) (p.left - 1) init_ready (b.at_depth (p.left - 1)) q)) sp q)
 
-        pub init_one : {n1 : ℕ} → ra ≡ Next n1 → Init class limit l tree p.left at m0 out m1 out1 n1
+        pub init_one : {n1 : ℕ} → ra ≡ Ok n1 → Init class limit l tree p.left at m0 out m1 out1 n1
         init_one q = calls.walked_as tree (p.left - 1) l (at + 11) (one_of ep z) (ones.one_walked tree l (at + 11) (p.left - 1) init_ready (b.at_depth (p.left - 1)) init_there q)
 
     module _ {span : Span} (sp : span ≡ span_of tree (at + 2)) {t1 code1 spans1 out out1 : List ℕ} {n1 : ℕ} (w : Init class limit l tree p.left at m0 out (mem t1 code1 spans1) out1 n1) where
@@ -87,25 +87,25 @@ module _ {tree : List ℕ} {l at limit : ℕ} {before : Mem} (p : StmtThere tree
       pub cond_there : CondThere tree parts n1
       cond_there = record { left = p.left - 1; there = calls.cond_as tree (p.left - 1) n1 ep (ways.for_cond_there tree l at p.left mark span o w refl p.there) }
 
-      module _ {start : ℕ} (k : Measured t1 l start) {m2 : Mem} {b : Cond} (c : (d : ℕ) → Conditioned class limit l (cond_at tree parts d n1) span (mem t1 code1 spans1) m2 b) where
+      module _ {start : ℕ} (k : Measured t1 l start) {m2 : Mem} {b : Result Cond Why} (c : (d : ℕ) → Conditioned class limit l (cond_at tree parts d n1) span (mem t1 code1 spans1) m2 b) where
         tested : Conditioned class limit l (cond_at tree (word8 tree (at + 10)) (p.left - 1) n1) span (mem t1 code1 spans1) m2 b
         tested = calls.conditioned_as tree (p.left - 1) n1 ep (c (p.left - 1))
 
-        pub stop_2 : {x : Why} → b.step ≡ Stop x → StmtDone class limit l tree at before out m2 out1 b.step
+        pub stop_2 : {x : Why} → b ≡ Err x → StmtDone class limit l tree at before out m2 out1 (Err x)
         stop_2 q = done_of p (ways.for_stop_2 tree l at p.left mark span o w refl fit (k.says class code1 spans1) tested sp q)
 
-        module _ {n2 : ℕ} (qb : b.step ≡ Next n2) where
-          pub body : {t : ℕ} → 2 * (length tree - at) + 1 ≡ t → Child tree m2 n2 l limit t
+        module _ {o2 : Cond} (qb : b ≡ Ok o2) where
+          pub body : {t : ℕ} → 2 * (length tree - at) + 1 ≡ t → Child tree m2 o2.next l limit t
           body s =
               child_of p s (ways.for_far tree l at p.left mark span o w refl fit (k.says class code1 spans1) tested qb p.there)
               (ways.for_body tree l at p.left mark span o w refl fit (k.says class code1 spans1) tested qb p.there)
               (ways.for_ready tree l at p.left mark span o w refl fit (k.says class code1 spans1) tested qb p.there (calls.room tree p.left l at p.there) p.ready)
 
-          module _ {m3 : Mem} {out3 : List ℕ} {rd : Step} (d : StmtDone class limit l tree n2 m2 out1 m3 out3 rd) where
-            pub stop_3 : {x : Why} → rd ≡ Stop x → StmtDone class limit l tree at before out m3 out3 rd
+          module _ {m3 : Mem} {out3 : List ℕ} {rd : Step} (d : StmtDone class limit l tree o2.next m2 out1 m3 out3 rd) where
+            pub stop_3 : {x : Why} → rd ≡ Err x → StmtDone class limit l tree at before out m3 out3 rd
             stop_3 q = done_of p (ways.for_stop_3 tree l at p.left mark span o w refl fit (k.says class code1 spans1) tested qb (d.at_depth (p.left - 1)) sp q)
 
-            module _ {n3 : ℕ} (qd : rd ≡ Next n3) where
+            module _ {n3 : ℕ} (qd : rd ≡ Ok n3) where
               pub fit_2 : Fit m3 l limit
               fit_2 = ways.for_fit_2 tree l at p.left mark span o w refl fit (k.says class code1 spans1) tested qb (d.at_depth (p.left - 1)) qd p.there
 
@@ -120,11 +120,11 @@ module _ {tree : List ℕ} {l at limit : ℕ} {before : Mem} (p : StmtThere tree
                 moved : Incremented class limit l (incr_at tree (word8 tree (at + 10)) (p.left - 1) n3) span m3 m4 re
                 moved = calls.incremented_as tree (p.left - 1) n3 ep (e (p.left - 1))
 
-                pub stop_4 : {x : Why} → re ≡ Stop x → StmtDone class limit l tree at before out m4 out3 re
+                pub stop_4 : {x : Why} → re ≡ Err x → StmtDone class limit l tree at before out m4 out3 re
                 stop_4 q = done_of p (ways.for_stop_4 tree l at p.left mark span o w refl fit (k.says class code1 spans1) tested qb (d.at_depth (p.left - 1)) qd moved sp q)
 
-                module _ {n4 : ℕ} (qe : re ≡ Next n4) where
-                  pub close : Fit m4 l limit × (start ≤ code_len m4 l) × (b.some ≡ true → b.place + 2 ≤ code_len m4 l)
+                module _ {n4 : ℕ} (qe : re ≡ Ok n4) where
+                  pub close : Fit m4 l limit × (start ≤ code_len m4 l) × (IfSome o2.exit (λ place. place + 2 ≤ code_len m4 l))
                   close = (
                     ways.for_fit_3 tree l at p.left mark span o w refl fit (k.says class code1 spans1) tested qb (d.at_depth (p.left - 1)) qd moved qe p.there,
                     ways.for_start tree l at p.left mark span o w refl fit (k.says class code1 spans1) tested qb (d.at_depth (p.left - 1)) qd moved qe p.there (k.is code1 spans1),
@@ -132,11 +132,11 @@ module _ {tree : List ℕ} {l at limit : ℕ} {before : Mem} (p : StmtThere tree
                   )
 
                   module _ {t5 code5 spans5 : List ℕ} {rf : Step}
-                      (f : (class : ℕ) → Did class limit l n4 steady (close_loop limit start (place_of b.some b.place) span) m4 (mem t5 code5 spans5) rf) where
-                    pub stop_5 : {x : Why} → rf ≡ Stop x → StmtDone class limit l tree at before out (mem t5 code5 spans5) out3 rf
+                      (f : (class : ℕ) → Did class limit l n4 steady (close_loop limit start (place_of o2.exit) span) m4 (mem t5 code5 spans5) rf) where
+                    pub stop_5 : {x : Why} → rf ≡ Err x → StmtDone class limit l tree at before out (mem t5 code5 spans5) out3 rf
                     stop_5 q = done_of p (ways.for_stop_5 tree l at p.left mark span o w refl fit (k.says class code1 spans1) tested qb (d.at_depth (p.left - 1)) qd moved qe (f class) sp q)
 
-                    module _ {v : ℕ} (qf : rf ≡ Next v) where
+                    module _ {v : ℕ} (qf : rf ≡ Ok v) where
                       pub end : Fit (mem t5 code5 spans5) l limit × (0 < get_or t5 (l * level_words + depth_place) 0)
                       end = (
                         ways.for_fit_4 tree l at p.left mark span o w refl fit (k.says class code1 spans1) tested qb (d.at_depth (p.left - 1)) qd moved qe (f class) qf,

@@ -1,4 +1,6 @@
 -- A function, and the statement that is one, the levels left being some number that no code has: the laws of crates/stmt_laws at the depth that it was read at.
+use Rattle.steps.specs.Why.{Step}
+use Rattle.std.specs.Prelude.{Ok, Err}
 use mathlib.Core.Path.{◌≡◌, refl}
 use mathlib.Core.List.{List}
 use Prim.Native.Nat.{ℕ, suc, ◌+◌, ◌-◌, ◌*◌, ◌≤◌, ◌<◌}
@@ -8,10 +10,10 @@ use Rattle.rules.specs.Limits.{max_tree, max_code}
 use Rattle.rules.specs.declared.Span.{Span}
 use Rattle.rules.specs.Compiler.{define_name, compile_stmts}
 use Rattle.fields.specs.Words.{word16, letters, span_of}
+use Rattle.state.specs.Kinds.{number_of}
+use Rattle.state.specs.declared.Kind.TheVariants.{Function}
 use Rattle.state.specs.Layout.{levels, deepest, image_at, Wf, depth_place, level_words}
 use Rattle.steps.specs.View.{Mem, mem, Fit, steady, Did}
-use Rattle.steps.specs.declared.Step.{Step}
-use Rattle.steps.specs.declared.Step.TheVariants.{Next, Stop}
 use Rattle.stmt_output_laws.specs.Output.{largest, stmts_at, Walked}
 use Rattle.stmt_functions.specs.Functions.{FunHead, FunctionOpened, FunctionClosed}
 use Rattle.stmt_laws.proofs.Calls as calls
@@ -37,10 +39,10 @@ module _ {tree : List ℕ} {l at limit : ℕ} {t0 code0 spans0 : List ℕ} (p : 
   head kind span = (ways.function_head tree l at p.left kind span p.there, p.room, p.ready.fit.wf, calls.scope_room t0 code0 spans0 l (p.left + 1) (calls.some_room p.left) p.ready)
 
   module _ {kind : ℕ} {span : Span} {t1 : List ℕ} {ra : Step} (a : FunctionOpened l kind tree at span t0 t1 ra) where
-    pub stop : {class : ℕ} (out : List ℕ) {x : Why} → ra ≡ Stop x → FunDone class limit l kind span tree at (mem t0 code0 spans0) out (mem t1 code0 spans0) out ra
+    pub stop : {class : ℕ} (out : List ℕ) {x : Why} → ra ≡ Err x → FunDone class limit l kind span tree at (mem t0 code0 spans0) out (mem t1 code0 spans0) out ra
     stop out q = any_fun tree l at p.left kind span p.there (ways.function_stop tree l at p.left kind span a code0 spans0 out q)
 
-    module _ {first : ℕ} (qa : ra ≡ Next first) where
+    module _ {first : ℕ} (qa : ra ≡ Ok first) where
       pub bound : first + 2 ≤ length tree
       bound = ways.function_bound tree l at p.left kind span a qa p.there
 
@@ -66,14 +68,14 @@ module _ {tree : List ℕ} {l at limit : ℕ} {t0 code0 spans0 : List ℕ} (p : 
         pub child : {t : ℕ} → 0 < more → 2 * (length tree - at) ≡ t → Child tree (mem t2 code2 spans2) next (l + 1) limit t
         child h e = in_fun w h (within at (first + 2) (length tree) behind bound) e
 
-        pub stop_2 : 0 < more → {m3 : Mem} {out3 : List ℕ} {b : Step} → StmtDone class limit (l + 1) tree next (mem t2 code2 spans2) out2 m3 out3 b → {x : Why} → b ≡ Stop x
+        pub stop_2 : 0 < more → {m3 : Mem} {out3 : List ℕ} {b : Step} → StmtDone class limit (l + 1) tree next (mem t2 code2 spans2) out2 m3 out3 b → {x : Why} → b ≡ Err x
             → FunDone class limit l kind span tree at (mem t0 code0 spans0) out m3 out3 b
         stop_2 h b q = any_fun tree l at p.left kind span p.there
             (ways.function_stop_2 tree l at p.left kind span a qa (calls.walked_higher tree p.left l (first + 2) refl ((row_stop w.row h b q).at_depth p.left)) low q)
 
         module _ (h : more ≤ 0) where
           body : Walked class limit (suc l) (first + 2) (stmts_at tree (word16 tree first) p.left (suc l) (first + 2)) (compile_stmts limit) (mem t1 code0 spans0) out (mem t2 code2 spans2) out2
-              (Next next)
+              (Ok next)
           body = calls.walked_higher tree p.left l (first + 2) refl ((row_done w.row h).at_depth p.left)
 
           pub close : (l + 1 < levels) × Fit (mem t2 code2 spans2) (l + 1) limit × (limit ≤ max_code) × (get_or t2 image_at 0 ≤ max_tree) × (get_or t2 (image_at + 1) 0 ≤ max_tree * largest)
@@ -106,13 +108,17 @@ module _ {tree : List ℕ} {l at limit : ℕ} {before : Mem} (p : StmtThere tree
     },
   )
 
-  module _ {span : Span} (sp : span ≡ span_of tree (at + 2)) {class : ℕ} {m1 : Mem} {out out1 : List ℕ} {ra : Step} (a : FunDone class limit l 1 span tree at before out m1 out1 ra) where
-    pub fun_stop : {x : Why} → ra ≡ Stop x → StmtDone class limit l tree at before out m1 out1 ra
-    fun_stop q = done_of p (ways.fun_stop tree l at p.left mark span sp (a.at_depth (p.left - 1)) q)
+  module _ {span : Span} (sp : span ≡ span_of tree (at + 2)) {class : ℕ} {m1 : Mem} {out out1 : List ℕ} {ra : Step} (a : FunDone class limit l (number_of Function) span tree at before out m1 out1 ra) where
+    by_number : FunDone class limit l 1 span tree at before out m1 out1 ra
+    unfolding number_of
+    by_number = a
 
-    pub fun_fit : {n : ℕ} → ra ≡ Next n → Fit m1 l limit
-    fun_fit q = ways.fun_fit tree l at p.left mark span sp (a.at_depth (p.left - 1)) p.there q
+    pub fun_stop : {x : Why} → ra ≡ Err x → StmtDone class limit l tree at before out m1 out1 ra
+    fun_stop q = done_of p (ways.fun_stop tree l at p.left mark span sp (by_number.at_depth (p.left - 1)) q)
 
-    pub fun_done : {n name : ℕ} {now : Mem} {rb : Step} → ra ≡ Next n → name ≡ word16 tree (at + 10) → ((class : ℕ) → Did class limit l n steady (define_name limit name span) m1 now rb)
+    pub fun_fit : {n : ℕ} → ra ≡ Ok n → Fit m1 l limit
+    fun_fit q = ways.fun_fit tree l at p.left mark span sp (by_number.at_depth (p.left - 1)) p.there q
+
+    pub fun_done : {n name : ℕ} {now : Mem} {rb : Step} → ra ≡ Ok n → name ≡ word16 tree (at + 10) → ((class : ℕ) → Did class limit l n steady (define_name limit name span) m1 now rb)
         → StmtDone class limit l tree at before out now out1 rb
-    fun_done q e d = done_of p (ways.fun_done tree l at p.left mark span sp (a.at_depth (p.left - 1)) q e (d class))
+    fun_done q e d = done_of p (ways.fun_done tree l at p.left mark span sp (by_number.at_depth (p.left - 1)) q e (d class))

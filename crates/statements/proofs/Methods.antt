@@ -1,6 +1,8 @@
 -- A class, the levels left being some number that no code has: the laws of crates/stmt_laws at the depth that the statement was read at, and the loop over
 -- the methods, each of which is a function and the instruction behind it.
-use mathlib.Core.Path.{◌≡◌, ap, ◌∙◌}
+use Rattle.steps.specs.Why.{Step}
+use Rattle.std.specs.Prelude.{Ok, Err}
+use mathlib.Core.Path.{◌≡◌, ap, subst, ◌∙◌}
 use mathlib.Core.List.{List}
 use Prim.Native.Nat.{ℕ, ◌+◌, ◌-◌, ◌*◌, ◌≤◌, ◌<◌}
 use native.Mathlib.Omega.{arith}
@@ -13,8 +15,6 @@ use Rattle.fields.specs.Words.{word8, word16, letters, span_of}
 use Rattle.tree_laws.proofs.Later.{later_method}
 use Rattle.state.specs.Layout.{type_of, depth_place, level_words}
 use Rattle.steps.specs.View.{Mem, mem, Fit, steady, Did}
-use Rattle.steps.specs.declared.Step.{Step}
-use Rattle.steps.specs.declared.Step.TheVariants.{Next, Stop}
 use Rattle.steps.proofs.Steps.{valued}
 use Rattle.expr_laws.specs.Exprs.{There}
 use Rattle.stmt_output_laws.specs.Output.{funs_left, stmt_at, method_at, methods_at, Walked}
@@ -49,10 +49,10 @@ module _ {tree : List ℕ} {l at limit : ℕ} {before : Mem} (p : StmtThere tree
 module _ {tree : List ℕ} {l at limit : ℕ} {before : Mem} (p : StmtThere tree before at l limit) (mark : letters tree at ≡ marks.SC) {span : Span} (sp : span ≡ span_of tree (at + 2)) {m1 : Mem}
     {ra : Step}
     (a : (class : ℕ) → ClassOpened class limit l tree at span before m1 ra) where
-  pub stop : {class : ℕ} (out : List ℕ) {x : Why} → ra ≡ Stop x → StmtDone class limit l tree at before out m1 out ra
+  pub stop : {class : ℕ} (out : List ℕ) {x : Why} → ra ≡ Err x → StmtDone class limit l tree at before out m1 out ra
   stop {class} out q = done_of p (ways.class_stop tree l at p.left mark span sp (a class) out q)
 
-  module _ {first : ℕ} (qa : ra ≡ Next first) where
+  module _ {first : ℕ} (qa : ra ≡ Ok first) where
     pub start : {inner count : ℕ} (out : List ℕ) → count ≡ word16 tree (at + 13) → Methoding inner limit l tree at first m1 out m1 out first count
     start out q = record {
       left = p.left;
@@ -93,27 +93,28 @@ module _ {tree : List ℕ} {l at limit : ℕ} {before : Mem} (p : StmtThere tree
       module _ (h : 0 < more) {name kind : ℕ} {of : Span} (eo : of ≡ span_of tree (next + 2)) (en : name ≡ word16 tree (next + 10)) (ek : type_of kind ≡ method_type name) {m3 : Mem}
           {out3 : List ℕ} {rb : Step}
           (b : FunDone inner limit l kind of tree next (mem t2 code2 spans2) out2 m3 out3 rb) where
-        pub method_fit : {n : ℕ} → rb ≡ Next n → Fit m3 l limit
+        pub method_fit : {n : ℕ} → rb ≡ Ok n → Fit m3 l limit
         method_fit q = functions.method_fit tree l next (w.left - 1) of eo kind en ek (b.at_depth (w.left - 1 - 1)) (one h) q
 
-        pub stop_2 : {class : ℕ} → InnerClass tree at inner → {x : Why} → rb ≡ Stop x → StmtDone class limit l tree at before out m3 out3 rb
+        pub stop_2 : {class : ℕ} → InnerClass tree at inner → {x : Why} → rb ≡ Err x → StmtDone class limit l tree at before out m3 out3 rb
         stop_2 {class} i q = any_depth tree l at w.left w.there
             (ways.class_stop_2 tree l at w.left mark span sp (a class) qa inner i w.row h (functions.method_stop tree l next (w.left - 1) of eo kind en ek (b.at_depth (w.left - 1 - 1)) q) q)
 
-        module _ {n : ℕ} (qb : rb ≡ Next n) {m4 : Mem} {rd : Step} (d : (class : ℕ) → Did class limit l n steady (emit_op_constant limit op.METHOD (CS name) of) m3 m4 rd) where
+        module _ {n : ℕ} (qb : rb ≡ Ok n) {m4 : Mem} {rd : Step} (d : (class : ℕ) → Did class limit l n steady (emit_op_constant limit op.METHOD (CS name) of) m3 m4 rd) where
           method_done : Walked inner limit l next (method_at tree (w.left - 1) l next) (compile_method limit) (mem t2 code2 spans2) out2 m4 out3 rd
           method_done = functions.method_done tree l next (w.left - 1) of eo kind en ek (b.at_depth (w.left - 1 - 1)) qb (d inner)
 
-          pub stop_3 : {class : ℕ} → InnerClass tree at inner → {x : Why} → rd ≡ Stop x → StmtDone class limit l tree at before out m4 out3 rd
+          pub stop_3 : {class : ℕ} → InnerClass tree at inner → {x : Why} → rd ≡ Err x → StmtDone class limit l tree at before out m4 out3 rd
           stop_3 {class} i q = any_depth tree l at w.left w.there (ways.class_stop_2 tree l at w.left mark span sp (a class) qa inner i w.row h method_done q)
 
-          pub step : {v : ℕ} → rd ≡ Next v → Methoding inner limit l tree at first m1 out m4 out3 n (more - 1)
-          step q =
-              let q' = q ∙ ap Next (valued (d inner) q) in
+          pub step : {v less : ℕ} → rd ≡ Ok v → less + 1 ≡ more → Methoding inner limit l tree at first m1 out m4 out3 n less
+          step {less = less} q e =
+              let p : more - 1 ≡ less = omega arith in
+              let q' = q ∙ ap Ok (valued (d inner) q) in
               let y = one h in
               record {
                 left = w.left;
                 there = w.there;
-                row = ways.row_step w.row method_done h q' rows;
+                row = subst (ways.Row inner limit l tree (word16 tree (at + 13)) (w.left - 1) first m1 out m4 out3 n) p (ways.row_step w.row method_done h q' rows);
                 far = past at next y.next n w.far (later_method tree (word16 tree 2) (w.left - 1) (funs_left l) next y.is) (reached (method_done.did y.thing y.next y.is) q');
               }

@@ -1,5 +1,7 @@
 -- The levels of records that are left are some number that no code has: what is read with some of them left is read alike with any that suffice. The
 -- measure of the walk is the bytes left; a statement's children stand further on. And a row of statements, wherever it stands.
+use Rattle.steps.specs.Why.{Step}
+use Rattle.std.specs.Prelude.{Ok, Err}
 use mathlib.Core.Path.{◌≡◌, refl, sym, subst}
 use mathlib.Core.List.{List}
 use Prim.Native.Nat.{ℕ, suc, ◌+◌, ◌-◌, ◌*◌, ◌≤◌, ◌<◌}
@@ -13,8 +15,6 @@ use Rattle.tree_laws.proofs.Depths.{same_stmt, same_stmts, same_fun}
 use Rattle.tree_laws.proofs.Later.{later_stmt}
 use Rattle.state.specs.Layout.{type_of}
 use Rattle.steps.specs.View.{Mem}
-use Rattle.steps.specs.declared.Step.{Step}
-use Rattle.steps.specs.declared.Step.TheVariants.{Next, Stop}
 use Rattle.expr_laws.specs.Exprs.{There}
 use Rattle.stmt_output_laws.specs.Output.{funs_left, stmt_at, stmts_at, fun_at, Walked, Ready}
 use Rattle.stmt_output_laws.proofs.Growing.{reached}
@@ -88,17 +88,23 @@ module _ {class limit l count from : ℕ} {tree : List ℕ} {before now : Mem} {
   pub row_child : 0 < more → StmtThere tree now next l limit
   row_child h = record { left = w.left; there = one h; ready = w.row.ready }
 
-  pub row_done : more ≤ 0 → RowDone class limit l tree count from before out now out' (Next next)
+  pub row_done : more ≤ 0 → RowDone class limit l tree count from before out now out' (Ok next)
   row_done h = any_row tree count l from w.left w.whole (rows.row_done w.row h refl)
 
   module _ {now' : Mem} {out'' : List ℕ} {a : Step} (h : 0 < more) (b : StmtDone class limit l tree next now out' now' out'' a) where
-    pub row_stop : {x : Why} → a ≡ Stop x → RowDone class limit l tree count from before out now' out'' a
+    pub row_stop : {x : Why} → a ≡ Err x → RowDone class limit l tree count from before out now' out'' a
     row_stop q = any_row tree count l from w.left w.whole (rows.row_stop w.row (b.at_depth w.left) h q)
 
-    pub row_step : {v : ℕ} → a ≡ Next v → RowOf class limit l tree count from before out now' out'' v (more - 1)
-    row_step q = record { left = w.left; whole = w.whole; row = rows.row_step w.row (b.at_depth w.left) h q w.whole }
+    pub row_step : {v less : ℕ} → a ≡ Ok v → less + 1 ≡ more → RowOf class limit l tree count from before out now' out'' v less
+    row_step {v} {less} q e =
+        let p : more - 1 ≡ less = omega arith in
+        record {
+          left = w.left;
+          whole = w.whole;
+          row = subst (rows.Row class limit l tree count w.left from before out now' out'' v) p (rows.row_step w.row (b.at_depth w.left) h q w.whole);
+        }
 
-    later : {at v : ℕ} → at < next → a ≡ Next v → at < v
+    later : {at v : ℕ} → at < next → a ≡ Ok v → at < v
     later {at} {v} f q =
         let y = one h in
         let e : v ≡ y.next = reached ((b.at_depth w.left).did y.thing y.next y.is) q in
@@ -121,6 +127,6 @@ module _ {class limit l at count from : ℕ} {tree : List ℕ} {before now : Mem
   pub in_fun : {t : ℕ} → at + 1 ≤ length tree → 2 * (length tree - at) ≡ t → Child tree now next l limit t
   in_fun {t} b e = (in_falls t b e, row_child w.row h)
 
-  pub in_step : {now' : Mem} {out'' : List ℕ} {a : Step} → StmtDone class limit l tree next now out' now' out'' a → {v : ℕ} → a ≡ Next v
-      → RowIn class limit l tree at count from before out now' out'' v (more - 1)
-  in_step b q = record { row = row_step w.row h b q; far = later w.row h b w.far q }
+  pub in_step : {now' : Mem} {out'' : List ℕ} {a : Step} → StmtDone class limit l tree next now out' now' out'' a → {v less : ℕ} → a ≡ Ok v
+      → less + 1 ≡ more → RowIn class limit l tree at count from before out now' out'' v less
+  in_step b q e = record { row = row_step w.row h b q e; far = later w.row h b w.far q }

@@ -32,7 +32,7 @@ fn drop_class(
     ensures { (class : ℕ) → Did class limit level next steady (if ltb 0 (word16 tree.now (at + 13)) then emit_op limit ops.POP span else done) (mem t.old code.old spans.old) (mem t.new code.new spans.new) result }
 {
     if u16_at(tree, at + 13) == 0 {
-        return Step::Next(next);
+        return Ok(next);
     }
     emit_op(t, code, spans, level, limit, Op::POP, span, next)
 }
@@ -53,7 +53,7 @@ pub fn close_class(
     ensures { (class : ℕ) → ClassClosed class limit level tree.now at next span (mem t.old code.old spans.old) (mem t.new code.new spans.new) result }
 {
     let a = drop_class(tree, at, t, code, spans, level, limit, span, next);
-    let Step::Next(_) = a else {
+    let Ok(_) = a else {
         return a;
     };
     if u8_at(tree, at + 12) == 1 {
@@ -67,5 +67,5 @@ pub fn close_class(
             next,
         );
     }
-    Step::Next(next)
+    Ok(next)
 }

@@ -31,19 +31,19 @@ pub fn open_class(
 {
     let name = u16_at(tree, at + 10);
     let a = emit_op_name(t, code, spans, level, limit, Op::CLASS, name, span, 0);
-    let Step::Next(_) = a else {
+    let Ok(_) = a else {
         return a;
     };
     let b = define_name(t, code, spans, level, limit, name, span, 0);
-    let Step::Next(_) = b else {
+    let Ok(_) = b else {
         return b;
     };
     let d = superclass(tree, at, t, code, spans, level, limit, name, span);
-    let Step::Next(first) = d else {
+    let Ok(first) = d else {
         return d;
     };
     if u16_at(tree, at + 13) == 0 {
-        return Step::Next(first);
+        return Ok(first);
     }
     let class = inner_class(tree, at);
     get_variable(t, code, spans, level, limit, class, name, span, first)

@@ -1,4 +1,6 @@
 -- A closure, step by step: the opcode, the function's number, the captured variables.
+use Rattle.steps.specs.Why.{Step}
+use Rattle.std.specs.Prelude.{Ok, Err}
 use mathlib.Core.Path.{◌≡◌, refl, sym, ap, subst, ◌∙◌}
 use mathlib.Core.List.{List}
 use Prim.Native.Nat.{ℕ, ◌+◌, ◌<◌}
@@ -10,8 +12,6 @@ use Rattle.rules.specs.Compiler.{Upvalue, emit_op, emit_constant, emit_upvalues,
 use Rattle.state.specs.Layout.{levels, upvalues_of, constant_of}
 use Rattle.state.proofs.Laws.{upvalues_same}
 use Rattle.steps.specs.View.{Mem, t_of, Fit, steady, Ahead, Did}
-use Rattle.steps.specs.declared.Step.{Step}
-use Rattle.steps.specs.declared.Step.TheVariants.{Next, Stop}
 use Rattle.steps.proofs.Steps.{went, halt, then_on, by_name}
 use Rattle.steps.specs.declared.Why.{Why}
 
@@ -26,19 +26,19 @@ above_same {l} {before = before} {now = now} low fit a =
     upvalues_same (t_of before) (t_of now) (l + 1) (fit.wf.few_upvalues (l + 1) low) (λ o h g. a.over refl _ (omega arith) (omega arith))
 
 module _ (class limit l n number : ℕ) (span : Span) (us : List Upvalue) where
-  pub closure_first : {k : ℕ} {before now : Mem} {r : Step} {x : Why} → Did class limit l k steady (emit_op limit op.CLOSURE span) before now r → r ≡ Stop x
+  pub closure_first : {k : ℕ} {before now : Mem} {r : Step} {x : Why} → Did class limit l k steady (emit_op limit op.CLOSURE span) before now r → r ≡ Err x
       → Did class limit l n steady (emit_closure limit number us span) before now r
   unfolding emit_closure emit_op
   closure_first d q = halt _ d q
 
-  module _ {k v : ℕ} {before mid : Mem} {r : Step} (d : Did class limit l k steady (emit_op limit op.CLOSURE span) before mid r) (q : r ≡ Next v) (w : ℕ) (is : constant_of w ≡ CF number) where
+  module _ {k v : ℕ} {before mid : Mem} {r : Step} (d : Did class limit l k steady (emit_op limit op.CLOSURE span) before mid r) (q : r ≡ Ok v) (w : ℕ) (is : constant_of w ≡ CF number) where
     pub closure_second : {j : ℕ} {now : Mem} {r' : Step} {x : Why} → Did class limit l j steady (emit_constant limit (constant_of w) span) mid now r' → r' ≡
-        Stop x → Did class limit l n steady (emit_closure limit number us span) before now r'
+        Err x → Did class limit l n steady (emit_closure limit number us span) before now r'
     unfolding emit_closure emit_op
     closure_second d' q' = then_on _ d q (halt _ (constant_as span is d') q')
 
     pub closure_last : {j u : ℕ} {late now : Mem} {r' r'' : Step} → l + 1 < levels → Fit before l limit → us ≡ upvalues_of (t_of before) (l + 1)
-        → Did class limit l j steady (emit_constant limit (constant_of w) span) mid late r' → r' ≡ Next u → Did class limit l n steady
+        → Did class limit l j steady (emit_constant limit (constant_of w) span) mid late r' → r' ≡ Ok u → Did class limit l n steady
         (emit_upvalues limit (upvalues_of (t_of late) (l + 1)) span) late now r''
         → Did class limit l n steady (emit_closure limit number us span) before now r''
     unfolding emit_closure emit_op

@@ -27,7 +27,7 @@ pub fn emit_closure(
     ensures { (class : ℕ) → Did class limit level next steady (emit_closure limit number (upvalues_of t.old (level + 1)) span) (mem t.old code.old spans.old) (mem t.new code.new spans.new) result }
 {
     let a = emit_op(t, code, spans, level, limit, Op::CLOSURE, span, next);
-    let Step::Next(_) = a else {
+    let Ok(_) = a else {
         return a;
     };
     let b = emit_constant(
@@ -40,7 +40,7 @@ pub fn emit_closure(
         span,
         next,
     );
-    let Step::Next(_) = b else {
+    let Ok(_) = b else {
         return b;
     };
     emit_upvalues(t, code, spans, level, limit, span, next)

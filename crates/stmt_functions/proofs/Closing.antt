@@ -1,4 +1,6 @@
 -- A function is finished: what it returns at its end, its record, its level is left, and the closure of it.
+use Rattle.steps.specs.Why.{Step}
+use Rattle.std.specs.Prelude.{Ok, Err}
 use mathlib.Core.Path.{◌≡◌, refl, sym, ap, ap₂, subst, ◌∙◌}
 use mathlib.Core.List.{List, ◌∷◌, ◌++◌, []}
 use mathlib.Core.Logic.{⊎_elim}
@@ -14,8 +16,6 @@ use Rattle.state.specs.Layout.{levels, image_at, start_of_code, end_of_code, upv
 use Rattle.state.specs.Meaning.{Closed as LevelLeft}
 use Rattle.state.proofs.Laws.{upvalues_same}
 use Rattle.steps.specs.View.{Mem, mem, t_of, Rest, view, Agrees, Fit, code_len, depth_at, steady, Gave, DidAs, Did, Left, finished}
-use Rattle.steps.specs.declared.Step.{Step}
-use Rattle.steps.specs.declared.Step.TheVariants.{Next, Stop}
 use Rattle.steps.proofs.Steps.{stuck, seq_ok, seq_err, bind_ok}
 use Rattle.step_scopes.proofs.Scopes.{left}
 use Rattle.stmt_output_laws.specs.Parts.{close_function}
@@ -42,7 +42,7 @@ no_shorter : (a b f g : ℕ) → f ≤ a → g ≤ b → g ≡ f → a - f ≤ b
 no_shorter a b f g h i e k = omega arith
 
 module _ (class limit l : ℕ) (span : Span) (before : Mem) where
-  pub closed_first : {n k : ℕ} {now : Mem} {out out' : List ℕ} {a : Step} {x : Why} → Did class limit (suc l) k steady (implicit_return limit) before now a → a ≡ Stop x
+  pub closed_first : {n k : ℕ} {now : Mem} {out out' : List ℕ} {a : Step} {x : Why} → Did class limit (suc l) k steady (implicit_return limit) before now a → a ≡ Err x
       → FunctionClosed class limit l n span before out now out' a
   closed_first {n} {now = now} {out} {out'} d q = record {
     does = subst (λ (s : Step). FunctionClosedAs class limit l n span before out now out' s) (sym q) (λ rest h. close_first limit span (view before (suc l) rest) ((stuck d q).refuses rest h));
@@ -148,8 +148,8 @@ module _ (class limit l : ℕ) (span : Span) (before : Mem) where
 
       last_as : (n : ℕ) (t₄ code₄ spans₄ : List ℕ) (r : Step) → DidAs class limit l n steady (emit_closure limit number (upvalues_of t₃ (suc l)) span) (mem t₃ code₁ spans₁) (mem t₄ code₄ spans₄) r
           → FunctionClosedAs class limit l n span before out (mem t₄ code₄ spans₄) out' r
-      last_as n t₄ code₄ spans₄ (Next v) d = (complete d.0, d.1)
-      last_as n t₄ code₄ spans₄ (Stop x) d = λ rest h. comes_to rest h ∙ d.refuses (more (done ∷ []) rest) (agrees_after rest h)
+      last_as n t₄ code₄ spans₄ (Ok v) d = (complete d.0, d.1)
+      last_as n t₄ code₄ spans₄ (Err x) d = λ rest h. comes_to rest h ∙ d.refuses (more (done ∷ []) rest) (agrees_after rest h)
 
       pub closed_last : {n : ℕ} {t₄ code₄ spans₄ : List ℕ} {r : Step} → Did class limit l n steady (emit_closure limit number (upvalues_of t₃ (suc l)) span)
           (mem t₃ code₁ spans₁) (mem t₄ code₄ spans₄) r
@@ -159,7 +159,7 @@ module _ (class limit l : ℕ) (span : Span) (before : Mem) where
 -- ## The same where the level above is called l + 1, as the code does
 
 module _ (limit l : ℕ) (span : Span) (before : Mem) where
-  pub closed_first_at : {class n k : ℕ} {now : Mem} {out out' : List ℕ} {a : Step} {x : Why} → Did class limit (l + 1) k steady (implicit_return limit) before now a → a ≡ Stop x
+  pub closed_first_at : {class n k : ℕ} {now : Mem} {out out' : List ℕ} {a : Step} {x : Why} → Did class limit (l + 1) k steady (implicit_return limit) before now a → a ≡ Err x
       → FunctionClosed class limit l n span before out now out' a
   closed_first_at {class} {n} {k} {now} {a = a} d q = closed_first class limit l span before (subst (λ (j : ℕ). Did class limit j k steady (implicit_return limit) before now a) (add-one l) d) q
 

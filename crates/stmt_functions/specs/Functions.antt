@@ -3,17 +3,15 @@
 pub use Rattle.stmt_opening.specs.Opening.{FunHead, Inside, FunctionOpenedAs, FunctionOpened}
 unfoldable pub use Rattle.stmt_records.specs.Filed.{function_at}
 pub use Rattle.stmt_records.specs.Filed.{Filed}
-use Rattle.std.specs.Prelude.{◌≡◌, List, ◌∷◌, ◌++◌, ℕ, suc, ◌+◌, ◌*◌, ◌≤◌, get_or, []}
+use Rattle.std.specs.Prelude.{◌≡◌, List, ◌∷◌, ◌++◌, ℕ, suc, ◌+◌, ◌*◌, ◌≤◌, get_or, [], Ok, Err}
 use Rattle.rules.specs.declared.Span.{Span}
 use Rattle.rules.specs.Chunk.{ObjectFunction}
 use Rattle.rules.specs.Compiler.{ok, err}
 use Rattle.state.specs.Layout.{image_at, start_of_code, end_of_code, depth_place, type_place, level_words}
 use Rattle.steps.specs.View.{Mem, t_of, Rest, view, Agrees, Fit}
-use Rattle.steps.specs.declared.Step.{Step}
-use Rattle.steps.specs.declared.Step.TheVariants.{Next, Stop}
 use Rattle.stmt_output_laws.specs.Parts.{close_function}
 use Rattle.stmt_output_laws.specs.Output.{largest, Holds, more}
-use Rattle.steps.specs.Why.{told}
+use Rattle.steps.specs.Why.{told, Step}
 
 pub record Finished (class limit l : ℕ) (span : Span) (before : Mem) (out : List ℕ) (now : Mem) (out' : List ℕ) : Type 0 where
   pub function : ObjectFunction
@@ -27,8 +25,8 @@ pub record Finished (class limit l : ℕ) (span : Span) (before : Mem) (out : Li
   pub bytes : get_or (t_of now) (image_at + 1) 0 ≤ get_or (t_of before) (image_at + 1) 0 + largest
 
 abbrev pub FunctionClosedAs : (class limit l n : ℕ) → Span → (before : Mem) → (out : List ℕ) → (now : Mem) → (out' : List ℕ) → Step → Type 0
-FunctionClosedAs class limit l n span before out now out' (Next v) = Finished class limit l span before out now out' × (v ≡ n)
-FunctionClosedAs class limit l n span before out now out' (Stop x) = (rest : Rest) → Agrees class before rest → close_function limit span (view before (suc l) rest) ≡ err (told (t_of now) x)
+FunctionClosedAs class limit l n span before out now out' (Ok v) = Finished class limit l span before out now out' × (v ≡ n)
+FunctionClosedAs class limit l n span before out now out' (Err x) = (rest : Rest) → Agrees class before rest → close_function limit span (view before (suc l) rest) ≡ err (told (t_of now) x)
 
 pub record FunctionClosed (class limit l n : ℕ) (span : Span) (before : Mem) (out : List ℕ) (now : Mem) (out' : List ℕ) (r : Step) : Type 0 where
   pub does : FunctionClosedAs class limit l n span before out now out' r

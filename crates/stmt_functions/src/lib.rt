@@ -32,7 +32,7 @@ pub fn close_function(
     ensures { (class : ℕ) → FunctionClosed class limit level next span (mem t.old code.old spans.old) out.old (mem t.new code.new spans.new) out.new result }
 {
     let a = implicit_return(t, code, spans, level + 1, limit, next);
-    let Step::Next(_) = a else {
+    let Ok(_) = a else {
         return a;
     };
     let number = t[Table::FUNCTIONS] as u32;

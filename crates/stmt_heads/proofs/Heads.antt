@@ -1,4 +1,5 @@
 -- What a class's flag says of its superclass, and so of the class that the methods are in; what a method is; the depth that `super` needs.
+use Rattle.steps.specs.Why.{Step}
 use mathlib.Core.Path.{◌≡◌, sym, ap, ap₂, subst, ◌∙◌}
 use mathlib.Core.Bool.{Bool, true, false}
 use mathlib.Core.Option.{Option, none, some}
@@ -10,16 +11,16 @@ use lib.ListN.{length, get_or}
 use lib.Dec.{ltb}
 use borrow.Author.Tests.{eq-eqb, ne_eqb, lt-ltb}
 use Rattle.rules.specs.Base.{lookup}
-use Rattle.std.specs.Prelude.{if◌then◌else◌}
+use Rattle.std.specs.Prelude.{if◌then◌else◌, Ok}
 use Rattle.rules.specs.Tree.{init_name, Superclass, Stmt}
 use Rattle.rules.specs.Reader.{got}
 use Rattle.rules.specs.TreeFile.{flags, maybe, read_superclass, read_stmt}
 use Rattle.rules.specs.Compiler.{Compile, Initializer, Method, method_type, is_some}
 use Rattle.fields.specs.Words.{word8, word16, letters, span_of}
+use Rattle.state.specs.Kinds.{number_of}
+use Rattle.state.specs.declared.Kind.TheVariants as decl
 use Rattle.state.specs.Layout.{type_of, depth_place, level_words}
 use Rattle.steps.specs.View.{mem, depth_at, steady, Did}
-use Rattle.steps.specs.declared.Step.{Step}
-use Rattle.steps.specs.declared.Step.TheVariants.{Next}
 use Rattle.steps.proofs.Steps.{went}
 use Rattle.tree_laws.proofs.Statements.{flag_on, flag_off, flag_is, maybe_yes, maybe_no, class_at, superclass_at}
 use Rattle.stmt_heads.specs.Classes.{inner, ClassHead, superclass_of, InnerClass}
@@ -99,19 +100,23 @@ a_count n h = lt-ltb 0 n (omega arith)
 
 -- ## What a method is
 
-pub init_kind : (name : ℕ) → name ≡ init_name → type_of 3 ≡ method_type name
-unfolding type_of
+pub init_kind : (name : ℕ) → name ≡ init_name → type_of (number_of decl.Initializer) ≡ method_type name
+unfolding type_of number_of
 init_kind name h = sym (ap (λ (b : Bool). if b then Initializer else Method) (eq-eqb name init_name h))
 
-pub other_kind : (name : ℕ) → (name ≡ init_name → ⊥) → type_of 2 ≡ method_type name
-unfolding type_of
+pub other_kind : (name : ℕ) → (name ≡ init_name → ⊥) → type_of (number_of decl.Method) ≡ method_type name
+unfolding type_of number_of
 other_kind name h = sym (ap (λ (b : Bool). if b then Initializer else Method) (ne_eqb name init_name h))
+
+pub some_kind : (0 < number_of decl.Initializer) × (0 < number_of decl.Method)
+unfolding number_of
+some_kind = (omega arith, omega arith)
 
 -- ## The depth
 
 -- what holds of the depth holds after a step that begins and ends no scope
 pub depth_on : (P : ℕ → Type 0) {class limit l n v : ℕ} {m : Compile Unit} {t code spans t' code' spans' : List ℕ} {r : Step} → Did class limit l n steady m
-    (mem t code spans) (mem t' code' spans') r → r ≡ Next v
+    (mem t code spans) (mem t' code' spans') r → r ≡ Ok v
     → P (get_or t (l * level_words + depth_place) 0) → P (get_or t' (l * level_words + depth_place) 0)
 unfolding depth_at
 depth_on P d q h = subst P (sym (went d q).ahead.deep) h

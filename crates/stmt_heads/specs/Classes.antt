@@ -1,5 +1,6 @@
 -- What the functions around a class's methods say: what stands before them opens the class, what stands after them closes it. Between the two the class
 -- is the innermost one, and where it has a superclass the scope of `super` is open.
+use Rattle.steps.specs.Why.{Step}
 use Rattle.std.specs.Prelude.{◌≡◌, Bool, true, List, ◌∷◌, ℕ, ◌+◌, ◌-◌, ◌≤◌, length, ltb, if◌then◌else◌}
 use Rattle.std.proofs.Math.Option.{Option, some}
 use Rattle.rules.specs.Base.{lookup}
@@ -10,7 +11,6 @@ use Rattle.rules.specs.TreeFile.{flags, maybe, read_superclass}
 use Rattle.rules.specs.Compiler.{is_some, compile_superclass}
 use Rattle.fields.specs.Words.{word8, word16, span_of}
 use Rattle.steps.specs.View.{Mem, Turn, Did}
-use Rattle.steps.specs.declared.Step.{Step}
 use Rattle.stmt_output_laws.specs.Parts.{open_class, close_class}
 
 -- ## Turns. b says whether there is a superclass

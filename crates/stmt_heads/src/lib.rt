@@ -3,6 +3,7 @@
 
 ghost use Rattle.std.specs.Prelude.{◌≡◌, ◌<◌};
 ghost use Rattle.rules.specs.Compiler.{method_type};
+ghost use Rattle.state.specs.Kinds.{number_of};
 ghost use Rattle.state.specs.Layout.{type_of};
 ghost use Rattle.stmt_heads.specs.Classes.{ClassHead, InnerClass};
 
@@ -12,13 +13,13 @@ use state::Kind;
 use steps::Class;
 
 // What a method of this name is: `init` is an initializer.
-pub fn method_kind(name: u16) -> u8
-    ensures { (type_of result ≡ method_type name) × (0 < result) }
+pub fn method_kind(name: u16) -> Kind
+    ensures { (type_of (number_of result) ≡ method_type name) × (0 < number_of result) }
 {
     if name == Name::INIT {
-        return Kind::INITIALIZER;
+        return Kind::Initializer;
     }
-    Kind::METHOD
+    Kind::Method
 }
 
 // The class that the methods are in.

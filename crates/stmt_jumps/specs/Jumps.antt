@@ -1,10 +1,15 @@
 -- Parts of statements that are compiled by one function each: the jumps around the parts of an `if`, of which a loop has the first too, and the end of
 -- a loop.
-use Rattle.std.proofs.Math.Option.{Option}
-use Rattle.std.specs.Prelude.{ℕ}
+use Rattle.std.proofs.Math.Option.{Option, none, some}
+use Rattle.std.specs.Prelude.{ℕ, Option as Maybe, Some, None}
 use Rattle.rules.specs.declared.Span.{Span}
 use Rattle.rules.specs.Op as op
 use Rattle.rules.specs.Compiler.{Compile, return, emit_op, emit_jump, patch_jump, emit_loop, for_end, ◌>>=◌, ◌>>◌}
+
+-- the place of a jump's operand as the rules have it, where there is a jump
+abbrev pub place_of : Maybe ℕ → Option ℕ
+place_of (Some place) = some place
+place_of None = none
 
 module _ (limit : ℕ) where
   -- a jump past what follows, and the value that it tests is dropped

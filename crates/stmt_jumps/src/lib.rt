@@ -1,10 +1,9 @@
 // The jumps around the parts of an `if`, a `while` and a `for`.
 #![tactic(auto)]
 
-ghost use Rattle.std.specs.Prelude.{◌≡◌, true, ℕ, ◌+◌, ◌≤◌, if◌then◌else◌};
-ghost use Rattle.std.proofs.Math.Option.{some, none};
+ghost use Rattle.std.specs.Prelude.{ℕ, ◌+◌, ◌≤◌, IfSome};
 ghost use Rattle.steps.specs.View.{mem, Fit, code_len, steady, Did, Opened};
-ghost use Rattle.stmt_jumps.specs.Jumps.{open_jump, turn_jump, close_loop};
+ghost use Rattle.stmt_jumps.specs.Jumps.{open_jump, turn_jump, close_loop, place_of};
 
 use op::Op;
 use rules::Span;
@@ -25,7 +24,7 @@ pub fn open_jump(
     ensures { (class : ℕ) → Opened class limit level steady (open_jump limit span) (mem t.old code.old spans.old) (mem t.new code.new spans.new) result }
 {
     let a = emit_jump(t, code, spans, level, limit, Op::JUMP_IF_FALSE, span);
-    let Step::Next(place) = a else {
+    let Ok(place) = a else {
         return a;
     };
     emit_op(t, code, spans, level, limit, Op::POP, span, place)
@@ -45,17 +44,18 @@ pub fn turn_jump(
     ensures { (class : ℕ) → Opened class limit level steady (turn_jump limit place span) (mem t.old code.old spans.old) (mem t.new code.new spans.new) result }
 {
     let a = emit_jump(t, code, spans, level, limit, Op::JUMP, span);
-    let Step::Next(second) = a else {
+    let Ok(second) = a else {
         return a;
     };
     let b = patch_jump(t, code, spans, level, limit, place, span, 0);
-    let Step::Next(_) = b else {
+    let Ok(_) = b else {
         return b;
     };
     emit_op(t, code, spans, level, limit, Op::POP, span, second)
 }
 
-// The end of a loop: the jump back to `start`, and where there is a condition the place that its jump lands on, where the value that it tests is dropped.
+// The end of a loop: the jump back to `start`, and where there is a condition the end that its jump lands on, where the value that it tests is dropped. `exit`
+// is the place of that jump's operand.
 pub fn close_loop(
     t: &mut [u64],
     code: &mut [u8],
@@ -63,23 +63,22 @@ pub fn close_loop(
     level: usize,
     limit: usize,
     start: usize,
-    has_cond: bool,
-    place: usize,
+    exit: Option<usize>,
     span: Span,
     next: usize,
 ) -> Step
-    requires { (Fit (mem t.old code.old spans.old) level limit) × (start ≤ code_len (mem t.old code.old spans.old) level) × (has_cond ≡ true → place + 2 ≤ code_len (mem t.old code.old spans.old) level) }
-    ensures { (class : ℕ) → Did class limit level next steady (close_loop limit start (if has_cond then some place else none) span) (mem t.old code.old spans.old) (mem t.new code.new spans.new) result }
+    requires { (Fit (mem t.old code.old spans.old) level limit) × (start ≤ code_len (mem t.old code.old spans.old) level) × (IfSome exit (λ place. place + 2 ≤ code_len (mem t.old code.old spans.old) level)) }
+    ensures { (class : ℕ) → Did class limit level next steady (close_loop limit start (place_of exit) span) (mem t.old code.old spans.old) (mem t.new code.new spans.new) result }
 {
     let a = emit_loop(t, code, spans, level, limit, start, span, next);
-    let Step::Next(_) = a else {
+    let Ok(_) = a else {
         return a;
     };
-    if !has_cond {
-        return Step::Next(next);
-    }
+    let Some(place) = exit else {
+        return Ok(next);
+    };
     let b = patch_jump(t, code, spans, level, limit, place, span, next);
-    let Step::Next(_) = b else {
+    let Ok(_) = b else {
         return b;
     };
     emit_op(t, code, spans, level, limit, Op::POP, span, next)

@@ -1,4 +1,6 @@
 -- A block: statements between the start and the end of a scope.
+use Rattle.steps.specs.Why.{Step}
+use Rattle.std.specs.Prelude.{Ok, Err}
 use mathlib.Core.Path.{◌≡◌, refl, sym, ap, ◌∙◌}
 use mathlib.Core.List.{List, []}
 use Prim.Native.Nat.{ℕ, ◌+◌, ◌-◌, ◌*◌, ◌≤◌, ◌<◌}
@@ -11,8 +13,6 @@ use Rattle.fields.specs.Words.{word16, letters, span_of}
 use Rattle.tree_laws.proofs.Statements.{block_at}
 use Rattle.state.specs.Layout.{deepest}
 use Rattle.steps.specs.View.{Mem, Fit, deeper, shallower, depth_at, Gave, Did}
-use Rattle.steps.specs.declared.Step.{Step}
-use Rattle.steps.specs.declared.Step.TheVariants.{Next, Stop}
 use Rattle.steps.proofs.Steps.{refused_seq, one_up_one_down}
 use Rattle.expr_laws.specs.Exprs.{There}
 use Rattle.steps.proofs.Monad.{on_to}
@@ -55,7 +55,7 @@ module _ (tree : List ℕ) (l at left : ℕ) (mark : letters tree at ≡ marks.S
   module _ {class limit : ℕ} {span : Span} (sp : span ≡ span_of tree (at + 2)) {before open-mem mid : Mem} {out out' : List ℕ} {r : Step} (o : Gave class limit l deeper begin_scope tt
       before open-mem)
       (w : Walked class limit l (at + 12) (stmts_at tree (word16 tree (at + 10)) (left - 1) l (at + 12)) (compile_stmts limit) open-mem out mid out' r) where
-    pub block_stop : {x : Why} → r ≡ Stop x → Walked class limit l at (stmt_at tree left l at) (compile_stmt limit) before out mid out' r
+    pub block_stop : {x : Why} → r ≡ Err x → Walked class limit l at (stmt_at tree left l at) (compile_stmt limit) before out mid out' r
     block_stop q = record {
       did = λ s n h.
           let b = block_at tree (word16 tree 2) left (funs_left l) at mark h in
@@ -63,15 +63,15 @@ module _ (tree : List ℕ) (l at left : ℕ) (mark : letters tree at ≡ marks.S
           (stopped q (run_refused_seq (begun {at = at} out (further at 12) o) _ (refused_seq (refused (w.did b.stmts n b.row_is) q) _)));
     }
 
-    pub block_fit : {k : ℕ} → There (stmt_at tree left l at) → r ≡ Next k → Fit mid l limit
+    pub block_fit : {k : ℕ} → There (stmt_at tree left l at) → r ≡ Ok k → Fit mid l limit
     block_fit h q = let b = block_at tree (word16 tree 2) left (funs_left l) at mark h.is in (grown (w.did b.stmts h.next b.row_is) q).gave.ahead.fit
 
     -- the scope is still open
-    pub block_deep : {k : ℕ} → There (stmt_at tree left l at) → r ≡ Next k → 0 < depth_at mid l
+    pub block_deep : {k : ℕ} → There (stmt_at tree left l at) → r ≡ Ok k → 0 < depth_at mid l
     block_deep h q = let b = block_at tree (word16 tree 2) left (funs_left l) at mark h.is in over_zero (depth_at before l)
         ((grown (w.did b.stmts h.next b.row_is) q).gave.ahead.deep ∙ o.ahead.deep)
 
-    pub block_done : {k : ℕ} {now : Mem} {r' : Step} → r ≡ Next k → ((class : ℕ) → Did class limit l k shallower (end_scope limit span) mid now r')
+    pub block_done : {k : ℕ} {now : Mem} {r' : Step} → r ≡ Ok k → ((class : ℕ) → Did class limit l k shallower (end_scope limit span) mid now r')
         → Walked class limit l at (stmt_at tree left l at) (compile_stmt limit) before out now out' r'
     block_done {k} {now} {r'} q d = record {
       did = λ s n h.

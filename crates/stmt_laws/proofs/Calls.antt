@@ -1,4 +1,6 @@
 -- What the arms need of what was read: bounds, and the same fact by the values that the code has.
+use Rattle.steps.specs.Why.{Step}
+use Rattle.std.specs.Prelude.{Result}
 use mathlib.Core.Path.{◌≡◌, sym, subst}
 use mathlib.Core.List.{List}
 use Prim.Native.Nat.{ℕ, suc, ◌+◌, ◌-◌, ◌*◌, ◌≤◌, ◌<◌}
@@ -12,13 +14,13 @@ use Rattle.tree_laws.proofs.Statements.{any_stmt_at}
 use Rattle.tree_laws.proofs.Later.{later_stmt}
 use Rattle.state.specs.Layout.{levels, deepest, depth_place, level_words}
 use Rattle.steps.specs.View.{Mem, mem, Fit, depth_at}
-use Rattle.steps.specs.declared.Step.{Step}
 use Rattle.expr_laws.specs.Exprs.{There}
 use Rattle.stmt_output_laws.specs.Output.{funs_left, stmt_at, stmts_at, Walked, Ready}
 use Rattle.stmt_output_laws.proofs.Growing.{plain}
 use Rattle.stmt_plain_laws.specs.Plain.{Plainly}
 use Rattle.stmt_loops.specs.Loops.{cond_at, Conditioned, incr_at, Incremented}
 use Rattle.stmt_loops.specs.declared.Cond.{Cond}
+use Rattle.steps.specs.declared.Why.{Why}
 
 -- ## What stands at a place
 
@@ -50,7 +52,7 @@ walked_as tree left l at {class} {limit} {before} {out} {now} {out'} {r} q w = s
 pub cond_as : (tree : List ℕ) {p k : ℕ} (left at : ℕ) → p ≡ k → There (cond_at tree k left at) → There (cond_at tree p left at)
 cond_as tree left at q h = subst (λ (n : ℕ). There (cond_at tree n left at)) (sym q) h
 
-pub conditioned_as : (tree : List ℕ) {p k : ℕ} (left at : ℕ) {class limit l : ℕ} {span : Span} {before now : Mem} {r : Cond} → p ≡ k
+pub conditioned_as : (tree : List ℕ) {p k : ℕ} (left at : ℕ) {class limit l : ℕ} {span : Span} {before now : Mem} {r : Result Cond Why} → p ≡ k
     → Conditioned class limit l (cond_at tree p left at) span before now r
     → Conditioned class limit l (cond_at tree k left at) span before now r
 conditioned_as tree left at {class} {limit} {l} {span} {before} {now} {r} q w = subst (λ (n : ℕ). Conditioned class limit l (cond_at tree n left at) span before now r) q w

@@ -1,4 +1,5 @@
 -- A class: what opens it, its methods one after the other with the class as the innermost one, and what closes it.
+use Rattle.std.specs.Prelude.{Ok, Err}
 use mathlib.Core.Path.{◌≡◌, refl, sym, ap, subst, ◌∙◌}
 use mathlib.Core.Bool.{Bool, true, false}
 use mathlib.Core.Option.{Option}
@@ -16,8 +17,6 @@ use Rattle.fields.specs.Words.{word8, word16, letters, span_of}
 use Rattle.tree_laws.proofs.Statements.{ClassAt, class_at, MethodRowAt, no_methods, more_methods, superclass_at, maybe_yes, maybe_no, flag_on}
 use Rattle.state.specs.Layout.{deepest}
 use Rattle.steps.specs.View.{Mem, t_of, depth_at, steady, Refused, Did}
-use Rattle.steps.specs.declared.Step.{Step}
-use Rattle.steps.specs.declared.Step.TheVariants.{Next, Stop}
 use Rattle.steps.proofs.Steps.{went, valued, stuck, refused_seq}
 use Rattle.expr_laws.specs.Exprs.{There}
 use Rattle.steps.proofs.Monad.{on_to}
@@ -31,7 +30,7 @@ use Rattle.stmt_laws.proofs.Calls.{same_on}
 use Rattle.stmt_laws.proofs.Cuts.{no_methods_cut, methods_cut}
 use Rattle.stmt_laws.proofs.Blocks.{by_parts}
 use Rattle.fields.specs.Marks as marks
-use Rattle.steps.specs.Why.{told}
+use Rattle.steps.specs.Why.{told, Step}
 use Rattle.steps.specs.declared.Why.{Why}
 use Rattle.rules.specs.declared.Stopped.{Stopped}
 
@@ -75,11 +74,11 @@ module _ {class limit l count left from : ℕ} {tree : List ℕ} {before : Mem} 
   like_refused r h f = let g = refused_seq f (compile_methods limit (head_of r h).others) in record { refuses = λ rest q. cut_here r h _ ∙ g.refuses rest q }
 
   module _ {now' : Mem} {out'' : List ℕ} {a : Step} (b : Walked class limit l next (method_at tree left l next) (compile_method limit) now out' now' out'' a) where
-    pub row_stop : 0 < more → {x : Why} → a ≡ Stop x → (methods : Methods) (n : ℕ) → methods_at tree count left l from ≡ got methods n
+    pub row_stop : 0 < more → {x : Why} → a ≡ Err x → (methods : Methods) (n : ℕ) → methods_at tree count left l from ≡ got methods n
         → Refused class l (compile_methods limit methods) before (told (t_of now') x)
     row_stop h q methods n r = let i = head_of r h in onward_refused (w.to methods n r).onward (like_refused r h (refused (b.did i.thing i.mid i.head) q))
 
-    module _ {v : ℕ} (h : 0 < more) (q : a ≡ Next v) where
+    module _ {v : ℕ} (h : 0 < more) (q : a ≡ Ok v) where
       step_on : {methods : Methods} {n : ℕ} (r : methods_at tree count left l from ≡ got methods n) → Remains class limit l tree left from methods n before out now' out'' v (more - 1)
       step_on {methods} {n} r =
           let i = head_of r h in
@@ -162,12 +161,12 @@ module _ (tree : List ℕ) (l at left : ℕ) (mark : letters tree at ≡ marks.S
     whole : {s : Stmt} {n : ℕ} (h : stmt_at tree left l at ≡ got s n) → s ≡ StmtClass span (word16 tree (at + 10)) (parts h).super (parts h).methods
     whole h = (parts h).is ∙ ap (λ (z : Span). StmtClass z (word16 tree (at + 10)) (parts h).super (parts h).methods) (sym sp)
 
-    pub class_stop : (out : List ℕ) {x : Why} → ra ≡ Stop x → Walked class limit l at (stmt_at tree left l at) (compile_stmt limit) before out m1 out ra
+    pub class_stop : (out : List ℕ) {x : Why} → ra ≡ Err x → Walked class limit l at (stmt_at tree left l at) (compile_stmt limit) before out m1 out ra
     class_stop out q = record {
       did = λ s n h. by_parts (whole h) (class_then_pop limit span (word16 tree (at + 10)) (parts h).super (parts h).methods) (stopped q (refused_seq (refused_seq (stuck (opened h) q) _) _));
     }
 
-    module _ {first : ℕ} (qa : ra ≡ Next first) where
+    module _ {first : ℕ} (qa : ra ≡ Ok first) where
       here : {s : Stmt} {n : ℕ} (h : stmt_at tree left l at ≡ got s n) → first ≡ (parts h).mid
       here h = valued (opened h) qa
 
@@ -200,7 +199,7 @@ module _ (tree : List ℕ) (l at left : ℕ) (mark : letters tree at ≡ marks.S
         rows h = ap (methods_at tree (word16 tree (at + 13)) (left - 1) l) (here h) ∙ (parts h).row_is
 
         pub class_stop_2 : 0 < more → {m3 : Mem} {out3 : List ℕ} {rb : Step} {x : Why}
-            → Walked inner-class limit l next (method_at tree (left - 1) l next) (compile_method limit) m2 out2 m3 out3 rb → rb ≡ Stop x
+            → Walked inner-class limit l next (method_at tree (left - 1) l next) (compile_method limit) m2 out2 m3 out3 rb → rb ≡ Err x
             → Walked class limit l at (stmt_at tree left l at) (compile_stmt limit) before out m3 out3 rb
         class_stop_2 g {m3 = m3} {rb = rb} {x = x} b q = record {
           did = λ s n h. by_parts (whole h) (class_then_pop limit span (word16 tree (at + 10)) (parts h).super (parts h).methods)

@@ -1,4 +1,6 @@
 -- A function: begun a level higher, its statements compiled there, and finished; and the statement and the method that are functions.
+use Rattle.steps.specs.Why.{Step}
+use Rattle.std.specs.Prelude.{Ok, Err}
 use mathlib.Core.Path.{◌≡◌, refl, sym, ap, subst, ◌∙◌}
 use mathlib.Core.Bool.{true, false}
 use mathlib.Core.List.{List, ◌∷◌, ◌++◌, append_assoc, []}
@@ -20,8 +22,6 @@ use Rattle.tree_laws.proofs.Statements.{FunAt, fun_of, FunStmtAt, fun_stmt_at, M
 use Rattle.tree_laws.proofs.Later.{later_names, within_stmts}
 use Rattle.state.specs.Layout.{levels, deepest, image_at, start_of_code, end_of_code, type_of, depth_place, code_from_place, type_place, level_words}
 use Rattle.steps.specs.View.{Mem, mem, t_of, Rest, view, Agrees, Fit, code_len, depth_at, steady, Refused, Did}
-use Rattle.steps.specs.declared.Step.{Step}
-use Rattle.steps.specs.declared.Step.TheVariants.{Next, Stop}
 use Rattle.steps.proofs.Steps.{seq_ok, seq_err, refused_seq}
 use Rattle.expr_laws.specs.Exprs.{There}
 use Rattle.steps.proofs.Monad.{on_to}
@@ -105,7 +105,7 @@ module _ (tree : List ℕ) (l at left kind : ℕ) (span : Span) where
     opens : {f : Fun} {n : ℕ} (h : fun_at tree left l at ≡ got f n) → FunctionOpenedAs l (parts h).mid (open_function (type_of kind) (word16 tree (at + 10)) (parts h).params span) t t1 ra
     opens h = a.did (parts h).params (parts h).mid (parts h).row_is
 
-    pub function_stop : {class limit : ℕ} (code spans out : List ℕ) {x : Why} → ra ≡ Stop x
+    pub function_stop : {class limit : ℕ} (code spans out : List ℕ) {x : Why} → ra ≡ Err x
         → Walked class limit l at (fun_at tree left l at) (λ f. compile_function limit f (type_of kind) span) (mem t code spans) out (mem t1 code spans) out ra
     function_stop {class} {limit} code spans out {x} q = record {
       did = λ f n h.
@@ -113,7 +113,7 @@ module _ (tree : List ℕ) (l at left kind : ℕ) (span : Span) where
           worked_like (whole limit h) (stopped q (refused_seq (record { refuses = λ rest g. e code spans rest }) _));
     }
 
-    module _ {first : ℕ} (qa : ra ≡ Next first) where
+    module _ {first : ℕ} (qa : ra ≡ Ok first) where
       inside : {f : Fun} {n : ℕ} (h : fun_at tree left l at ≡ got f n) → Inside l (open_function (type_of kind) (word16 tree (at + 10)) (parts h).params span) t t1 × (first ≡ (parts h).mid)
       inside h = subst (λ (z : Step). FunctionOpenedAs l (parts h).mid (open_function (type_of kind) (word16 tree (at + 10)) (parts h).params span) t t1 z) qa (opens h)
 
@@ -156,7 +156,7 @@ module _ (tree : List ℕ) (l at left kind : ℕ) (span : Span) where
         agreed : {f : Fun} {n : ℕ} (h : fun_at tree left l at ≡ got f n) → suc l < levels → (rest : Rest) → Agrees class (mem t code spans) rest → Agrees class (mem t1 code spans) rest
         agreed h low rest g = record { innermost = g.innermost; made = g.made ∙ sym (image_kept h low image_at (le_refl image_at)) }
 
-        pub function_stop_2 : suc l < levels → {x : Why} → rb ≡ Stop x
+        pub function_stop_2 : suc l < levels → {x : Why} → rb ≡ Err x
             → Walked class limit l at (fun_at tree left l at) (λ f. compile_function limit f (type_of kind) span) (mem t code spans) out m2 out2 rb
         function_stop_2 low q = record {
           did = λ f n h.
@@ -164,7 +164,7 @@ module _ (tree : List ℕ) (l at left kind : ℕ) (span : Span) where
               (stopped q (record { refuses = λ rest g. seq_ok _ _ _ ((inside h).0.comes code spans rest) ∙ seq_err _ _ _ ((refused (body_did h) q).refuses rest (agreed h low rest g)) }));
         }
 
-        module _ {n1 : ℕ} (qb : rb ≡ Next n1) where
+        module _ {n1 : ℕ} (qb : rb ≡ Ok n1) where
           grew : {f : Fun} {n : ℕ} (h : fun_at tree left l at ≡ got f n) → Grew class limit (suc l) (first + 2) n (compile_stmts limit (parts h).body) (mem t1 code spans) out m2 out2
           grew h = grown (body_did h) qb
 
@@ -249,8 +249,8 @@ module _ (tree : List ℕ) (l at left kind : ℕ) (span : Span) where
             done_as : {f : Fun} {n : ℕ} (h : fun_at tree left l at ≡ got f n) (rc : Step) → FunctionClosedAs class limit l n1 span m2 out2 now out3 rc
                 → WorkedAs class limit l at n (open_function (type_of kind) (word16 tree (at + 10)) (parts h).params span >> (compile_stmts limit (parts h).body >> close_function limit span))
                 (mem t code spans) out now out3 rc
-            done_as h (Next v) d = (finish h d.0, d.1 ∙ reached (body_did h) qb)
-            done_as h (Stop x) d = refuses h d
+            done_as h (Ok v) d = (finish h d.0, d.1 ∙ reached (body_did h) qb)
+            done_as h (Err x) d = refuses h d
 
             pub function_done : {rc : Step} → FunctionClosed class limit l n1 span m2 out2 now out3 rc
                 → Walked class limit l at (fun_at tree left l at) (λ f. compile_function limit f (type_of kind) span) (mem t code spans) out now out3 rc
@@ -295,13 +295,13 @@ module _ (tree : List ℕ) (l at left : ℕ) (mark : letters tree at ≡ marks.S
     fun_whole : {s : Stmt} {n : ℕ} (h : stmt_at tree left l at ≡ got s n) → s ≡ StmtFun span (stmt_parts h).function
     fun_whole h = (stmt_parts h).is ∙ ap (λ (z : Span). StmtFun z (stmt_parts h).function) (sym sp)
 
-    pub fun_stop : {x : Why} → ra ≡ Stop x → Walked class limit l at (stmt_at tree left l at) (compile_stmt limit) before out m1 out1 ra
+    pub fun_stop : {x : Why} → ra ≡ Err x → Walked class limit l at (stmt_at tree left l at) (compile_stmt limit) before out m1 out1 ra
     fun_stop q = record { did = λ s n h. by_parts (fun_whole h) (fun_cut limit span (stmt_parts h).function) (stopped q (refused_seq (refused (function_did h) q) _)) }
 
-    pub fun_fit : {n1 : ℕ} → There (stmt_at tree left l at) → ra ≡ Next n1 → Fit m1 l limit
+    pub fun_fit : {n1 : ℕ} → There (stmt_at tree left l at) → ra ≡ Ok n1 → Fit m1 l limit
     fun_fit h q = (grown (function_did h.is) q).gave.ahead.fit
 
-    pub fun_done : {n1 name : ℕ} {now : Mem} {rb : Step} → ra ≡ Next n1 → name ≡ word16 tree (at + 10) → Did class limit l n1 steady (define_name limit name span) m1 now rb
+    pub fun_done : {n1 name : ℕ} {now : Mem} {rb : Step} → ra ≡ Ok n1 → name ≡ word16 tree (at + 10) → Did class limit l n1 steady (define_name limit name span) m1 now rb
         → Walked class limit l at (stmt_at tree left l at) (compile_stmt limit) before out now out1 rb
     fun_done {n1} {name} {now} {rb} q e d = record {
       did = λ s n h.
@@ -352,13 +352,13 @@ module _ (tree : List ℕ) (l at left : ℕ) where
     unfolding compile_method
     by_method {f = f} q w = worked_like (λ z. ap (λ (s : Span × Fun). compile_method limit s z) (q ∙ ap (λ (x : Span). (x, f)) (sym sp))) w
 
-    pub method_stop : {x : Why} → ra ≡ Stop x → Walked class limit l at (output.method_at tree left l at) (compile_method limit) before out m1 out1 ra
+    pub method_stop : {x : Why} → ra ≡ Err x → Walked class limit l at (output.method_at tree left l at) (compile_method limit) before out m1 out1 ra
     method_stop q = record { did = λ s n h. by_method (method_parts h).is (stopped q (refused_seq (refused (method_did h) q) _)) }
 
-    pub method_fit : {n1 : ℕ} → There (output.method_at tree left l at) → ra ≡ Next n1 → Fit m1 l limit
+    pub method_fit : {n1 : ℕ} → There (output.method_at tree left l at) → ra ≡ Ok n1 → Fit m1 l limit
     method_fit h q = (grown (method_did h.is) q).gave.ahead.fit
 
-    pub method_done : {n1 : ℕ} {now : Mem} {rb : Step} → ra ≡ Next n1 → Did class limit l n1 steady (emit_op_constant limit op.METHOD (CS name) span) m1 now rb
+    pub method_done : {n1 : ℕ} {now : Mem} {rb : Step} → ra ≡ Ok n1 → Did class limit l n1 steady (emit_op_constant limit op.METHOD (CS name) span) m1 now rb
         → Walked class limit l at (output.method_at tree left l at) (compile_method limit) before out now out1 rb
     method_done {n1} {now} {rb} q d = record {
       did = λ s n h.

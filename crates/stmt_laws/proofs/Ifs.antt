@@ -1,5 +1,7 @@
 -- An `if`: a condition, the part where it holds, and the part where it does not, which may be missing. The laws follow the code from one call to the
 -- next: what may be relied on there, and what the whole comes to where a part is refused.
+use Rattle.steps.specs.Why.{Step}
+use Rattle.std.specs.Prelude.{Ok, Err}
 use mathlib.Core.Path.{◌≡◌, refl, sym, ap, subst, ◌∙◌}
 use mathlib.Core.Bool.{Bool, true, false}
 use mathlib.Core.Option.{some}
@@ -19,8 +21,6 @@ use Rattle.tree_laws.proofs.Statements.{IfAt, if_at, flag_on, flag_off, flag_is}
 use Rattle.tree_laws.proofs.Later.{later_expr, later_stmt}
 use Rattle.state.specs.Layout.{deepest}
 use Rattle.steps.specs.View.{Mem, Fit, code_len, depth_at, steady, Did, Opened}
-use Rattle.steps.specs.declared.Step.{Step}
-use Rattle.steps.specs.declared.Step.TheVariants.{Next, Stop}
 use Rattle.steps.proofs.Steps.{went, still, valued, stuck, went_to, placed, stuck_to, refused_seq, refused_bind}
 use Rattle.expr_laws.specs.Exprs.{There, expr_at, Ran}
 use Rattle.stmt_jumps.specs.Jumps.{open_jump, turn_jump}
@@ -67,16 +67,16 @@ module _ (tree : List ℕ) (l at left : ℕ) (mark : letters tree at ≡ marks.S
   whole span sp h = (parts h).is ∙ ap (λ (z : Span). StmtIf z (parts h).cond (parts h).yes_part (parts h).no_part) (sym sp)
 
   module _ (span : Span) {class limit : ℕ} {before m1 : Mem} {ra : Step} (a : Ran class limit l (expr_at tree (left - 1) (at + 11)) before m1 ra) where
-    pub if_stop : (sp : span ≡ span_of tree (at + 2)) (out : List ℕ) {x : Why} → ra ≡ Stop x → Walked class limit l at (stmt_at tree left l at) (compile_stmt limit) before out m1 out ra
+    pub if_stop : (sp : span ≡ span_of tree (at + 2)) (out : List ℕ) {x : Why} → ra ≡ Err x → Walked class limit l at (stmt_at tree left l at) (compile_stmt limit) before out m1 out ra
     if_stop sp out q = record {
       did = λ s n h. by_parts (whole span sp h) (if_cut limit span (parts h).cond (parts h).yes_part (parts h).no_part)
           (stopped q (refused_seq (stuck (a.did (parts h).cond (parts h).mid (parts h).one) q) _));
     }
 
-    pub if_fit : {n1 : ℕ} → There (stmt_at tree left l at) → ra ≡ Next n1 → Fit m1 l limit
+    pub if_fit : {n1 : ℕ} → There (stmt_at tree left l at) → ra ≡ Ok n1 → Fit m1 l limit
     if_fit h qa = (went (a.did (parts h.is).cond (parts h.is).mid (parts h.is).one) qa).ahead.fit
 
-    module _ {n1 : ℕ} (qa : ra ≡ Next n1) where
+    module _ {n1 : ℕ} (qa : ra ≡ Ok n1) where
       here : {s : Stmt} {n : ℕ} (h : stmt_at tree left l at ≡ got s n) → n1 ≡ (parts h).mid
       here h = valued (a.did (parts h).cond (parts h).mid (parts h).one) qa
 
@@ -92,13 +92,13 @@ module _ (tree : List ℕ) (l at left : ℕ) (mark : letters tree at ≡ marks.S
           (went (a.did (parts h).cond (parts h).mid (parts h).one) qa)
 
       module _ {m2 : Mem} {rb : Step} (b : Opened class limit l steady (open_jump limit span) m1 m2 rb) where
-        pub if_stop_2 : (sp : span ≡ span_of tree (at + 2)) (out : List ℕ) {x : Why} → rb ≡ Stop x → Walked class limit l at (stmt_at tree left l at) (compile_stmt limit) before out m2 out rb
+        pub if_stop_2 : (sp : span ≡ span_of tree (at + 2)) (out : List ℕ) {x : Why} → rb ≡ Err x → Walked class limit l at (stmt_at tree left l at) (compile_stmt limit) before out m2 out rb
         if_stop_2 sp out q = record {
           did = λ s n h. by_parts (whole span sp h) (if_cut limit span (parts h).cond (parts h).yes_part (parts h).no_part)
               (stopped q (run_refused_seq (first out h) _ (refused_bind (stuck_to b q) _)));
         }
 
-        module _ {j : ℕ} (qb : rb ≡ Next j) where
+        module _ {j : ℕ} (qb : rb ≡ Ok j) where
           second : (out : List ℕ) → Run class limit l n1 n1 steady (open_jump limit span) j m1 out m2 out
           second out = of_gave out refl (le_refl n1) (went_to b qb)
 
@@ -112,13 +112,13 @@ module _ (tree : List ℕ) (l at left : ℕ) (mark : letters tree at ≡ marks.S
             then_did : {s : Stmt} {n : ℕ} (h : stmt_at tree left l at ≡ got s n) → Worked class limit l n1 (parts h).late (compile_stmt limit (parts h).yes_part) m2 out m3 out3 rd
             then_did h = d.did (parts h).yes_part (parts h).late (ap (read_stmt tree (word16 tree 2) (left - 1) (funs_left l)) (here h) ∙ (parts h).two)
 
-            pub if_stop_3 : (sp : span ≡ span_of tree (at + 2)) {x : Why} → rd ≡ Stop x → Walked class limit l at (stmt_at tree left l at) (compile_stmt limit) before out m3 out3 rd
+            pub if_stop_3 : (sp : span ≡ span_of tree (at + 2)) {x : Why} → rd ≡ Err x → Walked class limit l at (stmt_at tree left l at) (compile_stmt limit) before out m3 out3 rd
             if_stop_3 sp q = record {
               did = λ s n h. by_parts (whole span sp h) (if_cut limit span (parts h).cond (parts h).yes_part (parts h).no_part)
                   (stopped q (run_refused_seq (first out h) _ (run_refused (second out) _ (refused_seq (refused (then_did h) q) _))));
             }
 
-            module _ {n2 : ℕ} (qd : rd ≡ Next n2) where
+            module _ {n2 : ℕ} (qd : rd ≡ Ok n2) where
               there : {s : Stmt} {n : ℕ} (h : stmt_at tree left l at ≡ got s n) → n2 ≡ (parts h).late
               there h = reached (then_did h) qd
 
@@ -140,13 +140,13 @@ module _ (tree : List ℕ) (l at left : ℕ) (mark : letters tree at ≡ marks.S
               if_fit_2 h = (third h.is).gave.ahead.fit
 
               module _ {m4 : Mem} {re : Step} (e : Opened class limit l steady (turn_jump limit j span) m3 m4 re) where
-                pub if_stop_4 : (sp : span ≡ span_of tree (at + 2)) {x : Why} → re ≡ Stop x → Walked class limit l at (stmt_at tree left l at) (compile_stmt limit) before out m4 out3 re
+                pub if_stop_4 : (sp : span ≡ span_of tree (at + 2)) {x : Why} → re ≡ Err x → Walked class limit l at (stmt_at tree left l at) (compile_stmt limit) before out m4 out3 re
                 if_stop_4 sp q = record {
                   did = λ s n h. by_parts (whole span sp h) (if_cut limit span (parts h).cond (parts h).yes_part (parts h).no_part)
                       (stopped q (run_refused_seq (first out h) _ (run_refused (second out) _ (run_refused_seq (third h) _ (refused_bind (stuck_to e q) _)))));
                 }
 
-                module _ {k : ℕ} (qe : re ≡ Next k) where
+                module _ {k : ℕ} (qe : re ≡ Ok k) where
                   fourth : {late : ℕ} → Run class limit l late late steady (turn_jump limit j span) k m3 out3 m4 out3
                   fourth {late} = of_gave out3 refl (le_refl late) (went_to e qe)
 
@@ -170,7 +170,7 @@ module _ (tree : List ℕ) (l at left : ℕ) (mark : letters tree at ≡ marks.S
                     else_did : {s : Stmt} {n : ℕ} (h : stmt_at tree left l at ≡ got s n) → Worked class limit l n2 n (compile_stmts limit (parts h).no_part) m4 out3 m5 out5 rf
                     else_did {s} {n} h = f.did (parts h).no_part n (row_of h)
 
-                    pub if_stop_5 : (sp : span ≡ span_of tree (at + 2)) {x : Why} → rf ≡ Stop x → Walked class limit l at (stmt_at tree left l at) (compile_stmt limit) before out m5 out5 rf
+                    pub if_stop_5 : (sp : span ≡ span_of tree (at + 2)) {x : Why} → rf ≡ Err x → Walked class limit l at (stmt_at tree left l at) (compile_stmt limit) before out m5 out5 rf
                     if_stop_5 sp q = record {
                       did = λ s n h. by_parts (whole span sp h) (if_cut limit span (parts h).cond (parts h).yes_part (parts h).no_part)
                           (stopped q
@@ -178,7 +178,7 @@ module _ (tree : List ℕ) (l at left : ℕ) (mark : letters tree at ≡ marks.S
                           (run_refused (second out) _ (run_refused_seq (third h) _ (run_refused (fourth {late = (parts h).late}) _ (refused_seq (refused (else_did h) q) _))))));
                     }
 
-                    module _ {n3 : ℕ} (qf : rf ≡ Next n3) where
+                    module _ {n3 : ℕ} (qf : rf ≡ Ok n3) where
                       fifth : {s : Stmt} {n : ℕ} (h : stmt_at tree left l at ≡ got s n) → Run class limit l (parts h).late n steady (compile_stmts limit (parts h).no_part) tt m4 out3 m5 out5
                       fifth {s} {n} h = subst (λ (p : ℕ). Run class limit l p n steady (compile_stmts limit (parts h).no_part) tt m4 out3 m5 out5) (there h) (of_grew (grown (else_did h) qf))
 

@@ -1,4 +1,6 @@
 -- A row of statements is walked: those that are left come to the same, from the areas as they are, as all of them from where the walk began.
+use Rattle.steps.specs.Why.{Step}
+use Rattle.std.specs.Prelude.{Ok, Err}
 use mathlib.Core.Path.{◌≡◌, refl, sym, ap, subst, ◌∙◌}
 use mathlib.Core.List.{List}
 use Prim.Native.Nat.{ℕ, suc, ◌-◌, ◌≤◌, ◌<◌}
@@ -10,8 +12,6 @@ use Rattle.rules.specs.Compiler.{Compiler, ◌>>◌, compile_stmt, compile_stmts
 use Rattle.fields.specs.Words.{word16}
 use Rattle.tree_laws.proofs.Statements.{StmtRowAt, no_stmts, more_stmts}
 use Rattle.steps.specs.View.{Mem, Refused}
-use Rattle.steps.specs.declared.Step.{Step}
-use Rattle.steps.specs.declared.Step.TheVariants.{Next, Stop}
 use Rattle.steps.proofs.Steps.{refused_seq}
 use Rattle.expr_laws.specs.Exprs.{There}
 use Rattle.stmt_output_laws.specs.Output.{funs_left, stmt_at, stmts_at, Grew, Walked, Ready}
@@ -54,14 +54,14 @@ module _ {class limit l count left from : ℕ} {tree : List ℕ} {before : Mem} 
   like_refused r h f = let g = refused_seq f (compile_stmts limit (head_of r h).others) in record { refuses = λ rest q. cut_here r h _ ∙ g.refuses rest q }
 
   module _ {now' : Mem} {out'' : List ℕ} {a : Step} (b : Walked class limit l next (stmt_at tree left l next) (compile_stmt limit) now out' now' out'' a) where
-    pub row_stop : 0 < more → {x : Why} → a ≡ Stop x → Walked class limit l from (stmts_at tree count left l from) (compile_stmts limit) before out now' out'' a
+    pub row_stop : 0 < more → {x : Why} → a ≡ Err x → Walked class limit l from (stmts_at tree count left l from) (compile_stmts limit) before out now' out'' a
     row_stop h q = record {
       did = λ stmts n r.
           let i = head_of r h in
           stopped q (onward_refused (w.to stmts n r).onward (like_refused r h (refused (b.did i.one i.mid i.head) q)));
     }
 
-    module _ {v : ℕ} (h : 0 < more) (q : a ≡ Next v) where
+    module _ {v : ℕ} (h : 0 < more) (q : a ≡ Ok v) where
       step_on : {stmts : Stmts} {n : ℕ} (r : stmts_at tree count left l from ≡ got stmts n) → Remains class limit l tree left from stmts n before out now' out'' v (more - 1)
       step_on {stmts} {n} r =
           let i = head_of r h in
@@ -86,7 +86,7 @@ module _ {class limit l count left from : ℕ} {tree : List ℕ} {before : Mem} 
             to = λ stmts n r. step_on r;
           }
 
-  pub row_done : more ≤ 0 → {next' : ℕ} → next' ≡ next → Walked class limit l from (stmts_at tree count left l from) (compile_stmts limit) before out now out' (Next next')
+  pub row_done : more ≤ 0 → {next' : ℕ} → next' ≡ next → Walked class limit l from (stmts_at tree count left l from) (compile_stmts limit) before out now out' (Ok next')
   row_done h e = record {
     did = λ stmts n r.
         let o = w.to stmts n r in

@@ -1,4 +1,6 @@
 -- A `while`: where its code starts, a condition, a body, and the jump back.
+use Rattle.steps.specs.Why.{Step}
+use Rattle.std.specs.Prelude.{Ok, Err}
 use mathlib.Core.Path.{◌≡◌, refl, sym, ap, subst, ◌∙◌}
 use mathlib.Core.Option.{some}
 use mathlib.Core.List.{List, []}
@@ -14,8 +16,6 @@ use Rattle.fields.specs.Words.{word16, letters, span_of}
 use Rattle.tree_laws.proofs.Statements.{WhileAt, while_at}
 use Rattle.tree_laws.proofs.Later.{later_expr}
 use Rattle.steps.specs.View.{Mem, Fit, code_len, depth_at, steady, Did, Opened, Told}
-use Rattle.steps.specs.declared.Step.{Step}
-use Rattle.steps.specs.declared.Step.TheVariants.{Next, Stop}
 use Rattle.steps.proofs.Steps.{went, still, valued, stuck, went_to, placed, stuck_to, refused_seq, refused_bind}
 use Rattle.expr_laws.specs.Exprs.{There, expr_at, Ran}
 use Rattle.stmt_jumps.specs.Jumps.{open_jump}
@@ -47,16 +47,16 @@ module _ (tree : List ℕ) (l at left : ℕ) (mark : letters tree at ≡ marks.S
     asked out = told_run out fit (le_refl at) ask
 
     module _ {m1 : Mem} {ra : Step} (a : Ran class limit l (expr_at tree (left - 1) (at + 10)) before m1 ra) where
-      pub while_stop : (sp : span ≡ span_of tree (at + 2)) (out : List ℕ) {x : Why} → ra ≡ Stop x → Walked class limit l at (stmt_at tree left l at) (compile_stmt limit) before out m1 out ra
+      pub while_stop : (sp : span ≡ span_of tree (at + 2)) (out : List ℕ) {x : Why} → ra ≡ Err x → Walked class limit l at (stmt_at tree left l at) (compile_stmt limit) before out m1 out ra
       while_stop sp out q = record {
         did = λ s n h. by_parts (whole span sp h) (while_cut limit span (parts h).cond (parts h).body)
             (stopped q (run_refused (asked out) _ (refused_seq (stuck (a.did (parts h).cond (parts h).mid (parts h).one) q) _)));
       }
 
-      pub while_fit : {n1 : ℕ} → There (stmt_at tree left l at) → ra ≡ Next n1 → Fit m1 l limit
+      pub while_fit : {n1 : ℕ} → There (stmt_at tree left l at) → ra ≡ Ok n1 → Fit m1 l limit
       while_fit h qa = (went (a.did (parts h.is).cond (parts h.is).mid (parts h.is).one) qa).ahead.fit
 
-      module _ {n1 : ℕ} (qa : ra ≡ Next n1) where
+      module _ {n1 : ℕ} (qa : ra ≡ Ok n1) where
         here : {s : Stmt} {n : ℕ} (h : stmt_at tree left l at ≡ got s n) → n1 ≡ (parts h).mid
         here h = valued (a.did (parts h).cond (parts h).mid (parts h).one) qa
 
@@ -72,13 +72,13 @@ module _ (tree : List ℕ) (l at left : ℕ) (mark : letters tree at ≡ marks.S
             (went (a.did (parts h).cond (parts h).mid (parts h).one) qa)
 
         module _ {m2 : Mem} {rb : Step} (b : Opened class limit l steady (open_jump limit span) m1 m2 rb) where
-          pub while_stop_2 : (sp : span ≡ span_of tree (at + 2)) (out : List ℕ) {x : Why} → rb ≡ Stop x → Walked class limit l at (stmt_at tree left l at) (compile_stmt limit) before out m2 out rb
+          pub while_stop_2 : (sp : span ≡ span_of tree (at + 2)) (out : List ℕ) {x : Why} → rb ≡ Err x → Walked class limit l at (stmt_at tree left l at) (compile_stmt limit) before out m2 out rb
           while_stop_2 sp out q = record {
             did = λ s n h. by_parts (whole span sp h) (while_cut limit span (parts h).cond (parts h).body)
                 (stopped q (run_refused (asked out) _ (run_refused_seq (first out h) _ (refused_bind (stuck_to b q) _))));
           }
 
-          module _ {j : ℕ} (qb : rb ≡ Next j) where
+          module _ {j : ℕ} (qb : rb ≡ Ok j) where
             second : (out : List ℕ) → Run class limit l n1 n1 steady (open_jump limit span) j m1 out m2 out
             second out = of_gave out refl (le_refl n1) (went_to b qb)
 
@@ -92,13 +92,13 @@ module _ (tree : List ℕ) (l at left : ℕ) (mark : letters tree at ≡ marks.S
               body_did : {s : Stmt} {n : ℕ} (h : stmt_at tree left l at ≡ got s n) → Worked class limit l n1 n (compile_stmt limit (parts h).body) m2 out m3 out3 rd
               body_did {s} {n} h = d.did (parts h).body n (ap (read_stmt tree (word16 tree 2) (left - 1) (funs_left l)) (here h) ∙ (parts h).two)
 
-              pub while_stop_3 : (sp : span ≡ span_of tree (at + 2)) {x : Why} → rd ≡ Stop x → Walked class limit l at (stmt_at tree left l at) (compile_stmt limit) before out m3 out3 rd
+              pub while_stop_3 : (sp : span ≡ span_of tree (at + 2)) {x : Why} → rd ≡ Err x → Walked class limit l at (stmt_at tree left l at) (compile_stmt limit) before out m3 out3 rd
               while_stop_3 sp q = record {
                 did = λ s n h. by_parts (whole span sp h) (while_cut limit span (parts h).cond (parts h).body)
                     (stopped q (run_refused (asked out) _ (run_refused_seq (first out h) _ (run_refused (second out) _ (refused_seq (refused (body_did h) q) _)))));
               }
 
-              module _ {n2 : ℕ} (qd : rd ≡ Next n2) where
+              module _ {n2 : ℕ} (qd : rd ≡ Ok n2) where
                 third : {s : Stmt} {n : ℕ} (h : stmt_at tree left l at ≡ got s n) → Run class limit l n1 n steady (compile_stmt limit (parts h).body) tt m2 out m3 out3
                 third h = of_grew (grown (body_did h) qd)
 

@@ -9,15 +9,14 @@ use expressions::compile_expr;
 use op::Op;
 use rules::Span;
 use step_bytes::emit_op;
-use steps::Step;
+use steps::{Step, Why};
 use stmt_jumps::open_jump;
 
-// The answer of `for_cond`: where to read on or the refusal; whether there is a jump past the loop, and its operand's place.
+// After a condition: where to read on, and where there is a condition the place of the operand of its jump past the loop.
 #[derive(Drop)]
 pub struct Cond {
-    pub step: Step,
-    pub some: bool,
-    pub place: usize,
+    pub next: usize,
+    pub exit: Option<usize>,
 }
 
 // The condition that starts at `at`, and a jump past the loop where its value is false.
@@ -32,38 +31,30 @@ pub fn for_cond(
     limit: usize,
     class: u8,
     span: Span,
-) -> Cond
+) -> Result<Cond, Why>
     requires { (CondThere tree.now parts at) × (Fit (mem t.old code.old spans.old) level limit) }
     ensures { (d : ℕ) → Conditioned class limit level (cond_at tree.now parts d at) span (mem t.old code.old spans.old) (mem t.new code.new spans.new) result }
 {
     if parts / 2 % 2 != 1 {
-        return Cond {
-            step: Step::Next(at),
-            some: false,
-            place: 0,
-        };
+        return Ok(Cond {
+            next: at,
+            exit: None,
+        });
     }
     let a = compile_expr(tree, at, t, code, spans, level, limit, class);
-    let Step::Next(end) = a else {
-        return Cond {
-            step: a,
-            some: false,
-            place: 0,
-        };
+    let next = match a {
+        Ok(end) => end,
+        Err(why) => return Err(why),
     };
     let b = open_jump(t, code, spans, level, limit, span);
-    let Step::Next(place) = b else {
-        return Cond {
-            step: b,
-            some: false,
-            place: 0,
-        };
+    let place = match b {
+        Ok(place) => place,
+        Err(why) => return Err(why),
     };
-    Cond {
-        step: Step::Next(end),
-        some: true,
-        place: place,
-    }
+    Ok(Cond {
+        next,
+        exit: Some(place),
+    })
 }
 
 // The increment that starts at `at`; its value is dropped.
@@ -83,10 +74,10 @@ pub fn for_incr(
     ensures { (d : ℕ) → Incremented class limit level (incr_at tree.now parts d at) span (mem t.old code.old spans.old) (mem t.new code.new spans.new) result }
 {
     if parts / 4 != 1 {
-        return Step::Next(at);
+        return Ok(at);
     }
     let a = compile_expr(tree, at, t, code, spans, level, limit, class);
-    let Step::Next(end) = a else {
+    let Ok(end) = a else {
         return a;
     };
     emit_op(t, code, spans, level, limit, Op::POP, span, end)

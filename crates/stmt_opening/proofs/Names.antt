@@ -1,6 +1,8 @@
 -- A function's own locals: the one of slot zero, and the parameters, one after the other.
+use Rattle.std.specs.Prelude.{◌⊎◌, Result, Ok, Err, ⊤}
 use mathlib.Core.Path.{◌≡◌, refl, sym, ap, subst, ◌∙◌}
 use mathlib.Core.List.{List, ◌∷◌, []}
+use mathlib.Core.Logic.{⊎_elim}
 use Prim.Native.Nat.{ℕ, zero, suc, ◌+◌, ◌*◌, ◌-◌, ◌≤◌, ◌<◌}
 use native.Mathlib.Omega.{arith}
 use lib.ListN.{length}
@@ -8,15 +10,16 @@ use Rattle.rules.specs.declared.Span.{Span}
 use Rattle.rules.specs.Reader.{got}
 use Rattle.rules.specs.Compiler.{Compiler, ok, err, Compile, ◌>>◌, done, return, update_ctx, slot_zero, declare_local, define_local, declare_params}
 use Rattle.fields.specs.Words.{word16}
+use Rattle.state.specs.Kinds.{number_of}
+use Rattle.state.specs.declared.Kind.{Kind}
+use Rattle.state.specs.declared.Kind.TheVariants.{Script, Function, Method, Initializer}
 use Rattle.state.specs.Layout.{levels, ctx_at, type_of, Wf, upvalues_place, name_place, level_words, local_count_place, word}
 use Rattle.state.specs.Meaning.{Kept, DeclaredAs, DeclaredAt, DefinedAt}
-use Rattle.state.specs.declared.Declared.{Declared}
-use Rattle.state.specs.declared.Declared.TheVariants as decl
+use Rattle.state.specs.declared.Undeclared.{Undeclared}
+use Rattle.state.specs.declared.Undeclared.TheVariants.{Already, Full}
 use Rattle.state.proofs.Laws.{kept_same}
 use Rattle.tree_laws.proofs.Statements.{NameRowAt, no_names, more_names}
 use Rattle.steps.specs.View.{mem, Rest, view}
-use Rattle.steps.specs.declared.Step.{Step}
-use Rattle.steps.specs.declared.Step.TheVariants.{Next, Stop}
 use Rattle.steps.proofs.Steps.{seq_ok, seq_err}
 use Rattle.steps.proofs.Views.{view_locals, stopped_in}
 use Rattle.rules.proofs.Slips as slips
@@ -25,22 +28,17 @@ use Rattle.steps.proofs.Monad.{regroup}
 use Rattle.stmt_opening.specs.Opening.{names_at, NamesThere, declare_named, Locally, NamedAs, Named, ParamsDeclared}
 use Rattle.rules.specs.declared.Refusal.{Refusal}
 use Rattle.steps.specs.declared.Why.{Why}
-use Rattle.steps.specs.Why.{already_defined, too_many_locals, refusal_of, told}
+use Rattle.steps.specs.Why.{already_defined, too_many_locals, refusal_of, told, Step}
 
 -- ## Slot zero
 
-pub method_slot : (kind name : ℕ) → 1 < kind → 0 ≡ slot_zero (type_of kind) name
-unfolding type_of slot_zero
-method_slot zero name h = absurd (omega arith)
-method_slot (suc zero) name h = absurd (omega arith)
-method_slot (suc (suc zero)) name h = refl
-method_slot (suc (suc (suc kind))) name h = refl
+pub method_slot : (kind : Kind) (name : ℕ) → (kind ≡ Initializer) ⊎ (kind ≡ Method) → 0 ≡ slot_zero (type_of (number_of kind)) name
+unfolding number_of type_of slot_zero
+method_slot kind name h = ⊎_elim (λ q. rw q refl) (λ q. rw q refl) h
 
-pub function_slot : (kind name : ℕ) → kind ≤ 1 → name ≡ slot_zero (type_of kind) name
-unfolding type_of slot_zero
-function_slot zero name h = refl
-function_slot (suc zero) name h = refl
-function_slot (suc (suc kind)) name h = absurd (omega arith)
+pub function_slot : (kind : Kind) (name : ℕ) → (kind ≡ Script) ⊎ (kind ≡ Function) → name ≡ slot_zero (type_of (number_of kind)) name
+unfolding number_of type_of slot_zero
+function_slot kind name h = ⊎_elim (λ q. rw q refl) (λ q. rw q refl) h
 
 -- ## What is kept
 
@@ -56,37 +54,37 @@ define_is : (t t' code spans : List ℕ) (l : ℕ) (rest : Rest) → l < levels 
 unfolding define_local update_ctx view ctx_at
 define_is t t' code spans l rest low wf w = ap (ok tt) (sym (view_locals t code spans t' l local_count_place _ wf low w.kept (omega arith) w.does rest))
 
-module _ (l n name : ℕ) (span : Span) (t t₁ : List ℕ) (r : Declared) (w : DeclaredAt t t₁ l name r) where
-  does_as : (s : Declared) → r ≡ s → DeclaredAs t t₁ l name s
-  does_as s q = subst (λ (s : Declared). DeclaredAs t t₁ l name s) q w.does
+module _ (l n name : ℕ) (span : Span) (t t₁ : List ℕ) (r : Result ⊤ Undeclared) (w : DeclaredAt t t₁ l name r) where
+  does_as : (s : Result ⊤ Undeclared) → r ≡ s → DeclaredAs t t₁ l name s
+  does_as s q = subst (λ (s : Result ⊤ Undeclared). DeclaredAs t t₁ l name s) q w.does
 
   own_name : word t₁ l name_place ≡ word t l name_place
   own_name = w.kept.above _ (omega arith)
 
-  pub named_again : r ≡ decl.Already → Named l n (declare_named name span) t t₁ (Stop (already_defined l span name))
+  pub named_again : r ≡ Err Already → Named l n (declare_named name span) t t₁ (Err (already_defined l span name))
   unfolding view ctx_at refusal_of
   named_again q = record {
     does = λ code spans rest.
-        seq_err (declare_local name span) (view (mem t code spans) l rest) define_local (already_declared name span (view (mem t code spans) l rest) (does_as decl.Already q))
+        seq_err (declare_local name span) (view (mem t code spans) l rest) define_local (already_declared name span (view (mem t code spans) l rest) (does_as (Err Already) q))
         ∙ ap err (stopped_in t code spans rest _ own_name);
   }
 
-  pub named_full : r ≡ decl.Full → Named l n (declare_named name span) t t₁ (Stop (too_many_locals l span))
+  pub named_full : r ≡ Err Full → Named l n (declare_named name span) t t₁ (Err (too_many_locals l span))
   unfolding view ctx_at refusal_of
   named_full q = record {
     does = λ code spans rest.
         seq_err (declare_local name span) (view (mem t code spans) l rest) define_local
-        (slips.too_many_locals name span (view (mem t code spans) l rest) (does_as decl.Full q).0 (does_as decl.Full q).1)
+        (slips.too_many_locals name span (view (mem t code spans) l rest) (does_as (Err Full) q).0 (does_as (Err Full) q).1)
         ∙ ap err (stopped_in t code spans rest _ own_name);
   }
 
-  declare_is : l < levels → Wf t → r ≡ decl.Done → (code spans : List ℕ) (rest : Rest) → declare_local name span (view (mem t code spans) l rest) ≡ ok tt (view (mem t₁ code spans) l rest)
+  declare_is : l < levels → Wf t → r ≡ Ok tt → (code spans : List ℕ) (rest : Rest) → declare_local name span (view (mem t code spans) l rest) ≡ ok tt (view (mem t₁ code spans) l rest)
   unfolding view ctx_at
   declare_is low wf q code spans rest =
-      enough_locals name span (view (mem t code spans) l rest) (does_as decl.Done q).0 (does_as decl.Done q).1
-      ∙ ap (ok tt) (sym (view_locals t code spans t₁ l upvalues_place _ wf low w.kept (omega arith) (does_as decl.Done q).2 rest))
+      enough_locals name span (view (mem t code spans) l rest) (does_as (Ok tt) q).0 (does_as (Ok tt) q).1
+      ∙ ap (ok tt) (sym (view_locals t code spans t₁ l upvalues_place _ wf low w.kept (omega arith) (does_as (Ok tt) q).2 rest))
 
-  pub named_new : l < levels → Wf t → r ≡ decl.Done → (t₂ : List ℕ) → DefinedAt t₁ t₂ l → Named l n (declare_named name span) t t₂ (Next n)
+  pub named_new : l < levels → Wf t → r ≡ Ok tt → (t₂ : List ℕ) → DefinedAt t₁ t₂ l → Named l n (declare_named name span) t t₂ (Ok n)
   named_new low wf q t₂ d = record {
     does = (
       record {
@@ -102,14 +100,14 @@ module _ (l n name : ℕ) (span : Span) (t t₁ : List ℕ) (r : Declared) (w : 
 -- ## After a local
 
 module _ {l n : ℕ} {m : Compile Unit} {t t' : List ℕ} {r : Step} (d : Named l n m t t' r) where
-  pub named_on : {v : ℕ} → r ≡ Next v → Locally l m t t'
+  pub named_on : {v : ℕ} → r ≡ Ok v → Locally l m t t'
   named_on q = (subst (λ (s : Step). NamedAs l n m t t' s) q d.does).0
 
-  pub named_stop : {x : Why} → r ≡ Stop x → (code spans : List ℕ) (rest : Rest) → m (view (mem t code spans) l rest) ≡ err (told t' x)
+  pub named_stop : {x : Why} → r ≡ Err x → (code spans : List ℕ) (rest : Rest) → m (view (mem t code spans) l rest) ≡ err (told t' x)
   named_stop q = subst (λ (s : Step). NamedAs l n m t t' s) q d.does
 
 -- an answer that stopped
-pub named_stopped : {l n : ℕ} {m : Compile Unit} {t t' : List ℕ} {r : Step} {x : Why} → r ≡ Stop x →
+pub named_stopped : {l n : ℕ} {m : Compile Unit} {t t' : List ℕ} {r : Step} {x : Why} → r ≡ Err x →
     ((code spans : List ℕ) (rest : Rest) → m (view (mem t code spans) l rest) ≡ err (told t' x)) → Named l n m t t' r
 named_stopped {l} {n} {m} {t} {t'} q h = record { does = subst (λ (s : Step). NamedAs l n m t t' s) (sym q) h }
 
@@ -136,8 +134,8 @@ module _ (tree : List ℕ) (l : ℕ) (span : Span) where
     pub kept : Kept (l * level_words) (l * level_words + upvalues_place) t t'
     pub to : (x : Refusal) (ps : List ℕ) (n : ℕ) → names_at tree x count from ≡ got ps n → ParamsLeft x (declare_params ps span) n t t' next left
 
-  pub walk_start : (count from : ℕ) (t : List ℕ) → Wf t → Walk count from t t from count
-  walk_start count from t wf = record { wf = wf; kept = kept_same _ _ t; to = λ x ps n r. record { params = ps; is = r; same = λ code spans rest. refl } }
+  pub walk_start : (count from : ℕ) (t : List ℕ) → Wf t → {left : ℕ} → left ≡ count → Walk count from t t from left
+  walk_start count from t wf e = record { wf = wf; kept = kept_same _ _ t; to = λ x ps n r. record { params = ps; is = ap (λ (k : ℕ). names_at tree x k from) e ∙ r; same = λ code spans rest. refl } }
 
   module _ {count from : ℕ} {t t' : List ℕ} {next left : ℕ} (w : Walk count from t t' next left) where
     head_of : {x : Refusal} {ps : List ℕ} {n : ℕ} (r : names_at tree x count from ≡ got ps n) → 0 < left → NameRowAt tree (word16 tree 2) x (left - 1) next (w.to x ps n r).params n
@@ -149,7 +147,7 @@ module _ (tree : List ℕ) (l : ℕ) (span : Span) where
     pub walk_there : NamesThere tree count from → 0 < left → next + 2 ≤ length tree
     walk_there y h = (head_of y.is h).bound
 
-    pub walk_done : left ≤ 0 → ParamsDeclared l tree count from span t t' (Next next)
+    pub walk_done : left ≤ 0 → ParamsDeclared l tree count from span t t' (Ok next)
     walk_done h = record {
       did = λ x ps n r.
           let o = w.to x ps n r in
@@ -178,15 +176,16 @@ module _ (tree : List ℕ) (l : ℕ) (span : Span) where
           ∙ ap (λ (z : List ℕ). declare_params z span (view (mem t' code spans) l rest)) (i.is ∙ ap (λ (j : ℕ). j ∷ i.others) (sym is))
           ∙ params_more name i.others span (view (mem t' code spans) l rest)
 
-      pub walk_stop : {x : Why} → a ≡ Stop x → ParamsDeclared l tree count from span t t'' a
+      pub walk_stop : {x : Why} → a ≡ Err x → ParamsDeclared l tree count from span t t'' a
       walk_stop q = record {
         did = λ x ps n r.
             named_stopped q (λ code spans rest. here x ps n r code spans rest ∙ seq_err (declare_named name span) (view (mem t' code spans) l rest) _ (named_stop d q code spans rest));
       }
 
-      pub walk_step : {v : ℕ} → a ≡ Next v → Walk count from t t'' (next + 2) (left - 1)
-      walk_step q =
+      pub walk_step : {v less : ℕ} → a ≡ Ok v → less + 1 ≡ left → Walk count from t t'' (next + 2) less
+      walk_step {less = less} q e =
           let g = named_on d q in
+          let p : left - 1 ≡ less = omega arith in
           record {
             wf = g.wf;
             kept = kept_on (omega arith) (omega arith) w.kept g.kept;
@@ -194,7 +193,7 @@ module _ (tree : List ℕ) (l : ℕ) (span : Span) where
                 let i = head_of r h in
                 record {
                   params = i.others;
-                  is = i.tail;
+                  is = ap (λ (k : ℕ). names_at tree x k (next + 2)) (sym p) ∙ i.tail;
                   same = λ code spans rest. here x ps n r code spans rest ∙ seq_ok (declare_named name span) (view (mem t' code spans) l rest) _ (g.comes code spans rest);
                 };
           }

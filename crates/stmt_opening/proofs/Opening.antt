@@ -1,4 +1,5 @@
 -- A function is begun: too many parameters, its context, its own locals.
+use Rattle.std.specs.Prelude.{Ok, Err}
 use mathlib.Core.Path.{◌≡◌, refl, sym, ap, subst, ◌∙◌}
 use mathlib.Core.List.{List, []}
 use Prim.Native.Nat.{ℕ, suc, ◌+◌, ◌*◌, ◌-◌, ◌%◌, ◌≤◌, ◌<◌}
@@ -19,8 +20,6 @@ use Rattle.state.specs.Meaning.{Kept, Began}
 use Rattle.state.proofs.Laws.{length_row}
 use Rattle.tree_laws.proofs.Statements.{names_length}
 use Rattle.steps.specs.View.{mem, Rest, view, depth_at, Entered}
-use Rattle.steps.specs.declared.Step.{Step}
-use Rattle.steps.specs.declared.Step.TheVariants.{Next, Stop}
 use Rattle.steps.proofs.Steps.{seq_ok, seq_err}
 use Rattle.steps.proofs.Views.{ahead_kept, stopped_in}
 use Rattle.step_scopes.proofs.Scopes.{entered}
@@ -29,7 +28,7 @@ use Rattle.stmt_output_laws.specs.Parts.{open_function}
 use Rattle.stmt_opening.specs.Opening.{names_at, NamesThere, FunHead, declare_named, Locally, NamedAs, Named, ParamsDeclared, Inside, FunctionOpenedAs, FunctionOpened}
 use Rattle.stmt_opening.proofs.Names.{kept_on, named_on, named_stop}
 use Rattle.steps.specs.declared.Why.{Why}
-use Rattle.steps.specs.Why.{too_many_params, refusal_of}
+use Rattle.steps.specs.Why.{too_many_params, refusal_of, Step}
 
 -- ## The rules' step
 
@@ -82,7 +81,7 @@ module _ (l kind name : ℕ) (params : List ℕ) (span : Span) (t t₁ : List �
   unfolding view depth_at ctx_at
   begun_is code spans rest = open_is (type_of kind) name params span (view (mem t code spans) l rest) few (begun.comes code spans rest)
 
-  pub opened_stop : (n : ℕ) {k : ℕ} {t₂ : List ℕ} {r : Step} {x : Why} → Named (suc l) k first t₁ t₂ r → r ≡ Stop x → FunctionOpenedAs l n whole t t₂ r
+  pub opened_stop : (n : ℕ) {k : ℕ} {t₂ : List ℕ} {r : Step} {x : Why} → Named (suc l) k first t₁ t₂ r → r ≡ Err x → FunctionOpenedAs l n whole t t₂ r
   opened_stop n {t₂ = t₂} d q =
       subst (λ (s : Step). FunctionOpenedAs l n whole t t₂ s) (sym q)
       (λ code spans rest. begun_is code spans rest ∙ seq_err first (view (mem t₁ code spans) (suc l) rest) _ (named_stop d q code spans rest))
@@ -106,10 +105,10 @@ module _ (l kind name : ℕ) (params : List ℕ) (span : Span) (t t₁ : List �
         }
 
     last_as : (n : ℕ) (t₃ : List ℕ) (r : Step) → NamedAs (suc l) n (declare_params params span) t₂ t₃ r → FunctionOpenedAs l n whole t t₃ r
-    last_as n t₃ (Next v) d = (inside d.0, d.1)
-    last_as n t₃ (Stop x) d = λ code spans rest. then_is code spans rest ∙ d code spans rest
+    last_as n t₃ (Ok v) d = (inside d.0, d.1)
+    last_as n t₃ (Err x) d = λ code spans rest. then_is code spans rest ∙ d code spans rest
 
-  pub opened_last : {n k v : ℕ} {t₂ t₃ : List ℕ} {r r' : Step} → Named (suc l) k first t₁ t₂ r → r ≡ Next v → Named (suc l) n (declare_params params span) t₂ t₃ r'
+  pub opened_last : {n k v : ℕ} {t₂ t₃ : List ℕ} {r r' : Step} → Named (suc l) k first t₁ t₂ r → r ≡ Ok v → Named (suc l) n (declare_params params span) t₂ t₃ r'
       → FunctionOpenedAs l n whole t t₃ r'
   opened_last {n} {t₃ = t₃} {r' = r'} d q e = last_as (named_on d q) n t₃ r' e.does
 
@@ -127,7 +126,7 @@ module _ (l kind : ℕ) (tree : List ℕ) (at : ℕ) (span : Span) (t : List ℕ
     count_is : {params : List ℕ} {mid : ℕ} → read params mid → length params ≡ count
     count_is r = names_length tree (word16 tree 2) (TreeForm at) (word16 tree (at + 12)) (at + 14) r ∙ sym is
 
-    pub too_many : 255 < count → FunctionOpened l kind tree at span t t (Stop (too_many_params l span))
+    pub too_many : 255 < count → FunctionOpened l kind tree at span t t (Err (too_many_params l span))
     unfolding refusal_of
     too_many h = record {
       did = λ params mid r code spans rest.
@@ -151,13 +150,13 @@ module _ (l kind : ℕ) (tree : List ℕ) (at : ℕ) (span : Span) (t : List ℕ
           (subst (λ (j : ℕ). Named j k (declare_named own span) t₁ t₂ a) (add-one l) d)
 
       module _ {k own : ℕ} {t₂ : List ℕ} {a : Step} (z : own ≡ slot_zero (type_of kind) name) (d : Named (l + 1) k (declare_named own span) t₁ t₂ a) where
-        pub first_stop : {x : Why} → a ≡ Stop x → FunctionOpened l kind tree at span t t₂ a
+        pub first_stop : {x : Why} → a ≡ Err x → FunctionOpened l kind tree at span t t₂ a
         first_stop q = record { did = λ params mid r. opened_stop l kind (word16 tree (at + 10)) params span t t₁ low (few_as r) (begun_as r) mid (first_as z d) q }
 
-        pub first_wf : {v : ℕ} → a ≡ Next v → Wf t₂
+        pub first_wf : {v : ℕ} → a ≡ Ok v → Wf t₂
         first_wf q = (named_on d q).wf
 
-        pub params_last : {v : ℕ} {t₃ : List ℕ} {r : Step} → a ≡ Next v → ParamsDeclared (l + 1) tree count (at + 14) span t₂ t₃ r → FunctionOpened l kind tree at span t t₃ r
+        pub params_last : {v : ℕ} {t₃ : List ℕ} {r : Step} → a ≡ Ok v → ParamsDeclared (l + 1) tree count (at + 14) span t₂ t₃ r → FunctionOpened l kind tree at span t t₃ r
         params_last {t₃ = t₃} {r = r} q p = record {
           did = λ params mid e.
               opened_last l kind (word16 tree (at + 10)) params span t t₁ low (few_as e) (begun_as e) (first_as z d) q

@@ -1,5 +1,5 @@
 -- What it is to begin a function: it is at the level above, which is the innermost then.
-use Rattle.std.specs.Prelude.{◌≡◌, List, ℕ, suc, ◌+◌, ◌*◌, ◌≤◌, length}
+use Rattle.std.specs.Prelude.{◌≡◌, List, ℕ, suc, ◌+◌, ◌*◌, ◌≤◌, length, Ok, Err}
 use Rattle.rules.specs.declared.Span.{Span}
 use Rattle.rules.specs.declared.Refusal.{Refusal}
 use Rattle.rules.specs.declared.Refusal.TheVariants.{TreeForm}
@@ -10,10 +10,8 @@ use Rattle.fields.specs.Words.{word16}
 use Rattle.state.specs.Layout.{start_of_code, start_of_runs, end_of_code, end_of_runs, type_of, Wf, upvalues_place, level_words}
 use Rattle.state.specs.Meaning.{Kept}
 use Rattle.steps.specs.View.{mem, Rest, view, Fit, depth_at}
-use Rattle.steps.specs.declared.Step.{Step}
-use Rattle.steps.specs.declared.Step.TheVariants.{Next, Stop}
 use Rattle.stmt_output_laws.specs.Parts.{open_function}
-use Rattle.steps.specs.Why.{told}
+use Rattle.steps.specs.Why.{told, Step}
 
 -- ## What was read
 
@@ -47,8 +45,8 @@ pub record Locally (l : ℕ) (m : Compile Unit) (t t' : List ℕ) : Type 0 where
   pub wf : Wf t'
 
 abbrev pub NamedAs : (l n : ℕ) → Compile Unit → (t t' : List ℕ) → Step → Type 0
-NamedAs l n m t t' (Next v) = Locally l m t t' × (v ≡ n)
-NamedAs l n m t t' (Stop x) = (code spans : List ℕ) (rest : Rest) → m (view (mem t code spans) l rest) ≡ err (told t' x)
+NamedAs l n m t t' (Ok v) = Locally l m t t' × (v ≡ n)
+NamedAs l n m t t' (Err x) = (code spans : List ℕ) (rest : Rest) → m (view (mem t code spans) l rest) ≡ err (told t' x)
 
 pub record Named (l n : ℕ) (m : Compile Unit) (t t' : List ℕ) (r : Step) : Type 0 where
   pub does : NamedAs l n m t t' r
@@ -69,8 +67,8 @@ pub record Inside (l : ℕ) (m : Compile Unit) (t t' : List ℕ) : Type 0 where
   pub runs_from : end_of_runs t ≤ start_of_runs t' (suc l)
 
 abbrev pub FunctionOpenedAs : (l n : ℕ) → Compile Unit → (t t' : List ℕ) → Step → Type 0
-FunctionOpenedAs l n m t t' (Next v) = Inside l m t t' × (v ≡ n)
-FunctionOpenedAs l n m t t' (Stop x) = (code spans : List ℕ) (rest : Rest) → m (view (mem t code spans) l rest) ≡ err (told t' x)
+FunctionOpenedAs l n m t t' (Ok v) = Inside l m t t' × (v ≡ n)
+FunctionOpenedAs l n m t t' (Err x) = (code spans : List ℕ) (rest : Rest) → m (view (mem t code spans) l rest) ≡ err (told t' x)
 
 pub record FunctionOpened (l kind : ℕ) (tree : List ℕ) (at : ℕ) (span : Span) (t t' : List ℕ) (r : Step) : Type 0 where
   pub did : (params : List ℕ) (mid : ℕ) → many (word16 tree (at + 12)) (name tree (word16 tree 2) (TreeForm at)) (at + 14) ≡ got params mid

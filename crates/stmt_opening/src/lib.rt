@@ -4,22 +4,23 @@
 
 ghost use Rattle.std.specs.Prelude.{◌≡◌, ◌+◌, ◌*◌, ◌<◌, get_or};
 ghost use Rattle.rules.specs.Compiler.{slot_zero};
+ghost use Rattle.state.specs.Kinds.{number_of};
 ghost use Rattle.state.specs.Layout.{levels, deepest, type_of, Wf, depth_place, level_words};
 ghost use Rattle.stmt_opening.specs.Opening.{NamesThere, FunHead, declare_named, Named, ParamsDeclared, FunctionOpened};
 
 use fields::u16_at;
 use rules::{Limit, Name, Span};
-use state::Kind;
-use steps::{Step, Why};
+use state::{Kind, Undeclared};
+use steps::{Reason, Step, Why};
 
 // The name of slot zero: `this` in a method, a function's own name in it.
-fn slot_zero(name: u16, kind: u8) -> u16
-    ensures { result ≡ slot_zero (type_of kind) name }
+fn slot_zero(name: u16, kind: Kind) -> u16
+    ensures { result ≡ slot_zero (type_of (number_of kind)) name }
 {
-    if Kind::FUNCTION < kind {
-        return Name::THIS;
+    match kind {
+        Kind::Initializer | Kind::Method => Name::THIS,
+        Kind::Script | Kind::Function => name,
     }
-    name
 }
 
 // A local is declared, and has its value at once.
@@ -29,22 +30,22 @@ fn declare_named(t: &mut [u64], level: usize, name: u16, span: Span, next: usize
 {
     let r = state_names::declare_local(t, level, name);
     match r {
-        state::Declared::Done => {}
-        state::Declared::Already => return Step::Stop(Why {
-            number: Why::ALREADY_DEFINED,
+        Ok(()) => {}
+        Err(Undeclared::Already) => return Err(Why {
+            reason: Reason::AlreadyDefined,
             span,
             name,
             around: level,
         }),
-        state::Declared::Full => return Step::Stop(Why {
-            number: Why::TOO_MANY_LOCALS,
+        Err(Undeclared::Full) => return Err(Why {
+            reason: Reason::TooManyLocals,
             span,
             name: 0,
             around: level,
         }),
     }
     state_names::define_local(t, level);
-    Step::Next(next)
+    Ok(next)
 }
 
 // The names from `at` on, as many as `count`. The answer's value is where they end.
@@ -60,17 +61,15 @@ fn declare_params(
     ensures { ParamsDeclared level tree.now count at span t.old t.new result }
 {
     let mut next = at;
-    let mut left = count;
-    while 0 < left {
+    for _ in 0..count {
         let name = u16_at(tree, next);
         let a = declare_named(t, level, name, span, 0);
-        let Step::Next(_) = a else {
+        let Ok(_) = a else {
             return a;
         };
         next += 2;
-        left -= 1;
     }
-    Step::Next(next)
+    Ok(next)
 }
 
 // The function whose record starts at `at`, up to its statements. The answer's value is where they are counted.
@@ -79,17 +78,17 @@ pub fn open_function(
     at: usize,
     t: &mut [u64],
     level: usize,
-    kind: u8,
+    kind: Kind,
     span: Span,
 ) -> Step
     requires { (FunHead tree.now at) × (level + 1 < levels) × (Wf t.old) × (get_or t.old (level * level_words + depth_place) 0 < deepest) }
-    ensures { FunctionOpened level kind tree.now at span t.old t.new result }
+    ensures { FunctionOpened level (number_of kind) tree.now at span t.old t.new result }
 {
     let name = u16_at(tree, at + 10);
     let count = u16_at(tree, at + 12);
     if Limit::PARAMS < count {
-        return Step::Stop(Why {
-            number: Why::TOO_MANY_PARAMS,
+        return Err(Why {
+            reason: Reason::TooManyParams,
             span,
             name: 0,
             around: level,
@@ -97,7 +96,7 @@ pub fn open_function(
     }
     state_levels::begin_ctx(t, level, name, (count % 256) as u8, kind);
     let a = declare_named(t, level + 1, slot_zero(name, kind), span, 0);
-    let Step::Next(_) = a else {
+    let Ok(_) = a else {
         return a;
     };
     declare_params(tree, at + 14, count as usize, t, level + 1, span)

@@ -1,4 +1,5 @@
 -- Steps that may finish functions, one after the other: what they add to the output adds up, and whatever else they do is done in turn.
+use Rattle.std.specs.Prelude.{Ok, Err}
 use mathlib.Core.Path.{◌≡◌, refl, sym, ap, subst, ◌∙◌}
 use mathlib.Core.Bool.{Bool, true, false, ◌&&◌}
 use mathlib.Core.List.{List, ◌++◌, append_assoc, append-nil, []}
@@ -10,12 +11,10 @@ use Rattle.rules.specs.Chunk.{ObjectFunction}
 use Rattle.rules.specs.Compiler.{Compiler, Outcome, ok, Compile, go_on, ◌>>=◌, ◌>>◌}
 use Rattle.state.specs.Layout.{deepest, image_at}
 use Rattle.steps.specs.View.{Mem, t_of, Rest, view, Agrees, Fit, depth_at, Turn, steady, ◌⨾◌, Ahead, Gave, Refused, Did, Told}
-use Rattle.steps.specs.declared.Step.{Step}
-use Rattle.steps.specs.declared.Step.TheVariants.{Next, Stop}
 use Rattle.steps.proofs.Steps.{gave_bind, gave_seq, gave_refused, gave_refused_seq, ahead_then}
 use Rattle.steps.proofs.Jumps.{ahead_none}
 use Rattle.stmt_output_laws.specs.Output.{Holds, Added, more, grow, Grew, WorkedAs, Worked, Ready}
-use Rattle.steps.specs.Why.{told}
+use Rattle.steps.specs.Why.{told, Step}
 use Rattle.steps.specs.declared.Why.{Why}
 use Rattle.rules.specs.declared.Stopped.{Stopped}
 
@@ -145,26 +144,26 @@ module _ {class limit l at n : ℕ} {e : Turn} {A B : Type 0} {m : Compile A} {v
 -- ## Answers
 
 module _ {class limit l at n : ℕ} {m : Compile Unit} {before : Mem} {out : List ℕ} {now : Mem} {out' : List ℕ} {r : Step} where
-  pub grown : {v : ℕ} → Worked class limit l at n m before out now out' r → r ≡ Next v → Grew class limit l at n m before out now out'
+  pub grown : {v : ℕ} → Worked class limit l at n m before out now out' r → r ≡ Ok v → Grew class limit l at n m before out now out'
   grown d q = (subst (λ (s : Step). WorkedAs class limit l at n m before out now out' s) q d.does).0
 
-  pub reached : {v : ℕ} → Worked class limit l at n m before out now out' r → r ≡ Next v → v ≡ n
+  pub reached : {v : ℕ} → Worked class limit l at n m before out now out' r → r ≡ Ok v → v ≡ n
   reached d q = (subst (λ (s : Step). WorkedAs class limit l at n m before out now out' s) q d.does).1
 
-  pub refused : {x : Why} → Worked class limit l at n m before out now out' r → r ≡ Stop x → Refused class l m before (told (t_of now) x)
+  pub refused : {x : Why} → Worked class limit l at n m before out now out' r → r ≡ Err x → Refused class l m before (told (t_of now) x)
   refused d q = subst (λ (s : Step). WorkedAs class limit l at n m before out now out' s) q d.does
 
-  pub worked : {v : ℕ} → r ≡ Next v → v ≡ n → Grew class limit l at n m before out now out' → Worked class limit l at n m before out now out' r
+  pub worked : {v : ℕ} → r ≡ Ok v → v ≡ n → Grew class limit l at n m before out now out' → Worked class limit l at n m before out now out' r
   worked q h g = record { does = subst (λ (s : Step). WorkedAs class limit l at n m before out now out' s) (sym q) (g, h) }
 
-  pub stopped : {x : Why} → r ≡ Stop x → Refused class l m before (told (t_of now) x) → Worked class limit l at n m before out now out' r
+  pub stopped : {x : Why} → r ≡ Err x → Refused class l m before (told (t_of now) x) → Worked class limit l at n m before out now out' r
   stopped q h = record { does = subst (λ (s : Step). WorkedAs class limit l at n m before out now out' s) (sym q) h }
 
 -- a statement that finishes no function
 module _ {class limit l at n : ℕ} {m : Compile Unit} {before : Mem} (out : List ℕ) {now : Mem} (h : at ≤ n) where
   plain_as : (r : Step) → Did class limit l n steady m before now r → WorkedAs class limit l at n m before out now out r
-  plain_as (Next v) d = (to_grew (λ d. refl) refl (λ x. refl) (of_gave out refl h d.does.0), d.does.1)
-  plain_as (Stop x) d = d.does
+  plain_as (Ok v) d = (to_grew (λ d. refl) refl (λ x. refl) (of_gave out refl h d.does.0), d.does.1)
+  plain_as (Err x) d = d.does
 
   pub plain : {r : Step} → Did class limit l n steady m before now r → Worked class limit l at n m before out now out r
   plain {r} d = record { does = plain_as r d }
@@ -189,8 +188,8 @@ module _ {class limit l at n : ℕ} {m : Compile Unit} {before : Mem} {out : Lis
   module _ {inner k : ℕ} {f : Turn} {last : Compile Unit} {mid : Mem} (g : Gave inner limit k f last tt mid now → Grew class limit l at n m before out now out')
       (h : (x : Stopped) → Refused inner k last mid x → Refused class l m before x) where
     conclude_as : (r : Step) → Did inner limit k n f last mid now r → WorkedAs class limit l at n m before out now out' r
-    conclude_as (Next v) d = (g d.does.0, d.does.1)
-    conclude_as (Stop x) d = h (told (t_of now) x) d.does
+    conclude_as (Ok v) d = (g d.does.0, d.does.1)
+    conclude_as (Err x) d = h (told (t_of now) x) d.does
 
     pub conclude : {r : Step} → Did inner limit k n f last mid now r → Worked class limit l at n m before out now out' r
     conclude {r} d = record { does = conclude_as r d }
@@ -198,7 +197,7 @@ module _ {class limit l at n : ℕ} {m : Compile Unit} {before : Mem} {out : Lis
 -- a step that comes to another from every state
 module _ {class limit l at n : ℕ} {m m' : Compile Unit} {before : Mem} {out : List ℕ} {now : Mem} {out' : List ℕ} (h : (s : Compiler) → m' s ≡ m s) where
   like_as : (r : Step) → Worked class limit l at n m before out now out' r → WorkedAs class limit l at n m' before out now out' r
-  like_as (Next v) d =
+  like_as (Ok v) d =
       let w = d.does.0 in (
         record {
           made = w.made;
@@ -207,7 +206,7 @@ module _ {class limit l at n : ℕ} {m m' : Compile Unit} {before : Mem} {out : 
         },
         d.does.1,
       )
-  like_as (Stop x) d = record { refuses = λ rest q. h _ ∙ d.does.refuses rest q }
+  like_as (Err x) d = record { refuses = λ rest q. h _ ∙ d.does.refuses rest q }
 
   pub worked_like : {r : Step} → Worked class limit l at n m before out now out' r → Worked class limit l at n m' before out now out' r
   worked_like {r} d = record { does = like_as r d }

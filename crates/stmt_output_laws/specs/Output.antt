@@ -1,6 +1,6 @@
 -- Functions are finished while statements are compiled, and put into the output: what the output holds, and what it is for a function over the lent
 -- areas and the output to do what a step of the rules does.
-use Rattle.std.specs.Prelude.{◌≡◌, false, List, ◌++◌, ℕ, suc, ◌+◌, ◌*◌, ◌-◌, ◌≤◌, length, get_or, replicate}
+use Rattle.std.specs.Prelude.{◌≡◌, false, List, ◌++◌, ℕ, suc, ◌+◌, ◌*◌, ◌-◌, ◌≤◌, length, get_or, replicate, Ok, Err}
 use Rattle.rules.specs.Limits.{max_tree, max_code}
 use Rattle.rules.specs.declared.Refusal.TheVariants.{TreeForm}
 use Rattle.rules.specs.declared.Span.{Span}
@@ -12,10 +12,8 @@ use Rattle.rules.specs.Image.{join, function_bytes}
 use Rattle.rules.specs.Compiler.{Compile}
 use Rattle.fields.specs.Words.{word16}
 use Rattle.state.specs.Layout.{levels, deepest, image_at}
-use Rattle.steps.specs.Why.{told}
+use Rattle.steps.specs.Why.{told, Step}
 use Rattle.steps.specs.View.{Mem, t_of, Rest, depth_at, Fit, Turn, Gave, Refused}
-use Rattle.steps.specs.declared.Step.{Step}
-use Rattle.steps.specs.declared.Step.TheVariants.{Next, Stop}
 use Rattle.writer.specs.Put.{padded, AllCounted}
 
 -- ## What is read: the file's second field is how many names it has
@@ -73,8 +71,8 @@ pub record Grew (class limit l at n : ℕ) (m : Compile Unit) (before : Mem) (ou
   pub added : Added at n made (t_of before) out (t_of now) out'
 
 abbrev pub WorkedAs : (class limit l at n : ℕ) → Compile Unit → (before : Mem) → (out : List ℕ) → (now : Mem) → (out' : List ℕ) → Step → Type 0
-WorkedAs class limit l at n m before out now out' (Next v) = Grew class limit l at n m before out now out' × (v ≡ n)
-WorkedAs class limit l at n m before out now out' (Stop x) = Refused class l m before (told (t_of now) x)
+WorkedAs class limit l at n m before out now out' (Ok v) = Grew class limit l at n m before out now out' × (v ≡ n)
+WorkedAs class limit l at n m before out now out' (Err x) = Refused class l m before (told (t_of now) x)
 
 -- what m does, the tree being read from `at` to n
 pub record Worked (class limit l at n : ℕ) (m : Compile Unit) (before : Mem) (out : List ℕ) (now : Mem) (out' : List ℕ) (r : Step) : Type 0 where

@@ -1,4 +1,6 @@
 -- A statement that is an expression and what is done with its value, and a value that a flag announces: a law for each way out.
+use Rattle.steps.specs.Why.{Step}
+use Rattle.std.specs.Prelude.{Ok, Err}
 use mathlib.Core.Path.{◌≡◌, refl, sym, ap, subst, ◌∙◌}
 use mathlib.Core.Bool.{Bool}
 use mathlib.Core.Option.{Option, none, some}
@@ -17,12 +19,10 @@ use Rattle.fields.specs.Words.{word16, letters, span_of}
 use Rattle.tree_laws.proofs.Statements.{ValueAt, SomeAt, any_stmt_at, by_mark, expression_at, print_at, maybe_yes, maybe_no, flag_on, flag_off, flag_is}
 use Rattle.steps.specs.View.{Mem, steady, Did}
 use Rattle.steps.proofs.Steps.{valued, halt, then_on, by_name}
-use Rattle.steps.specs.declared.Step.{Step}
-use Rattle.steps.specs.declared.Step.TheVariants.{Next, Stop}
 use Rattle.expr_laws.specs.Exprs.{There, Somewhere, expr_at, Ran}
 use Rattle.steps.proofs.Monad.{on_to}
 use Rattle.stmt_output_laws.specs.Output.{funs_left, stmt_at}
-use Rattle.stmt_plain_laws.specs.Plain.{StmtSomewhere, NoOther, Plainly, Flagged, Announced, ValueRan}
+use Rattle.stmt_plain_laws.specs.Plain.{StmtSomewhere, NoOther, Taken, Plainly, Flagged, Announced, ValueRan}
 use Rattle.fields.specs.Marks as marks
 use Rattle.steps.specs.declared.Why.{Why}
 
@@ -51,33 +51,38 @@ pub record One (limit l : ℕ) (tree : List ℕ) (left at : ℕ) (make : Span �
   comes : (w : Span) (v : Expr) → (compile_expr limit v >> emit_op limit o w) ≡ compile_stmt limit (make w v)
 
 module _ {limit l : ℕ} (tree : List ℕ) (left at : ℕ) where
-  pub an_expression : letters tree at ≡ marks.SE → One limit l tree left at StmtExpr op.POP
+  an_expression : letters tree at ≡ marks.SE → One limit l tree left at StmtExpr op.POP
   unfolding compile_stmt
   an_expression m = record { read = λ s n z. expression_at tree (word16 tree 2) left (funs_left l) at m z; comes = λ w v. refl }
 
-  pub a_print : letters tree at ≡ marks.SP → One limit l tree left at StmtPrint op.PRINT
+  a_print : letters tree at ≡ marks.SP → One limit l tree left at StmtPrint op.PRINT
   unfolding compile_stmt
   a_print m = record { read = λ s n z. print_at tree (word16 tree 2) left (funs_left l) at m z; comes = λ w v. refl }
 
-module _ {limit l left at : ℕ} {tree : List ℕ} {make : Span → Expr → Stmt} {o : ℕ} (one : One limit l tree left at make o) where
+  -- by the instruction, the constructor
+  pub one_of : {o : ℕ} → Taken tree at o → (make : Span → Expr → Stmt) × One limit l tree left at make o
+  one_of {o} h = ⊎_elim (λ e. (StmtExpr, subst (One limit l tree left at StmtExpr) (sym e.1) (an_expression e.0)))
+      (λ p. (StmtPrint, subst (One limit l tree left at StmtPrint) (sym p.1) (a_print p.0))) h
+
+module _ {limit l left at : ℕ} {tree : List ℕ} {o : ℕ} (one : (make : Span → Expr → Stmt) × One limit l tree left at make o) where
   pub one_there : There (stmt_at tree left l at) → Somewhere tree (at + 10)
-  one_there w = let i = one.read w.thing w.next w.is in record { depth = left - 1; there = record { thing = i.value; next = w.next; is = i.one } }
+  one_there w = let i = one.1.read w.thing w.next w.is in record { depth = left - 1; there = record { thing = i.value; next = w.next; is = i.one } }
 
   module _ {class : ℕ} {before : Mem} where
-    pub one_stop : {now : Mem} {r : Step} {x : Why} → Ran class limit l (expr_at tree (left - 1) (at + 10)) before now r → r ≡ Stop x → Plainly class limit l (stmt_at tree left l at) before now r
+    pub one_stop : {now : Mem} {r : Step} {x : Why} → Ran class limit l (expr_at tree (left - 1) (at + 10)) before now r → r ≡ Err x → Plainly class limit l (stmt_at tree left l at) before now r
     one_stop a q = record {
       did = λ s n z.
-          let i = one.read s n z in
-          by_stmt i.is (by_name (one.comes (span_of tree (at + 2)) i.value) (halt _ (a.did i.value n i.one) q));
+          let i = one.1.read s n z in
+          by_stmt i.is (by_name (one.1.comes (span_of tree (at + 2)) i.value) (halt _ (a.did i.value n i.one) q));
     }
 
-    pub one_done : (sp : Span) → sp ≡ span_of tree (at + 2) → {mid now : Mem} {r r' : Step} {v : ℕ} → Ran class limit l (expr_at tree (left - 1) (at + 10)) before mid r → r ≡ Next v
+    pub one_done : (sp : Span) → sp ≡ span_of tree (at + 2) → {mid now : Mem} {r r' : Step} {v : ℕ} → Ran class limit l (expr_at tree (left - 1) (at + 10)) before mid r → r ≡ Ok v
         → Did class limit l v steady (emit_op limit o sp) mid now r' → Plainly class limit l (stmt_at tree left l at) before now r'
     one_done sp h a q b = record {
       did = λ s n z.
-          let i = one.read s n z in
+          let i = one.1.read s n z in
           let c = a.did i.value n i.one in
-          by_stmt (i.is ∙ ap (λ (w : Span). make w i.value) (sym h)) (by_name (one.comes sp i.value) (then_on _ c q (on_to (valued c q) b)));
+          by_stmt (i.is ∙ ap (λ (w : Span). one.0 w i.value) (sym h)) (by_name (one.1.comes sp i.value) (then_on _ c q (on_to (valued c q) b)));
     }
 
 -- ## A value that a flag announces, or none

@@ -1,17 +1,18 @@
 -- A statement that holds no statement finishes no function: it is compiled by steps alone. A `var` and a `return` are cut in parts, since their values
 -- are compiled in between; proofs/ has the laws that the parts make the whole.
-use Rattle.std.specs.Prelude.{◌≡◌, Bool, List, ℕ, if◌then◌else◌}
+use Rattle.steps.specs.Why.{Step}
+use Rattle.std.specs.Prelude.{◌≡◌, ◌⊎◌, Bool, List, ℕ, if◌then◌else◌}
 use Rattle.std.proofs.Math.Option.{Option, some}
 use Rattle.rules.specs.Base.{lookup}
 use Rattle.rules.specs.declared.Span.{Span}
 use Rattle.rules.specs.declared.Refusal.TheVariants.{ReturnInInitializer, ReturnOutsideFunction}
+use Rattle.rules.specs.Op as op
 use Rattle.rules.specs.Tree.{Expr, Stmt}
 use Rattle.rules.specs.Reader.{Read, got}
 use Rattle.rules.specs.TreeFile.{flags, maybe, read_expr}
 use Rattle.rules.specs.Compiler.{Compile, done, refuse, the, FunctionType, Function, Initializer, Method, Script, declare_local, define_local, define_global, compile_value, compile_stmt, ◌>>=◌}
 use Rattle.fields.specs.Words.{word16, letters}
 use Rattle.steps.specs.View.{Mem, steady, Did}
-use Rattle.steps.specs.declared.Step.{Step}
 use Rattle.expr_laws.specs.Exprs.{There}
 use Rattle.stmt_output_laws.specs.Output.{stmt_at}
 use Rattle.fields.specs.Marks as marks
@@ -29,6 +30,10 @@ pub record NoOther (tree : List ℕ) (at : ℕ) : Type 0 where
   pub no_for : letters tree at ≡ marks.SO → ⊥
   pub no_fun : letters tree at ≡ marks.SF → ⊥
   pub no_class : letters tree at ≡ marks.SC → ⊥
+
+-- the instruction that takes the value of a statement's expression
+abbrev pub Taken : (tree : List ℕ) → (at o : ℕ) → Type 0
+Taken tree at o = ((letters tree at ≡ marks.SE) × (o ≡ op.POP)) ⊎ ((letters tree at ≡ marks.SP) × (o ≡ op.PRINT))
 
 -- what was read is compiled; the answer's value is where to read on
 pub record Plainly (class limit l : ℕ) (read : Read Stmt) (before now : Mem) (r : Step) : Type 0 where

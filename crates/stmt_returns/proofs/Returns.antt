@@ -1,4 +1,5 @@
 -- A `return`: a law for each way out of its parts, and that the parts make the whole.
+use Rattle.std.specs.Prelude.{Ok, Err}
 use mathlib.Core.Path.{◌≡◌, refl, sym, ap, ap₂, ◌∙◌}
 use mathlib.Core.Option.{Option, none, some}
 use mathlib.Core.List.{List}
@@ -20,8 +21,6 @@ use Rattle.state.specs.Layout.{type_of, type_place, level_words}
 use Rattle.steps.specs.View.{Mem, steady, Did, Tried}
 use Rattle.steps.proofs.Steps.{valued, next, stop, refuses_in, halt, then_on, ask, ask_refused}
 use Rattle.step_returns.proofs.Returns.{told_type}
-use Rattle.steps.specs.declared.Step.{Step}
-use Rattle.steps.specs.declared.Step.TheVariants.{Next, Stop}
 use Rattle.expr_laws.specs.Exprs.{Somewhere, expr_at, Ran}
 use Rattle.steps.proofs.Monad.{like, on_to, nothing}
 use Rattle.stmt_output_laws.specs.Output.{funs_left, stmt_at}
@@ -29,7 +28,7 @@ use Rattle.stmt_plain_laws.specs.Plain.{StmtSomewhere, Plainly, Flagged, return_
 use Rattle.stmt_plain_laws.proofs.Values.{by_stmt, flagged_no, flagged_yes}
 use Rattle.fields.specs.Marks as marks
 use Rattle.steps.specs.declared.Why.{Why}
-use Rattle.steps.specs.Why.{return_in_initializer, return_outside_function, refusal_of}
+use Rattle.steps.specs.Why.{return_in_initializer, return_outside_function, refusal_of, Step}
 
 -- ## The kind of function
 
@@ -56,18 +55,18 @@ module _ (l n : ℕ) (span : Span) (t : List ℕ) where
   abbrev kind : ℕ
   kind = get_or t (l * level_words + type_place) 0
 
-  pub kind_outside : kind ≡ 0 → Tried l n steady (may_return span) t t (Stop (return_outside_function l span))
+  pub kind_outside : kind ≡ 0 → Tried l n steady (may_return span) t t (Err (return_outside_function l span))
   unfolding may_return refuse refusal_of
   kind_outside e = record { gives = λ code spans fit. stop _ (ask_refused (told_type t code spans l) _ (refuses_in (return_outside_function l span) refl t refl (λ rest h. outside span _ kind e))) }
 
-  pub kind_initializer : 3 ≤ kind → Tried l n steady (may_return span) t t (Stop (return_in_initializer l span))
+  pub kind_initializer : 3 ≤ kind → Tried l n steady (may_return span) t t (Err (return_in_initializer l span))
   unfolding may_return refuse refusal_of
   kind_initializer e = record {
     gives = λ code spans fit. stop _ (ask_refused (told_type t code spans l) _ (refuses_in (return_in_initializer l span) refl t refl (λ rest h. initializer span
         _ kind e)));
   }
 
-  pub kind_returns : (kind ≡ 0 → ⊥) → kind < 3 → Tried l n steady (may_return span) t t (Next n)
+  pub kind_returns : (kind ≡ 0 → ⊥) → kind < 3 → Tried l n steady (may_return span) t t (Ok n)
   unfolding may_return
   kind_returns e h = record { gives = λ code spans fit. ask (told_type t code spans l) _ (like (λ s. returns_one span s kind e h) (next (nothing fit))) }
 
@@ -121,16 +120,16 @@ module _ (tree : List ℕ) (left l at : ℕ) (m : letters tree at ≡ marks.SR) 
             → Did class limit l n steady (compile_stmt limit s) before now r
         by_parts z d = let i = valued_at z in by_return sp h z i.is (like (whole limit i.thing sp) d)
 
-        pub return_stop : {k : ℕ} {now : Mem} {r : Step} {x : Why} → Did class limit l k steady (may_return sp) before now r → r ≡ Stop x
+        pub return_stop : {k : ℕ} {now : Mem} {r : Step} {x : Why} → Did class limit l k steady (may_return sp) before now r → r ≡ Err x
             → Plainly class limit l (stmt_at tree left l at) before now r
         return_stop a q = record { did = λ s n z. by_parts z (halt _ a q) }
 
-        module _ {k v : ℕ} {mid : Mem} {r : Step} (a : Did class limit l k steady (may_return sp) before mid r) (q : r ≡ Next v) where
-          pub return_value_stop : {now : Mem} {r' : Step} {x : Why} → Ran class limit l (expr_at tree (left - 1) (at + 11)) mid now r' → r' ≡ Stop x
+        module _ {k v : ℕ} {mid : Mem} {r : Step} (a : Did class limit l k steady (may_return sp) before mid r) (q : r ≡ Ok v) where
+          pub return_value_stop : {now : Mem} {r' : Step} {x : Why} → Ran class limit l (expr_at tree (left - 1) (at + 11)) mid now r' → r' ≡ Err x
               → Plainly class limit l (stmt_at tree left l at) before now r'
           return_value_stop b q' = record { did = λ s n z. let i = valued_at z in by_parts z (then_on _ a q (halt _ (b.did i.thing n i.one_is) q')) }
 
-          pub return_done : {late now : Mem} {r' r'' : Step} {v' : ℕ} → Ran class limit l (expr_at tree (left - 1) (at + 11)) mid late r' → r' ≡ Next v'
+          pub return_done : {late now : Mem} {r' r'' : Step} {v' : ℕ} → Ran class limit l (expr_at tree (left - 1) (at + 11)) mid late r' → r' ≡ Ok v'
               → Did class limit l v' steady (emit_op limit op.RETURN sp) late now r'' → Plainly class limit l (stmt_at tree left l at) before now r''
           return_done b q' d = record {
             did = λ s n z.

@@ -17,12 +17,12 @@ use rules::Span;
 use state::{Kind, Table};
 use step_bytes::emit_op;
 use step_returns::return_nothing;
-use steps::{Step, Why};
+use steps::{Reason, Step, Why};
 
 // As words of the table.
-const SCRIPT: u64 = Kind::SCRIPT as u64;
+const SCRIPT: u64 = Kind::Script as u64;
 
-const INITIALIZER: u64 = Kind::INITIALIZER as u64;
+const INITIALIZER: u64 = Kind::Initializer as u64;
 
 // A value is returned by a function and by a method that is no initializer.
 fn return_kind(t: &[u64], level: usize, span: Span, next: usize) -> Step
@@ -31,22 +31,22 @@ fn return_kind(t: &[u64], level: usize, span: Span, next: usize) -> Step
 {
     let kind = t[level * Table::LEVEL_WORDS + Table::TYPE];
     if kind == SCRIPT {
-        return Step::Stop(Why {
-            number: Why::RETURN_OUTSIDE_FUNCTION,
+        return Err(Why {
+            reason: Reason::ReturnOutsideFunction,
             span,
             name: 0,
             around: level,
         });
     }
     if INITIALIZER <= kind {
-        return Step::Stop(Why {
-            number: Why::RETURN_IN_INITIALIZER,
+        return Err(Why {
+            reason: Reason::ReturnInInitializer,
             span,
             name: 0,
             around: level,
         });
     }
-    Step::Next(next)
+    Ok(next)
 }
 
 pub fn compile_return(
@@ -67,11 +67,11 @@ pub fn compile_return(
         return return_nothing(t, code, spans, level, limit, span, at + 11);
     }
     let a = return_kind(&t[..], level, span, at + 11);
-    let Step::Next(_) = a else {
+    let Ok(_) = a else {
         return a;
     };
     let b = compile_expr(tree, at + 11, t, code, spans, level, limit, class);
-    let Step::Next(n) = b else {
+    let Ok(n) = b else {
         return b;
     };
     emit_op(t, code, spans, level, limit, Op::RETURN, span, n)

@@ -14,7 +14,7 @@ use rules::{Name, Span};
 use step_bytes::emit_op;
 use step_names::get_variable;
 use step_scopes::{begin_scope, declare_local, define_local};
-use steps::{Class, Step, Why};
+use steps::{Class, Reason, Step, Why};
 
 // A class that inherits: the innermost one where its superclass is looked up.
 const HEIR: u8 = Class::WITH_SUPER;
@@ -37,8 +37,8 @@ fn inherit(
     let parent = u16_at(tree, at + 25);
     let place = span_at(tree, at + 17);
     if parent == name {
-        return Step::Stop(Why {
-            number: Why::CLASS_INHERIT_FROM_SELF,
+        return Err(Why {
+            reason: Reason::ClassInheritFromSelf,
             span,
             name,
             around: level,
@@ -46,16 +46,16 @@ fn inherit(
     }
     begin_scope(t, level);
     let d = declare_local(t, level, Name::SUPER, Span { start: 0, end: 0 }, 0);
-    let Step::Next(_) = d else {
+    let Ok(_) = d else {
         return d;
     };
     define_local(t, level);
     let a = get_variable(t, code, spans, level, limit, HEIR, parent, place, 0);
-    let Step::Next(_) = a else {
+    let Ok(_) = a else {
         return a;
     };
     let b = get_variable(t, code, spans, level, limit, HEIR, name, span, 0);
-    let Step::Next(_) = b else {
+    let Ok(_) = b else {
         return b;
     };
     emit_op(t, code, spans, level, limit, Op::INHERIT, span, at + 27)
@@ -79,5 +79,5 @@ pub fn superclass(
     if u8_at(tree, at + 12) == 1 {
         return inherit(tree, at, t, code, spans, level, limit, name, span);
     }
-    Step::Next(at + 15)
+    Ok(at + 15)
 }

@@ -1,11 +1,12 @@
 -- A `var`: a law for each way out of its parts, and that the parts make the whole.
+use Rattle.steps.specs.Why.{Step}
 use mathlib.Core.Path.{◌≡◌, refl, sym, ap, ap₂, ◌∙◌}
 use mathlib.Core.Bool.{Bool, true, false}
 use mathlib.Core.List.{List}
 use Prim.Native.Nat.{ℕ, ◌+◌, ◌-◌, ◌≤◌}
 use lib.ListN.{length}
 use Rattle.rules.specs.Base.{lookup}
-use Rattle.std.specs.Prelude.{if◌then◌else◌}
+use Rattle.std.specs.Prelude.{if◌then◌else◌, Ok, Err}
 use Rattle.rules.specs.declared.Span.{Span}
 use Rattle.rules.specs.Tree.{Stmt, StmtVar}
 use Rattle.rules.specs.Reader.{got}
@@ -17,8 +18,6 @@ use Rattle.fields.specs.Words.{word8, word16, letters, span_of}
 use Rattle.tree_laws.proofs.Statements.{var_stmt_at}
 use Rattle.steps.specs.View.{Mem, mem, Fit, steady, Did, Told, Changed, Tried}
 use Rattle.steps.proofs.Steps.{went, valued, next, halt, then_on, ask, chosen, otherwise}
-use Rattle.steps.specs.declared.Step.{Step}
-use Rattle.steps.specs.declared.Step.TheVariants.{Next, Stop}
 use Rattle.steps.proofs.Monad.{like, on_to, nothing}
 use Rattle.stmt_output_laws.specs.Output.{funs_left, stmt_at}
 use Rattle.stmt_plain_laws.specs.Plain.{StmtSomewhere, Plainly, Flagged, Announced, ValueRan, open_var, close_var}
@@ -29,7 +28,7 @@ use Rattle.steps.specs.declared.Why.{Why}
 -- ## The parts
 
 module _ (l n : ℕ) (global : Bool) (name : ℕ) (span : Span) where
-  pub opened_global : (t : List ℕ) → global ≡ true → Tried l n steady (open_var global name span) t t (Next n)
+  pub opened_global : (t : List ℕ) → global ≡ true → Tried l n steady (open_var global name span) t t (Ok n)
   unfolding open_var
   opened_global t e = record { gives = λ code spans fit. chosen _ _ _ e (next (nothing fit)) }
 
@@ -44,7 +43,7 @@ module _ (l n : ℕ) (global : Bool) (name : ℕ) (span : Span) where
     closed_global e d = chosen _ _ _ e d
 
     pub closed_local : {t t' : List ℕ} (code spans : List ℕ) → global ≡ false → Fit (mem t code spans) l limit → Changed l steady define_local t t'
-        → Did class limit l n steady (close_var limit global name span) (mem t code spans) (mem t' code spans) (Next n)
+        → Did class limit l n steady (close_var limit global name span) (mem t code spans) (mem t' code spans) (Ok n)
     unfolding close_var
     closed_local code spans e fit d = otherwise _ _ _ e (next (d.gives code spans fit))
 
@@ -77,16 +76,16 @@ module _ (tree : List ℕ) (left l at : ℕ) (m : letters tree at ≡ marks.SV) 
           by_stmt (i.is ∙ ap₂ (λ w k. StmtVar w k i.value) (sym h) (sym p))
           (ask g _ (like (whole limit name sp (compile_value limit i.value sp) global) d))
 
-      pub var_stop : {k : ℕ} {now : Mem} {r : Step} {x : Why} → Did class limit l k steady (open_var global name sp) before now r → r ≡ Stop x
+      pub var_stop : {k : ℕ} {now : Mem} {r : Step} {x : Why} → Did class limit l k steady (open_var global name sp) before now r → r ≡ Err x
           → Plainly class limit l (stmt_at tree left l at) before now r
       var_stop a q = record { did = λ s n z. by_parts z (halt _ a q) }
 
-      module _ {k v : ℕ} {mid : Mem} {r : Step} (a : Did class limit l k steady (open_var global name sp) before mid r) (q : r ≡ Next v) where
-        pub var_value_stop : {now : Mem} {r' : Step} {x : Why} → ValueRan class limit l tree (left - 1) (at + 13) flag sp mid now r' → r' ≡ Stop x
+      module _ {k v : ℕ} {mid : Mem} {r : Step} (a : Did class limit l k steady (open_var global name sp) before mid r) (q : r ≡ Ok v) where
+        pub var_value_stop : {now : Mem} {r' : Step} {x : Why} → ValueRan class limit l tree (left - 1) (at + 13) flag sp mid now r' → r' ≡ Err x
             → Plainly class limit l (stmt_at tree left l at) before now r'
         var_value_stop b q' = record { did = λ s n z. by_parts z (then_on _ a q (halt _ (b.did _ n (announced z)) q')) }
 
-        pub var_done : {late now : Mem} {r' r'' : Step} {v' : ℕ} → ValueRan class limit l tree (left - 1) (at + 13) flag sp mid late r' → r' ≡ Next v'
+        pub var_done : {late now : Mem} {r' r'' : Step} {v' : ℕ} → ValueRan class limit l tree (left - 1) (at + 13) flag sp mid late r' → r' ≡ Ok v'
             → Did class limit l v' steady (close_var limit global name sp) late now r'' → Plainly class limit l (stmt_at tree left l at) before now r''
         var_done b q' d = record {
           did = λ s n z.
@@ -99,5 +98,5 @@ var_value {tree} {l} {at} {flag} m f w = record { left = w.left - 1; value = _; 
 
 -- the areas after the value
 pub value_fit : {class limit l at flag v : ℕ} {tree : List ℕ} {sp : Span} {before now : Mem} {r : Step} → Announced tree at flag
-    → ((d : ℕ) → ValueRan class limit l tree d at flag sp before now r) → r ≡ Next v → Fit now l limit
+    → ((d : ℕ) → ValueRan class limit l tree d at flag sp before now r) → r ≡ Ok v → Fit now l limit
 value_fit w a q = (went ((a w.left).did w.value w.next w.is) q).ahead.fit

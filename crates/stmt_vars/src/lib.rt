@@ -46,7 +46,7 @@ fn open_var(t: &mut [u64], level: usize, global: bool, name: u16, span: Span, ne
     ensures { Tried level next steady (open_var global name span) t.old t.new result }
 {
     if global {
-        return Step::Next(next);
+        return Ok(next);
     }
     declare_local(t, level, name, span, next)
 }
@@ -79,7 +79,7 @@ fn close_var(
         );
     }
     define_local(t, level);
-    Step::Next(next)
+    Ok(next)
 }
 
 pub fn compile_var(
@@ -100,7 +100,7 @@ pub fn compile_var(
     let flag = u8_at(tree, at + 12);
     let global = is_global(&t[..], level);
     let a = open_var(t, level, global, name, span, at + 13);
-    let Step::Next(_) = a else {
+    let Ok(_) = a else {
         return a;
     };
     let b = compile_value(
@@ -115,7 +115,7 @@ pub fn compile_var(
         class,
         span,
     );
-    let Step::Next(n) = b else {
+    let Ok(n) = b else {
         return b;
     };
     close_var(t, code, spans, level, limit, global, name, span, n)

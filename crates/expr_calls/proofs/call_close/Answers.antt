@@ -32,12 +32,12 @@ u16_at-name-requires c =
 
 pub emit_invoke-requires : goal.emit_invoke-requires
 emit_invoke-requires c =
-    (went c.get_variable-a.ensures c.in-Next.is).ahead.fit
+    (went c.get_variable-a.ensures c.in-Ok.is).ahead.fit
 
 pub returns-then-mark-eq-SUPER : goal.returns-then-mark-eq-SUPER
 returns-then-mark-eq-SUPER c =
     close_super _ _ _ _ _ _ (low_byte c.u16_at.ensures c.requires.2) (sym c.mark_at-mark.ensures ∙ c.if-mark-eq-SUPER.true) c.u16_at-name.ensures c.get_variable-a.ensures
-    c.in-Next.is (c.emit_invoke.ensures _)
+    c.in-Ok.is (c.emit_invoke.ensures _)
 
 pub overflow_add-at-then-mark-eq-GET : goal.overflow_add-at-then-mark-eq-GET
 overflow_add-at-then-mark-eq-GET c =

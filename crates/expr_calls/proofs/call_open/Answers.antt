@@ -32,7 +32,7 @@ overflow_add-at-then-mark-eq-SUPER c =
 pub returns-then-mark-eq-SUPER : goal.returns-then-mark-eq-SUPER
 returns-then-mark-eq-SUPER c =
     super_open _ _ _ (omega (arith, c.u16_at.ensures, c.if-u16_at-gt-ARGS.false)) (sym c.mark_at-mark.ensures ∙ c.if-mark-eq-SUPER.true) (c.need_super-n.ensures.gives _ c.requires.0)
-    c.in-Next.is c.get_variable.ensures
+    c.in-Ok.is c.get_variable.ensures
 
 pub overflow_add-result : goal.overflow_add-result
 overflow_add-result c =

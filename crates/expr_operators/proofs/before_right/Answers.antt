@@ -13,34 +13,34 @@ returns-in_default c =
 
 pub emit_op-requires : goal.emit_op-requires
 emit_op-requires c =
-    (went_to (c.emit_jump-a.ensures 0) c.in-Next.is).ahead.fit
+    (went_to (c.emit_jump-a.ensures 0) c.in-Ok.is).ahead.fit
 
 pub returns-then-operator-eq10 : goal.returns-then-operator-eq10
 returns-then-operator-eq10 c =
-    λ class. begun_and _ c.if-operator-eq10.true (c.emit_jump-a.ensures class) c.in-Next.is (c.emit_op.ensures class)
+    λ class. begun_and _ c.if-operator-eq10.true (c.emit_jump-a.ensures class) c.in-Ok.is (c.emit_op.ensures class)
 
 pub emit_jump-b-requires : goal.emit_jump-b-requires
 emit_jump-b-requires c =
-    (went_to (c.emit_jump-a.ensures 0) c.in-Next.is).ahead.fit
+    (went_to (c.emit_jump-a.ensures 0) c.in-Ok.is).ahead.fit
 
 pub returns-in_default-b : goal.returns-in_default-b
 returns-in_default-b c =
-    λ class. begun_or_stop _ c.if-operator-lt10.false (search rules) (c.emit_jump-a.ensures class) c.in-Next.is (c.emit_jump-b.ensures class) c.in_default-b.is
+    λ class. begun_or_stop _ c.if-operator-lt10.false (search rules) (c.emit_jump-a.ensures class) c.in-Ok.is (c.emit_jump-b.ensures class) c.in_default-b.is
 
 pub patch_jump-d-requires : goal.patch_jump-d-requires
 patch_jump-d-requires c =
-    let g = went_to (c.emit_jump-b.ensures 0) c.in-Next-b.is in (g.ahead.fit, still _ (placed (c.emit_jump-a.ensures 0) c.in-Next.is) g)
+    let g = went_to (c.emit_jump-b.ensures 0) c.in-Ok-b.is in (g.ahead.fit, still _ (placed (c.emit_jump-a.ensures 0) c.in-Ok.is) g)
 
 pub returns-in_default-d : goal.returns-in_default-d
 returns-in_default-d c =
-    λ class. begun_or_stop_2 _ c.if-operator-lt10.false c.if-operator-eq10.false (c.emit_jump-a.ensures class) c.in-Next.is (c.emit_jump-b.ensures class) c.in-Next-b.is
+    λ class. begun_or_stop_2 _ c.if-operator-lt10.false c.if-operator-eq10.false (c.emit_jump-a.ensures class) c.in-Ok.is (c.emit_jump-b.ensures class) c.in-Ok-b.is
     (c.patch_jump-d.ensures class) c.in_default-d.is
 
 pub emit_op-requires-2 : goal.emit_op-requires-2
 emit_op-requires-2 c =
-    (went (c.patch_jump-d.ensures 0) c.in-Next-d.is).ahead.fit
+    (went (c.patch_jump-d.ensures 0) c.in-Ok-d.is).ahead.fit
 
 pub returns : goal.returns
 returns c =
-    λ class. begun_or _ c.if-operator-lt10.false c.if-operator-eq10.false (c.emit_jump-a.ensures class) c.in-Next.is (c.emit_jump-b.ensures class) c.in-Next-b.is
-    (c.patch_jump-d.ensures class) c.in-Next-d.is (c.emit_op-2.ensures class)
+    λ class. begun_or _ c.if-operator-lt10.false c.if-operator-eq10.false (c.emit_jump-a.ensures class) c.in-Ok.is (c.emit_jump-b.ensures class) c.in-Ok-b.is
+    (c.patch_jump-d.ensures class) c.in-Ok-d.is (c.emit_op-2.ensures class)

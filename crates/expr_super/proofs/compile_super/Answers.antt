@@ -11,25 +11,25 @@ returns-in_default c =
 pub returns-in_default-a : goal.returns-in_default-a
 unfolding compile_super
 returns-in_default-a c =
-    then_on _ (c.need_super-n.ensures.gives _ c.requires) c.in-Next.is (halt _ c.get_variable-a.ensures c.in_default-a.is)
+    then_on _ (c.need_super-n.ensures.gives _ c.requires) c.in-Ok.is (halt _ c.get_variable-a.ensures c.in_default-a.is)
 
 pub get_variable-b-requires : goal.get_variable-b-requires
 get_variable-b-requires c =
-    (went c.get_variable-a.ensures c.in-Next-a.is).ahead.fit
+    (went c.get_variable-a.ensures c.in-Ok-a.is).ahead.fit
 
 pub returns-in_default-b : goal.returns-in_default-b
 unfolding compile_super
 returns-in_default-b c =
-    then_on _ (c.need_super-n.ensures.gives _ c.requires) c.in-Next.is
-    (then_on _ c.get_variable-a.ensures c.in-Next-a.is (halt _ c.get_variable-b.ensures c.in_default-b.is))
+    then_on _ (c.need_super-n.ensures.gives _ c.requires) c.in-Ok.is
+    (then_on _ c.get_variable-a.ensures c.in-Ok-a.is (halt _ c.get_variable-b.ensures c.in_default-b.is))
 
 pub emit_op_name-requires : goal.emit_op_name-requires
 emit_op_name-requires c =
-    (went c.get_variable-b.ensures c.in-Next-b.is).ahead.fit
+    (went c.get_variable-b.ensures c.in-Ok-b.is).ahead.fit
 
 pub returns : goal.returns
 unfolding compile_super
 returns c =
-    then_on _ (c.need_super-n.ensures.gives _ c.requires) c.in-Next.is
-    (then_on _ c.get_variable-a.ensures c.in-Next-a.is
-    (then_on _ c.get_variable-b.ensures c.in-Next-b.is (c.emit_op_name.ensures _)))
+    then_on _ (c.need_super-n.ensures.gives _ c.requires) c.in-Ok.is
+    (then_on _ c.get_variable-a.ensures c.in-Ok-a.is
+    (then_on _ c.get_variable-b.ensures c.in-Ok-b.is (c.emit_op_name.ensures _)))

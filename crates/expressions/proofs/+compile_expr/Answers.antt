@@ -2,6 +2,7 @@
 use mathlib.Core.Path.{◌∙◌, sym}
 use native.Mathlib.Omega.{arith}
 use Rattle.tree_laws.proofs.Expressions.{assign_at, get_at, infix_at, prefix_at, set_at, any_at, super_at, var_at}
+use Rattle.expr_laws.proofs.Counts.{all_left, more_left, none_left, one_less}
 use Rattle.expr_laws.proofs.Calls.{walk_start, walk_there, walk_step}
 use Rattle.expressions.proofs.Arms as ways
 use Rattle.expressions.proofs.+compile_expr.Goals as goal
@@ -28,7 +29,7 @@ pub returns-in_default : goal.returns-in_default
 returns-in_default t c = λ d. c.literal-plain.ensures _ d
 
 pub returns-then-mark-eq-LITERAL : goal.returns-then-mark-eq-LITERAL
-returns-then-mark-eq-LITERAL t c = λ d. ways.same_answer c.in-Next.is (c.literal-plain.ensures _ d)
+returns-then-mark-eq-LITERAL t c = λ d. ways.same_answer c.in-Ok.is (c.literal-plain.ensures _ d)
 
 -- ## A variable
 
@@ -58,7 +59,7 @@ returns-in_default-fetched t c =
 pub returns-then-mark-eq-VARIABLE : goal.returns-then-mark-eq-VARIABLE
 returns-then-mark-eq-VARIABLE t c =
     let mark = sym c.mark_at-mark.ensures ∙ c.if-mark-eq-VARIABLE.true in
-    λ d. ways.same_answer c.in-Next-fetched.is (ways.var_done _ d _ _ c.span_at-span.ensures _ c.u16_at-variable.ensures mark c.get_variable-fetched.ensures)
+    λ d. ways.same_answer c.in-Ok-fetched.is (ways.var_done _ d _ _ c.span_at-span.ensures _ c.u16_at-variable.ensures mark c.get_variable-fetched.ensures)
 
 -- ## An infix operator
 
@@ -92,49 +93,49 @@ pub before_right-begun-requires : goal.before_right-begun-requires
 before_right-begun-requires t c =
     let mark = sym c.mark_at-mark.ensures ∙ c.if-mark-eq-INFIX.true in
     let lhs_child = ways.infix_left _ _ _ c.requires.0.there.is c.decreases mark in
-    ways.ran_fit lhs_child.there c.compile_expr-lhs.ensures c.in-Next-lhs.is
+    ways.ran_fit lhs_child.there c.compile_expr-lhs.ensures c.in-Ok-lhs.is
 
 pub returns-in_default-begun : goal.returns-in_default-begun
 returns-in_default-begun t c =
     let mark = sym c.mark_at-mark.ensures ∙ c.if-mark-eq-INFIX.true in
-    λ d. ways.infix_stop_2 _ d _ _ _ c.span_at-span.ensures c.u8_at-operator.ensures mark (c.compile_expr-lhs.ensures _) c.in-Next-lhs.is (c.before_right-begun.ensures _)
+    λ d. ways.infix_stop_2 _ d _ _ _ c.span_at-span.ensures c.u8_at-operator.ensures mark (c.compile_expr-lhs.ensures _) c.in-Ok-lhs.is (c.before_right-begun.ensures _)
     c.in_default-begun.is
 
 pub compile_expr-rhs-requires : goal.compile_expr-rhs-requires
 compile_expr-rhs-requires t c =
     let mark = sym c.mark_at-mark.ensures ∙ c.if-mark-eq-INFIX.true in
-    let rhs_child = ways.infix_right _ _ _ c.requires.0.there.is c.decreases mark (c.compile_expr-lhs.ensures _) c.in-Next-lhs.is in (
+    let rhs_child = ways.infix_right _ _ _ c.requires.0.there.is c.decreases mark (c.compile_expr-lhs.ensures _) c.in-Ok-lhs.is in (
       rhs_child.less,
-      (rhs_child.there, (ways.begun_fit _ _ _ c.u8_at-operator.ensures mark c.requires.0.there.is (c.before_right-begun.ensures 0) c.in-Next-begun.is).0),
+      (rhs_child.there, (ways.begun_fit _ _ _ c.u8_at-operator.ensures mark c.requires.0.there.is (c.before_right-begun.ensures 0) c.in-Ok-begun.is).0),
     )
 
 pub returns-in_default-rhs : goal.returns-in_default-rhs
 returns-in_default-rhs t c =
     let mark = sym c.mark_at-mark.ensures ∙ c.if-mark-eq-INFIX.true in
-    λ d. ways.infix_stop_3 _ d _ _ _ c.span_at-span.ensures c.u8_at-operator.ensures mark (c.compile_expr-lhs.ensures _) c.in-Next-lhs.is (c.before_right-begun.ensures _)
-    c.in-Next-begun.is (c.compile_expr-rhs.ensures _) c.in_default-rhs.is
+    λ d. ways.infix_stop_3 _ d _ _ _ c.span_at-span.ensures c.u8_at-operator.ensures mark (c.compile_expr-lhs.ensures _) c.in-Ok-lhs.is (c.before_right-begun.ensures _)
+    c.in-Ok-begun.is (c.compile_expr-rhs.ensures _) c.in_default-rhs.is
 
 pub after_right-joined-requires : goal.after_right-joined-requires
 after_right-joined-requires t c =
     let mark = sym c.mark_at-mark.ensures ∙ c.if-mark-eq-INFIX.true in
-    let rhs_child = ways.infix_right _ _ _ c.requires.0.there.is c.decreases mark (c.compile_expr-lhs.ensures _) c.in-Next-lhs.is in (
-      ways.ran_fit rhs_child.there c.compile_expr-rhs.ensures c.in-Next-rhs.is,
-      λ h. ways.ran_still rhs_child.there c.compile_expr-rhs.ensures c.in-Next-rhs.is _
-          ((ways.begun_fit _ _ _ c.u8_at-operator.ensures mark c.requires.0.there.is (c.before_right-begun.ensures 0) c.in-Next-begun.is).1 h),
+    let rhs_child = ways.infix_right _ _ _ c.requires.0.there.is c.decreases mark (c.compile_expr-lhs.ensures _) c.in-Ok-lhs.is in (
+      ways.ran_fit rhs_child.there c.compile_expr-rhs.ensures c.in-Ok-rhs.is,
+      λ h. ways.ran_still rhs_child.there c.compile_expr-rhs.ensures c.in-Ok-rhs.is _
+          ((ways.begun_fit _ _ _ c.u8_at-operator.ensures mark c.requires.0.there.is (c.before_right-begun.ensures 0) c.in-Ok-begun.is).1 h),
     )
 
 pub returns-in_default-joined : goal.returns-in_default-joined
 returns-in_default-joined t c =
     let mark = sym c.mark_at-mark.ensures ∙ c.if-mark-eq-INFIX.true in
-    λ d. ways.infix_done _ d _ _ _ c.span_at-span.ensures c.u8_at-operator.ensures mark (c.compile_expr-lhs.ensures _) c.in-Next-lhs.is (c.before_right-begun.ensures _)
-    c.in-Next-begun.is (c.compile_expr-rhs.ensures _) c.in-Next-rhs.is (c.after_right-joined.ensures _)
+    λ d. ways.infix_done _ d _ _ _ c.span_at-span.ensures c.u8_at-operator.ensures mark (c.compile_expr-lhs.ensures _) c.in-Ok-lhs.is (c.before_right-begun.ensures _)
+    c.in-Ok-begun.is (c.compile_expr-rhs.ensures _) c.in-Ok-rhs.is (c.after_right-joined.ensures _)
 
 pub returns-then-mark-eq-INFIX : goal.returns-then-mark-eq-INFIX
 returns-then-mark-eq-INFIX t c =
     let mark = sym c.mark_at-mark.ensures ∙ c.if-mark-eq-INFIX.true in
-    λ d. ways.same_answer c.in-Next-joined.is
-    (ways.infix_done _ d _ _ _ c.span_at-span.ensures c.u8_at-operator.ensures mark (c.compile_expr-lhs.ensures _) c.in-Next-lhs.is (c.before_right-begun.ensures _)
-    c.in-Next-begun.is (c.compile_expr-rhs.ensures _) c.in-Next-rhs.is (c.after_right-joined.ensures _))
+    λ d. ways.same_answer c.in-Ok-joined.is
+    (ways.infix_done _ d _ _ _ c.span_at-span.ensures c.u8_at-operator.ensures mark (c.compile_expr-lhs.ensures _) c.in-Ok-lhs.is (c.before_right-begun.ensures _)
+    c.in-Ok-begun.is (c.compile_expr-rhs.ensures _) c.in-Ok-rhs.is (c.after_right-joined.ensures _))
 
 -- ## A prefix operator
 
@@ -168,19 +169,19 @@ pub emit_op-signed-requires : goal.emit_op-signed-requires
 emit_op-signed-requires t c =
     let mark = sym c.mark_at-mark.ensures ∙ c.if-mark-eq-PREFIX.true in
     let operand_child = ways.prefix_child _ _ _ c.requires.0.there.is c.decreases mark in
-    ways.ran_fit operand_child.there c.compile_expr-operand.ensures c.in-Next-operand.is
+    ways.ran_fit operand_child.there c.compile_expr-operand.ensures c.in-Ok-operand.is
 
 pub returns-in_default-signed : goal.returns-in_default-signed
 returns-in_default-signed t c =
     let mark = sym c.mark_at-mark.ensures ∙ c.if-mark-eq-PREFIX.true in
-    λ d. ways.prefix_done _ d _ _ _ _ c.span_at-span.ensures c.u8_at-sign.ensures c.prefix_op.ensures mark (c.compile_expr-operand.ensures _) c.in-Next-operand.is
+    λ d. ways.prefix_done _ d _ _ _ _ c.span_at-span.ensures c.u8_at-sign.ensures c.prefix_op.ensures mark (c.compile_expr-operand.ensures _) c.in-Ok-operand.is
     (c.emit_op-signed.ensures _)
 
 pub returns-then-mark-eq-PREFIX : goal.returns-then-mark-eq-PREFIX
 returns-then-mark-eq-PREFIX t c =
     let mark = sym c.mark_at-mark.ensures ∙ c.if-mark-eq-PREFIX.true in
-    λ d. ways.same_answer c.in-Next-signed.is
-    (ways.prefix_done _ d _ _ _ _ c.span_at-span.ensures c.u8_at-sign.ensures c.prefix_op.ensures mark (c.compile_expr-operand.ensures _) c.in-Next-operand.is
+    λ d. ways.same_answer c.in-Ok-signed.is
+    (ways.prefix_done _ d _ _ _ _ c.span_at-span.ensures c.u8_at-sign.ensures c.prefix_op.ensures mark (c.compile_expr-operand.ensures _) c.in-Ok-operand.is
     (c.emit_op-signed.ensures _))
 
 -- ## A call
@@ -200,61 +201,55 @@ call_parts-parts-requires t c =
     let mark = sym c.mark_at-mark.ensures ∙ c.if-mark-eq-CALL.true in
     record { depth = _; there = ways.callee_there _ _ _ mark c.requires.0.there.is }
 
-pub loop-parts-init : goal.loop-parts-init
-loop-parts-init t c =
+pub loop-init : goal.loop-init
+loop-init t c =
     let mark = sym c.mark_at-mark.ensures ∙ c.if-mark-eq-CALL.true in (
-      λ d. walk_start (ways.opened_fit _ _ _ _ c.span_at-span.ensures mark c.call_open-opened.ensures c.in-Next-opened.is c.call_parts-parts.ensures
-          c.requires.0.there.is),
-      ways.opened_on _ _ _ _ c.span_at-span.ensures mark c.call_open-opened.ensures c.in-Next-opened.is c.call_parts-parts.ensures
+      λ d. walk_start (ways.opened_fit _ _ _ _ c.span_at-span.ensures mark c.call_open-opened.ensures c.in-Ok-opened.is c.call_parts-parts.ensures
+          c.requires.0.there.is) all_left,
+      ways.opened_on _ _ _ _ c.span_at-span.ensures mark c.call_open-opened.ensures c.in-Ok-opened.is c.call_parts-parts.ensures
           c.requires.0.there.is,
     )
 
 pub compile_expr-part-requires : goal.compile_expr-part-requires
 compile_expr-part-requires t c =
     let mark = sym c.mark_at-mark.ensures ∙ c.if-mark-eq-CALL.true in
-    let parts = ways.parts_there _ _ _ _ c.span_at-span.ensures mark c.call_open-opened.ensures c.in-Next-opened.is c.call_parts-parts.ensures c.requires.0.there.is in
-    let part_child = ways.child _ _ _ c.requires.0.there.is c.decreases c.loop-parts.invariant.1 (walk_there (c.loop-parts.invariant.0 _) parts.is c.loop-parts-test.true) in
-    (part_child.less, (part_child.there, (c.loop-parts.invariant.0 0).fit))
+    let parts = ways.parts_there _ _ _ _ c.span_at-span.ensures mark c.call_open-opened.ensures c.in-Ok-opened.is c.call_parts-parts.ensures c.requires.0.there.is in
+    let part_child = ways.child _ _ _ c.requires.0.there.is c.decreases c.loop.invariant.1 (walk_there (c.loop.invariant.0 _) parts.is (more_left c.loop-test.true)) in
+    (part_child.less, (part_child.there, (c.loop.invariant.0 0).fit))
 
 pub returns-in_default-part : goal.returns-in_default-part
 returns-in_default-part t c =
     let mark = sym c.mark_at-mark.ensures ∙ c.if-mark-eq-CALL.true in
-    λ d. ways.part_stop _ d _ _ c.span_at-span.ensures mark c.call_open-opened.ensures c.in-Next-opened.is c.call_parts-parts.ensures (c.loop-parts.invariant.0 _)
-    c.loop-parts-test.true (c.compile_expr-part.ensures _) c.in_default-part.is
+    λ d. ways.part_stop _ d _ _ c.span_at-span.ensures mark c.call_open-opened.ensures c.in-Ok-opened.is c.call_parts-parts.ensures (c.loop.invariant.0 _)
+    (more_left c.loop-test.true) (c.compile_expr-part.ensures _) c.in_default-part.is
 
-pub overflow_sub-parts : goal.overflow_sub-parts
-overflow_sub-parts t c = c.loop-parts-test.true
-
-pub loop-parts-smaller : goal.loop-parts-smaller
-loop-parts-smaller t c = let x = c.loop-parts-test.true in omega (arith, x)
-
-pub loop-parts-preserved : goal.loop-parts-preserved
-loop-parts-preserved t c =
+pub loop-preserved : goal.loop-preserved
+loop-preserved t c =
     let mark = sym c.mark_at-mark.ensures ∙ c.if-mark-eq-CALL.true in
-    let parts = ways.parts_there _ _ _ _ c.span_at-span.ensures mark c.call_open-opened.ensures c.in-Next-opened.is c.call_parts-parts.ensures c.requires.0.there.is in
-    let part_child = ways.child _ _ _ c.requires.0.there.is c.decreases c.loop-parts.invariant.1 (walk_there (c.loop-parts.invariant.0 _) parts.is c.loop-parts-test.true) in (
-      λ d. walk_step (c.loop-parts.invariant.0 d) c.loop-parts-test.true (c.compile_expr-part.ensures d) c.in-Next-part.is
-          (ways.ran_fit part_child.there c.compile_expr-part.ensures c.in-Next-part.is),
-      ways.ran_on part_child.there c.compile_expr-part.ensures c.in-Next-part.is
-          c.loop-parts.invariant.1,
+    let parts = ways.parts_there _ _ _ _ c.span_at-span.ensures mark c.call_open-opened.ensures c.in-Ok-opened.is c.call_parts-parts.ensures c.requires.0.there.is in
+    let part_child = ways.child _ _ _ c.requires.0.there.is c.decreases c.loop.invariant.1 (walk_there (c.loop.invariant.0 _) parts.is (more_left c.loop-test.true)) in (
+      λ d. walk_step (c.loop.invariant.0 d) (more_left c.loop-test.true) (c.compile_expr-part.ensures d) c.in-Ok-part.is
+          (ways.ran_fit part_child.there c.compile_expr-part.ensures c.in-Ok-part.is) (one_less c.loop-test.true),
+      ways.ran_on part_child.there c.compile_expr-part.ensures c.in-Ok-part.is
+          c.loop.invariant.1,
     )
 
 pub call_close-called-requires : goal.call_close-called-requires
 call_close-called-requires t c =
     let mark = sym c.mark_at-mark.ensures ∙ c.if-mark-eq-CALL.true in
-    ((c.loop-parts.invariant.0 0).fit, record { depth = _; there = ways.callee_there _ _ _ mark c.requires.0.there.is }, c.call_open-opened.ensures.few _ c.in-Next-opened.is)
+    ((c.loop.invariant.0 0).fit, record { depth = _; there = ways.callee_there _ _ _ mark c.requires.0.there.is }, c.call_open-opened.ensures.few _ c.in-Ok-opened.is)
 
 pub returns-in_default-called : goal.returns-in_default-called
 returns-in_default-called t c =
     let mark = sym c.mark_at-mark.ensures ∙ c.if-mark-eq-CALL.true in
-    λ d. ways.call_done _ d _ _ c.span_at-span.ensures mark c.call_open-opened.ensures c.in-Next-opened.is c.call_parts-parts.ensures (c.loop-parts.invariant.0 _)
-    c.loop-parts-test.false c.call_close-called.ensures
+    λ d. ways.call_done _ d _ _ c.span_at-span.ensures mark c.call_open-opened.ensures c.in-Ok-opened.is c.call_parts-parts.ensures (c.loop.invariant.0 _)
+    (none_left c.loop-test.false) c.call_close-called.ensures
 
 pub returns-then-mark-eq-CALL : goal.returns-then-mark-eq-CALL
 returns-then-mark-eq-CALL t c =
     let mark = sym c.mark_at-mark.ensures ∙ c.if-mark-eq-CALL.true in
-    λ d. ways.same_answer c.in-Next-called.is
-    (ways.call_done _ d _ _ c.span_at-span.ensures mark c.call_open-opened.ensures c.in-Next-opened.is c.call_parts-parts.ensures (c.loop-parts.invariant.0 _) c.loop-parts-test.false
+    λ d. ways.same_answer c.in-Ok-called.is
+    (ways.call_done _ d _ _ c.span_at-span.ensures mark c.call_open-opened.ensures c.in-Ok-opened.is c.call_parts-parts.ensures (c.loop.invariant.0 _) (none_left c.loop-test.false)
     c.call_close-called.ensures)
 
 -- ## A method of the superclass
@@ -285,7 +280,7 @@ returns-in_default-bound t c =
 pub returns-then-mark-eq-SUPER : goal.returns-then-mark-eq-SUPER
 returns-then-mark-eq-SUPER t c =
     let mark = sym c.mark_at-mark.ensures ∙ c.if-mark-eq-SUPER.true in
-    λ d. ways.same_answer c.in-Next-bound.is (ways.super_done _ d _ _ c.span_at-span.ensures _ c.u16_at-method.ensures mark c.compile_super-bound.ensures)
+    λ d. ways.same_answer c.in-Ok-bound.is (ways.super_done _ d _ _ c.span_at-span.ensures _ c.u16_at-method.ensures mark c.compile_super-bound.ensures)
 
 -- ## An assignment
 
@@ -319,18 +314,18 @@ pub set_variable-stored-requires : goal.set_variable-stored-requires
 set_variable-stored-requires t c =
     let mark = sym c.mark_at-mark.ensures ∙ c.if-mark-eq-ASSIGN.true in
     let given_child = ways.assign_child _ _ _ c.requires.0.there.is c.decreases mark in
-    ways.ran_fit given_child.there c.compile_expr-given.ensures c.in-Next-given.is
+    ways.ran_fit given_child.there c.compile_expr-given.ensures c.in-Ok-given.is
 
 pub returns-in_default-stored : goal.returns-in_default-stored
 returns-in_default-stored t c =
     let mark = sym c.mark_at-mark.ensures ∙ c.if-mark-eq-ASSIGN.true in
-    λ d. ways.assign_done _ d _ _ c.span_at-span.ensures _ c.u16_at-assigned.ensures mark (c.compile_expr-given.ensures _) c.in-Next-given.is (c.set_variable-stored.ensures _)
+    λ d. ways.assign_done _ d _ _ c.span_at-span.ensures _ c.u16_at-assigned.ensures mark (c.compile_expr-given.ensures _) c.in-Ok-given.is (c.set_variable-stored.ensures _)
 
 pub returns-then-mark-eq-ASSIGN : goal.returns-then-mark-eq-ASSIGN
 returns-then-mark-eq-ASSIGN t c =
     let mark = sym c.mark_at-mark.ensures ∙ c.if-mark-eq-ASSIGN.true in
-    λ d. ways.same_answer c.in-Next-stored.is
-    (ways.assign_done _ d _ _ c.span_at-span.ensures _ c.u16_at-assigned.ensures mark (c.compile_expr-given.ensures _) c.in-Next-given.is (c.set_variable-stored.ensures _))
+    λ d. ways.same_answer c.in-Ok-stored.is
+    (ways.assign_done _ d _ _ c.span_at-span.ensures _ c.u16_at-assigned.ensures mark (c.compile_expr-given.ensures _) c.in-Ok-given.is (c.set_variable-stored.ensures _))
 
 -- ## A property read
 
@@ -364,18 +359,18 @@ pub emit_op_name-read-requires : goal.emit_op_name-read-requires
 emit_op_name-read-requires t c =
     let mark = sym c.mark_at-mark.ensures ∙ c.if-mark-eq-GET.true in
     let object_child = ways.get_child _ _ _ c.requires.0.there.is c.decreases mark in
-    ways.ran_fit object_child.there c.compile_expr-object.ensures c.in-Next-object.is
+    ways.ran_fit object_child.there c.compile_expr-object.ensures c.in-Ok-object.is
 
 pub returns-in_default-read : goal.returns-in_default-read
 returns-in_default-read t c =
     let mark = sym c.mark_at-mark.ensures ∙ c.if-mark-eq-GET.true in
-    λ d. ways.get_done _ d _ _ c.span_at-span.ensures _ c.u16_at-property.ensures mark (c.compile_expr-object.ensures _) c.in-Next-object.is (c.emit_op_name-read.ensures _)
+    λ d. ways.get_done _ d _ _ c.span_at-span.ensures _ c.u16_at-property.ensures mark (c.compile_expr-object.ensures _) c.in-Ok-object.is (c.emit_op_name-read.ensures _)
 
 pub returns-then-mark-eq-GET : goal.returns-then-mark-eq-GET
 returns-then-mark-eq-GET t c =
     let mark = sym c.mark_at-mark.ensures ∙ c.if-mark-eq-GET.true in
-    λ d. ways.same_answer c.in-Next-read.is
-    (ways.get_done _ d _ _ c.span_at-span.ensures _ c.u16_at-property.ensures mark (c.compile_expr-object.ensures _) c.in-Next-object.is (c.emit_op_name-read.ensures _))
+    λ d. ways.same_answer c.in-Ok-read.is
+    (ways.get_done _ d _ _ c.span_at-span.ensures _ c.u16_at-property.ensures mark (c.compile_expr-object.ensures _) c.in-Ok-object.is (c.emit_op_name-read.ensures _))
 
 -- ## A property set, which is what is left where no mark fits
 
@@ -416,35 +411,35 @@ compile_expr-holder-requires t c =
     let mark = ways.last_kind _ _ _ _ c.mark_at-mark.ensures c.requires.0.there.is c.if-mark-eq-LITERAL.false c.if-mark-eq-VARIABLE.false c.if-mark-eq-INFIX.false
     c.if-mark-eq-PREFIX.false c.if-mark-eq-CALL.false c.if-mark-eq-SUPER.false c.if-mark-eq-ASSIGN.false c.if-mark-eq-GET.false in
     let value_child = ways.set_value _ _ _ c.requires.0.there.is c.decreases mark in
-    let holder_child = ways.set_object _ _ _ c.requires.0.there.is c.decreases mark (c.compile_expr-value.ensures _) c.in-Next-value.is in (
+    let holder_child = ways.set_object _ _ _ c.requires.0.there.is c.decreases mark (c.compile_expr-value.ensures _) c.in-Ok-value.is in (
       ways.of_both (λ value object. search) value_child.less holder_child.less,
-      (ways.of_both (λ value object. search) value_child.there holder_child.there, ways.ran_fit value_child.there c.compile_expr-value.ensures c.in-Next-value.is),
+      (ways.of_both (λ value object. search) value_child.there holder_child.there, ways.ran_fit value_child.there c.compile_expr-value.ensures c.in-Ok-value.is),
     )
 
 pub returns-in_default-holder : goal.returns-in_default-holder
 returns-in_default-holder t c =
     let mark = ways.last_kind _ _ _ _ c.mark_at-mark.ensures c.requires.0.there.is c.if-mark-eq-LITERAL.false c.if-mark-eq-VARIABLE.false c.if-mark-eq-INFIX.false
     c.if-mark-eq-PREFIX.false c.if-mark-eq-CALL.false c.if-mark-eq-SUPER.false c.if-mark-eq-ASSIGN.false c.if-mark-eq-GET.false in
-    λ d. ways.set_stop_2 _ d _ mark (c.compile_expr-value.ensures _) c.in-Next-value.is (c.compile_expr-holder.ensures _) c.in_default-holder.is
+    λ d. ways.set_stop_2 _ d _ mark (c.compile_expr-value.ensures _) c.in-Ok-value.is (c.compile_expr-holder.ensures _) c.in_default-holder.is
 
 pub emit_op_name-put-requires : goal.emit_op_name-put-requires
 emit_op_name-put-requires t c =
     let mark = ways.last_kind _ _ _ _ c.mark_at-mark.ensures c.requires.0.there.is c.if-mark-eq-LITERAL.false c.if-mark-eq-VARIABLE.false c.if-mark-eq-INFIX.false
     c.if-mark-eq-PREFIX.false c.if-mark-eq-CALL.false c.if-mark-eq-SUPER.false c.if-mark-eq-ASSIGN.false c.if-mark-eq-GET.false in
-    let holder_child = ways.set_object _ _ _ c.requires.0.there.is c.decreases mark (c.compile_expr-value.ensures _) c.in-Next-value.is in
-    ways.ran_fit holder_child.there c.compile_expr-holder.ensures c.in-Next-holder.is
+    let holder_child = ways.set_object _ _ _ c.requires.0.there.is c.decreases mark (c.compile_expr-value.ensures _) c.in-Ok-value.is in
+    ways.ran_fit holder_child.there c.compile_expr-holder.ensures c.in-Ok-holder.is
 
 pub returns-in_default-put : goal.returns-in_default-put
 returns-in_default-put t c =
     let mark = ways.last_kind _ _ _ _ c.mark_at-mark.ensures c.requires.0.there.is c.if-mark-eq-LITERAL.false c.if-mark-eq-VARIABLE.false c.if-mark-eq-INFIX.false
     c.if-mark-eq-PREFIX.false c.if-mark-eq-CALL.false c.if-mark-eq-SUPER.false c.if-mark-eq-ASSIGN.false c.if-mark-eq-GET.false in
-    λ d. ways.set_done _ d _ _ c.span_at-span.ensures _ c.u16_at-field.ensures mark (c.compile_expr-value.ensures _) c.in-Next-value.is (c.compile_expr-holder.ensures _)
-    c.in-Next-holder.is (c.emit_op_name-put.ensures _)
+    λ d. ways.set_done _ d _ _ c.span_at-span.ensures _ c.u16_at-field.ensures mark (c.compile_expr-value.ensures _) c.in-Ok-value.is (c.compile_expr-holder.ensures _)
+    c.in-Ok-holder.is (c.emit_op_name-put.ensures _)
 
 pub returns : goal.returns
 returns t c =
     let mark = ways.last_kind _ _ _ _ c.mark_at-mark.ensures c.requires.0.there.is c.if-mark-eq-LITERAL.false c.if-mark-eq-VARIABLE.false c.if-mark-eq-INFIX.false
     c.if-mark-eq-PREFIX.false c.if-mark-eq-CALL.false c.if-mark-eq-SUPER.false c.if-mark-eq-ASSIGN.false c.if-mark-eq-GET.false in
-    λ d. ways.same_answer c.in-Next-put.is
-    (ways.set_done _ d _ _ c.span_at-span.ensures _ c.u16_at-field.ensures mark (c.compile_expr-value.ensures _) c.in-Next-value.is (c.compile_expr-holder.ensures _)
-    c.in-Next-holder.is (c.emit_op_name-put.ensures _))
+    λ d. ways.same_answer c.in-Ok-put.is
+    (ways.set_done _ d _ _ c.span_at-span.ensures _ c.u16_at-field.ensures mark (c.compile_expr-value.ensures _) c.in-Ok-value.is (c.compile_expr-holder.ensures _)
+    c.in-Ok-holder.is (c.emit_op_name-put.ensures _))

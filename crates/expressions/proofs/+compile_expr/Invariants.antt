@@ -11,10 +11,7 @@ use Rattle.expressions.proofs.+compile_expr.Given as goal
 abbrev pub decreases-compile_expr : goal.decreases-compile_expr
 decreases-compile_expr l = length l.tree.now - l.at
 
-abbrev pub invariant-loop-parts : goal.invariant-loop-parts
-invariant-loop-parts l =
-    ((d : ℕ) → Walk l.class l.limit l.level (expr_at l.tree d) l.initial.parts l.initial.next (mem l.initial.t l.initial.code l.initial.spans) (mem l.t l.code l.spans) l.next l.parts)
+abbrev pub invariant-loop : goal.invariant-loop
+invariant-loop l =
+    ((d : ℕ) → Walk l.class l.limit l.level (expr_at l.tree d) l.parts l.initial.next (mem l.initial.t l.initial.code l.initial.spans) (mem l.t l.code l.spans) l.next (l.parts - l.counter))
     × (l.at < l.next)
-
-abbrev pub decreases-loop-parts : goal.decreases-loop-parts
-decreases-loop-parts l = l.parts

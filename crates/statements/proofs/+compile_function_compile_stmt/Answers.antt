@@ -2,8 +2,10 @@
 -- out of it comes to.
 use mathlib.Core.Path.{◌∙◌, sym}
 use native.Mathlib.Omega.{arith}
+use Rattle.state.specs.Kinds.{number_of}
 use Rattle.steps.specs.View.{mem}
 use Rattle.stmt_laws.proofs.Calls as calls
+use Rattle.expr_laws.proofs.Counts.{all_left, more_left, none_left, one_less}
 use Rattle.statements.proofs.Blocks as blocks
 use Rattle.statements.proofs.Walks as walks
 use Rattle.statements.proofs.Methods as methods
@@ -12,14 +14,14 @@ use Rattle.statements.proofs.Functions as functions
 use Rattle.statements.proofs.Ifs as ifs
 use Rattle.statements.proofs.Whiles as whiles
 use Rattle.statements.proofs.+compile_function_compile_stmt.Goals as goal
-use Rattle.statements.proofs.+compile_function_compile_stmt.Goals.{compile_stmt-then-parts-eq1+in-Next-a-3, compile_stmt-else-parts-eq1}
+use Rattle.statements.proofs.+compile_function_compile_stmt.Goals.{compile_stmt-then-parts-eq1+in-Ok-a-3, compile_stmt-else-parts-eq1}
 
 -- ## A function
 
 pub compile_function-open_function-a-requires : goal.compile_function-open_function-a-requires
 compile_function-open_function-a-requires t c =
     let p = c.requires in
-    functions.head p c.args.kind c.args.span
+    functions.head p (number_of c.args.kind) c.args.span
 
 pub compile_function-returns-in_default : goal.compile_function-returns-in_default
 compile_function-returns-in_default t c =
@@ -29,19 +31,19 @@ compile_function-returns-in_default t c =
 pub compile_function-overflow_add-next : goal.compile_function-overflow_add-next
 compile_function-overflow_add-next t c =
     let p = c.requires in
-    let b = functions.bound p c.open_function-a.ensures c.in-Next.is in
+    let b = functions.bound p c.open_function-a.ensures c.in-Ok.is in
     omega (arith, b, c.well_formed)
 
-pub compile_function-u16_at-more-requires : goal.compile_function-u16_at-more-requires
-compile_function-u16_at-more-requires t c =
+pub compile_function-u16_at-count-requires : goal.compile_function-u16_at-count-requires
+compile_function-u16_at-count-requires t c =
     let p = c.requires in
-    let b = functions.bound p c.open_function-a.ensures c.in-Next.is in
+    let b = functions.bound p c.open_function-a.ensures c.in-Ok.is in
     omega (arith, b)
 
-pub compile_function-loop-more-init : goal.compile_function-loop-more-init
-compile_function-loop-more-init t c =
+pub compile_function-loop-init : goal.compile_function-loop-init
+compile_function-loop-init t c =
     let p = c.requires in
-    functions.start p c.open_function-a.ensures c.in-Next.is _ c.u16_at-more.ensures
+    functions.start p c.open_function-a.ensures c.in-Ok.is _ (all_left ∙ c.u16_at-count.ensures)
 
 pub compile_function-overflow_add-level : goal.compile_function-overflow_add-level
 compile_function-overflow_add-level t c =
@@ -52,36 +54,27 @@ compile_function-overflow_add-level t c =
 pub compile_function-compile_stmt-b-requires : goal.compile_function-compile_stmt-b-requires
 compile_function-compile_stmt-b-requires t c =
     let p = c.requires in
-    functions.child p c.open_function-a.ensures c.in-Next.is c.loop-more.invariant c.loop-more-test.true c.decreases
+    functions.child p c.open_function-a.ensures c.in-Ok.is c.loop.invariant (more_left c.loop-test.true) c.decreases
 
 pub compile_function-returns-in_default-b : goal.compile_function-returns-in_default-b
 compile_function-returns-in_default-b t c =
     let p = c.requires in
-    functions.stop_2 p c.open_function-a.ensures c.in-Next.is c.loop-more.invariant c.loop-more-test.true
+    functions.stop_2 p c.open_function-a.ensures c.in-Ok.is c.loop.invariant (more_left c.loop-test.true)
     c.compile_stmt-b.ensures c.in_default-b.is
 
-pub compile_function-overflow_sub-more : goal.compile_function-overflow_sub-more
-compile_function-overflow_sub-more t c =
-    c.loop-more-test.true
-
-pub compile_function-loop-more-smaller : goal.compile_function-loop-more-smaller
-compile_function-loop-more-smaller t c =
-    let h = c.loop-more-test.true in
-    omega (arith, h)
-
-pub compile_function-loop-more-preserved : goal.compile_function-loop-more-preserved
-compile_function-loop-more-preserved t c =
-    walks.in_step c.loop-more.invariant c.loop-more-test.true c.compile_stmt-b.ensures c.in-Next-b.is
+pub compile_function-loop-preserved : goal.compile_function-loop-preserved
+compile_function-loop-preserved t c =
+    walks.in_step c.loop.invariant (more_left c.loop-test.true) c.compile_stmt-b.ensures c.in-Ok-b.is (one_less c.loop-test.true)
 
 pub compile_function-close_function-requires : goal.compile_function-close_function-requires
 compile_function-close_function-requires t c =
     let p = c.requires in
-    functions.close p c.open_function-a.ensures c.in-Next.is c.loop-more.invariant c.loop-more-test.false
+    functions.close p c.open_function-a.ensures c.in-Ok.is c.loop.invariant (none_left c.loop-test.false)
 
 pub compile_function-returns : goal.compile_function-returns
 compile_function-returns t c =
     let p = c.requires in
-    functions.done p c.open_function-a.ensures c.in-Next.is c.loop-more.invariant c.loop-more-test.false
+    functions.done p c.open_function-a.ensures c.in-Ok.is c.loop.invariant (none_left c.loop-test.false)
     c.close_function.ensures
 
 -- ## A statement, before the arms
@@ -116,57 +109,48 @@ compile_stmt-overflow_add-at-then-mark-eq-BLOCK t c =
     let b = blocks.bound p mark in
     omega (arith, b, c.well_formed)
 
-pub compile_stmt-u16_at-more-requires : goal.compile_stmt-u16_at-more-requires
-compile_stmt-u16_at-more-requires t c =
+pub compile_stmt-u16_at-count-requires : goal.compile_stmt-u16_at-count-requires
+compile_stmt-u16_at-count-requires t c =
     let mark = sym c.mark_at-mark.ensures ∙ c.if-mark-eq-BLOCK.true in
     let p = c.requires in
     let b = blocks.bound p mark in
     omega (arith, b)
 
-pub compile_stmt-loop-more-init : goal.compile_stmt-loop-more-init
-compile_stmt-loop-more-init t c =
+pub compile_stmt-loop-init : goal.compile_stmt-loop-init
+compile_stmt-loop-init t c =
     let mark = sym c.mark_at-mark.ensures ∙ c.if-mark-eq-BLOCK.true in
     let p = c.requires in
-    blocks.start p mark (c.begin_scope.ensures.gives _ _ p.ready.fit) _ c.u16_at-more.ensures
+    blocks.start p mark (c.begin_scope.ensures.gives _ _ p.ready.fit) _ (all_left ∙ c.u16_at-count.ensures)
 
 pub compile_stmt-compile_stmt-a-requires : goal.compile_stmt-compile_stmt-a-requires
 compile_stmt-compile_stmt-a-requires t c =
     let p = c.requires in
-    walks.in_stmt c.loop-more.invariant c.loop-more-test.true (calls.bound _ _ _ _ p.there) c.decreases
+    walks.in_stmt c.loop.invariant (more_left c.loop-test.true) (calls.bound _ _ _ _ p.there) c.decreases
 
 pub compile_stmt-returns-in_default : goal.compile_stmt-returns-in_default
 compile_stmt-returns-in_default t c =
     let mark = sym c.mark_at-mark.ensures ∙ c.if-mark-eq-BLOCK.true in
     let p = c.requires in
     blocks.stop p mark (c.begin_scope.ensures.gives _ _ p.ready.fit) c.span_at-span.ensures
-    c.loop-more.invariant c.loop-more-test.true c.compile_stmt-a.ensures c.in_default.is
+    c.loop.invariant (more_left c.loop-test.true) c.compile_stmt-a.ensures c.in_default.is
 
-pub compile_stmt-overflow_sub-more : goal.compile_stmt-overflow_sub-more
-compile_stmt-overflow_sub-more t c =
-    c.loop-more-test.true
-
-pub compile_stmt-loop-more-smaller : goal.compile_stmt-loop-more-smaller
-compile_stmt-loop-more-smaller t c =
-    let h = c.loop-more-test.true in
-    omega (arith, h)
-
-pub compile_stmt-loop-more-preserved : goal.compile_stmt-loop-more-preserved
-compile_stmt-loop-more-preserved t c =
-    walks.in_step c.loop-more.invariant c.loop-more-test.true c.compile_stmt-a.ensures c.in-Next.is
+pub compile_stmt-loop-preserved : goal.compile_stmt-loop-preserved
+compile_stmt-loop-preserved t c =
+    walks.in_step c.loop.invariant (more_left c.loop-test.true) c.compile_stmt-a.ensures c.in-Ok.is (one_less c.loop-test.true)
 
 pub compile_stmt-end_scope-requires : goal.compile_stmt-end_scope-requires
 compile_stmt-end_scope-requires t c =
     let mark = sym c.mark_at-mark.ensures ∙ c.if-mark-eq-BLOCK.true in
     let p = c.requires in
     blocks.end p mark (c.begin_scope.ensures.gives _ _ p.ready.fit) c.span_at-span.ensures
-    c.loop-more.invariant c.loop-more-test.false
+    c.loop.invariant (none_left c.loop-test.false)
 
 pub compile_stmt-returns-then-mark-eq-BLOCK : goal.compile_stmt-returns-then-mark-eq-BLOCK
 compile_stmt-returns-then-mark-eq-BLOCK t c =
     let mark = sym c.mark_at-mark.ensures ∙ c.if-mark-eq-BLOCK.true in
     let p = c.requires in
     blocks.done p mark (c.begin_scope.ensures.gives _ _ p.ready.fit) c.span_at-span.ensures
-    c.loop-more.invariant c.loop-more-test.false c.end_scope.ensures
+    c.loop.invariant (none_left c.loop-test.false) c.end_scope.ensures
 
 -- ## An `if`
 
@@ -193,42 +177,42 @@ pub compile_stmt-open_jump-b-requires : goal.compile_stmt-open_jump-b-requires
 compile_stmt-open_jump-b-requires t c =
     let mark = sym c.mark_at-mark.ensures ∙ c.if-mark-eq-IF.true in
     let p = c.requires in
-    ifs.fit p mark c.span_at-span.ensures c.compile_expr-a.ensures c.in-Next-a.is
+    ifs.fit p mark c.span_at-span.ensures c.compile_expr-a.ensures c.in-Ok-a.is
 
 pub compile_stmt-returns-in_default-b : goal.compile_stmt-returns-in_default-b
 compile_stmt-returns-in_default-b t c =
     let mark = sym c.mark_at-mark.ensures ∙ c.if-mark-eq-IF.true in
     let p = c.requires in
-    ifs.stop_2 p mark c.span_at-span.ensures c.compile_expr-a.ensures c.in-Next-a.is c.open_jump-b.ensures _
+    ifs.stop_2 p mark c.span_at-span.ensures c.compile_expr-a.ensures c.in-Ok-a.is c.open_jump-b.ensures _
     c.in_default-b.is
 
 pub compile_stmt-compile_stmt-d-requires : goal.compile_stmt-compile_stmt-d-requires
 compile_stmt-compile_stmt-d-requires t c =
     let mark = sym c.mark_at-mark.ensures ∙ c.if-mark-eq-IF.true in
     let p = c.requires in
-    ifs.yes p mark c.span_at-span.ensures c.compile_expr-a.ensures c.in-Next-a.is c.open_jump-b.ensures
-    c.in-Next-b.is c.decreases
+    ifs.yes p mark c.span_at-span.ensures c.compile_expr-a.ensures c.in-Ok-a.is c.open_jump-b.ensures
+    c.in-Ok-b.is c.decreases
 
 pub compile_stmt-returns-in_default-d : goal.compile_stmt-returns-in_default-d
 compile_stmt-returns-in_default-d t c =
     let mark = sym c.mark_at-mark.ensures ∙ c.if-mark-eq-IF.true in
     let p = c.requires in
-    ifs.stop_3 p mark c.span_at-span.ensures c.compile_expr-a.ensures c.in-Next-a.is c.open_jump-b.ensures
-    c.in-Next-b.is c.compile_stmt-d.ensures c.in_default-d.is
+    ifs.stop_3 p mark c.span_at-span.ensures c.compile_expr-a.ensures c.in-Ok-a.is c.open_jump-b.ensures
+    c.in-Ok-b.is c.compile_stmt-d.ensures c.in_default-d.is
 
 pub compile_stmt-turn_jump-e-requires : goal.compile_stmt-turn_jump-e-requires
 compile_stmt-turn_jump-e-requires t c =
     let mark = sym c.mark_at-mark.ensures ∙ c.if-mark-eq-IF.true in
     let p = c.requires in
-    ifs.turn p mark c.span_at-span.ensures c.compile_expr-a.ensures c.in-Next-a.is c.open_jump-b.ensures
-    c.in-Next-b.is c.compile_stmt-d.ensures c.in-Next-d.is
+    ifs.turn p mark c.span_at-span.ensures c.compile_expr-a.ensures c.in-Ok-a.is c.open_jump-b.ensures
+    c.in-Ok-b.is c.compile_stmt-d.ensures c.in-Ok-d.is
 
 pub compile_stmt-returns-in_default-e : goal.compile_stmt-returns-in_default-e
 compile_stmt-returns-in_default-e t c =
     let mark = sym c.mark_at-mark.ensures ∙ c.if-mark-eq-IF.true in
     let p = c.requires in
-    ifs.stop_4 p mark c.span_at-span.ensures c.compile_expr-a.ensures c.in-Next-a.is c.open_jump-b.ensures
-    c.in-Next-b.is c.compile_stmt-d.ensures c.in-Next-d.is c.turn_jump-e.ensures c.in_default-e.is
+    ifs.stop_4 p mark c.span_at-span.ensures c.compile_expr-a.ensures c.in-Ok-a.is c.open_jump-b.ensures
+    c.in-Ok-b.is c.compile_stmt-d.ensures c.in-Ok-d.is c.turn_jump-e.ensures c.in_default-e.is
 
 pub compile_stmt-overflow_add-at-then-mark-eq-IF-2 : goal.compile_stmt-overflow_add-at-then-mark-eq-IF-2
 compile_stmt-overflow_add-at-then-mark-eq-IF-2 t c =
@@ -248,49 +232,49 @@ pub compile_stmt-patch_jump-requires : goal.compile_stmt-patch_jump-requires
 compile_stmt-patch_jump-requires t c =
     let mark = sym c.mark_at-mark.ensures ∙ c.if-mark-eq-IF.true in
     let p = c.requires in
-    ifs.none_patch p mark c.span_at-span.ensures c.compile_expr-a.ensures c.in-Next-a.is c.open_jump-b.ensures
-    c.in-Next-b.is c.compile_stmt-d.ensures c.in-Next-d.is c.turn_jump-e.ensures c.in-Next-e.is
+    ifs.none_patch p mark c.span_at-span.ensures c.compile_expr-a.ensures c.in-Ok-a.is c.open_jump-b.ensures
+    c.in-Ok-b.is c.compile_stmt-d.ensures c.in-Ok-d.is c.turn_jump-e.ensures c.in-Ok-e.is
     c.u8_at.ensures c.if-u8_at-eq0.true
 
 pub compile_stmt-returns-then-u8_at-eq0 : goal.compile_stmt-returns-then-u8_at-eq0
 compile_stmt-returns-then-u8_at-eq0 t c =
     let mark = sym c.mark_at-mark.ensures ∙ c.if-mark-eq-IF.true in
     let p = c.requires in
-    ifs.none_done p mark c.span_at-span.ensures c.compile_expr-a.ensures c.in-Next-a.is c.open_jump-b.ensures
-    c.in-Next-b.is c.compile_stmt-d.ensures c.in-Next-d.is c.turn_jump-e.ensures c.in-Next-e.is
+    ifs.none_done p mark c.span_at-span.ensures c.compile_expr-a.ensures c.in-Ok-a.is c.open_jump-b.ensures
+    c.in-Ok-b.is c.compile_stmt-d.ensures c.in-Ok-d.is c.turn_jump-e.ensures c.in-Ok-e.is
     c.u8_at.ensures c.if-u8_at-eq0.true c.patch_jump.ensures
 
 pub compile_stmt-compile_stmt-f-requires : goal.compile_stmt-compile_stmt-f-requires
 compile_stmt-compile_stmt-f-requires t c =
     let mark = sym c.mark_at-mark.ensures ∙ c.if-mark-eq-IF.true in
     let p = c.requires in
-    ifs.no p mark c.span_at-span.ensures c.compile_expr-a.ensures c.in-Next-a.is c.open_jump-b.ensures
-    c.in-Next-b.is c.compile_stmt-d.ensures c.in-Next-d.is c.turn_jump-e.ensures c.in-Next-e.is
+    ifs.no p mark c.span_at-span.ensures c.compile_expr-a.ensures c.in-Ok-a.is c.open_jump-b.ensures
+    c.in-Ok-b.is c.compile_stmt-d.ensures c.in-Ok-d.is c.turn_jump-e.ensures c.in-Ok-e.is
     c.u8_at.ensures c.if-u8_at-eq0.false c.decreases
 
 pub compile_stmt-returns-in_default-f : goal.compile_stmt-returns-in_default-f
 compile_stmt-returns-in_default-f t c =
     let mark = sym c.mark_at-mark.ensures ∙ c.if-mark-eq-IF.true in
     let p = c.requires in
-    ifs.stop_5 p mark c.span_at-span.ensures c.compile_expr-a.ensures c.in-Next-a.is c.open_jump-b.ensures
-    c.in-Next-b.is c.compile_stmt-d.ensures c.in-Next-d.is c.turn_jump-e.ensures c.in-Next-e.is
+    ifs.stop_5 p mark c.span_at-span.ensures c.compile_expr-a.ensures c.in-Ok-a.is c.open_jump-b.ensures
+    c.in-Ok-b.is c.compile_stmt-d.ensures c.in-Ok-d.is c.turn_jump-e.ensures c.in-Ok-e.is
     c.u8_at.ensures c.if-u8_at-eq0.false c.compile_stmt-f.ensures c.in_default-f.is
 
 pub compile_stmt-patch_jump-requires-then-mark-eq-IF : goal.compile_stmt-patch_jump-requires-then-mark-eq-IF
 compile_stmt-patch_jump-requires-then-mark-eq-IF t c =
     let mark = sym c.mark_at-mark.ensures ∙ c.if-mark-eq-IF.true in
     let p = c.requires in
-    ifs.one_patch p mark c.span_at-span.ensures c.compile_expr-a.ensures c.in-Next-a.is c.open_jump-b.ensures
-    c.in-Next-b.is c.compile_stmt-d.ensures c.in-Next-d.is c.turn_jump-e.ensures c.in-Next-e.is
-    c.u8_at.ensures c.if-u8_at-eq0.false c.compile_stmt-f.ensures c.in-Next-f.is
+    ifs.one_patch p mark c.span_at-span.ensures c.compile_expr-a.ensures c.in-Ok-a.is c.open_jump-b.ensures
+    c.in-Ok-b.is c.compile_stmt-d.ensures c.in-Ok-d.is c.turn_jump-e.ensures c.in-Ok-e.is
+    c.u8_at.ensures c.if-u8_at-eq0.false c.compile_stmt-f.ensures c.in-Ok-f.is
 
 pub compile_stmt-returns-then-mark-eq-IF : goal.compile_stmt-returns-then-mark-eq-IF
 compile_stmt-returns-then-mark-eq-IF t c =
     let mark = sym c.mark_at-mark.ensures ∙ c.if-mark-eq-IF.true in
     let p = c.requires in
-    ifs.one_done p mark c.span_at-span.ensures c.compile_expr-a.ensures c.in-Next-a.is c.open_jump-b.ensures
-    c.in-Next-b.is c.compile_stmt-d.ensures c.in-Next-d.is c.turn_jump-e.ensures c.in-Next-e.is
-    c.u8_at.ensures c.if-u8_at-eq0.false c.compile_stmt-f.ensures c.in-Next-f.is c.patch_jump-then-mark-eq-IF.ensures
+    ifs.one_done p mark c.span_at-span.ensures c.compile_expr-a.ensures c.in-Ok-a.is c.open_jump-b.ensures
+    c.in-Ok-b.is c.compile_stmt-d.ensures c.in-Ok-d.is c.turn_jump-e.ensures c.in-Ok-e.is
+    c.u8_at.ensures c.if-u8_at-eq0.false c.compile_stmt-f.ensures c.in-Ok-f.is c.patch_jump-then-mark-eq-IF.ensures
 
 -- ## A `while`
 
@@ -321,42 +305,42 @@ pub compile_stmt-open_jump-b-requires-then-mark-eq-WHILE : goal.compile_stmt-ope
 compile_stmt-open_jump-b-requires-then-mark-eq-WHILE t c =
     let mark = sym c.mark_at-mark.ensures ∙ c.if-mark-eq-WHILE.true in
     let p = c.requires in
-    whiles.fit p mark c.span_at-span.ensures c.code_length-start.ensures c.compile_expr-a-then-mark-eq-WHILE.ensures c.in-Next-a-2.is
+    whiles.fit p mark c.span_at-span.ensures c.code_length-start.ensures c.compile_expr-a-then-mark-eq-WHILE.ensures c.in-Ok-a-2.is
 
 pub compile_stmt-returns-in_default-b-2 : goal.compile_stmt-returns-in_default-b-2
 compile_stmt-returns-in_default-b-2 t c =
     let mark = sym c.mark_at-mark.ensures ∙ c.if-mark-eq-WHILE.true in
     let p = c.requires in
-    whiles.stop_2 p mark c.span_at-span.ensures c.code_length-start.ensures c.compile_expr-a-then-mark-eq-WHILE.ensures c.in-Next-a-2.is
+    whiles.stop_2 p mark c.span_at-span.ensures c.code_length-start.ensures c.compile_expr-a-then-mark-eq-WHILE.ensures c.in-Ok-a-2.is
     c.open_jump-b-then-mark-eq-WHILE.ensures _ c.in_default-b-2.is
 
 pub compile_stmt-compile_stmt-d-requires-then-mark-eq-WHILE : goal.compile_stmt-compile_stmt-d-requires-then-mark-eq-WHILE
 compile_stmt-compile_stmt-d-requires-then-mark-eq-WHILE t c =
     let mark = sym c.mark_at-mark.ensures ∙ c.if-mark-eq-WHILE.true in
     let p = c.requires in
-    whiles.body p mark c.span_at-span.ensures c.code_length-start.ensures c.compile_expr-a-then-mark-eq-WHILE.ensures c.in-Next-a-2.is
-    c.open_jump-b-then-mark-eq-WHILE.ensures c.in-Next-b-2.is c.decreases
+    whiles.body p mark c.span_at-span.ensures c.code_length-start.ensures c.compile_expr-a-then-mark-eq-WHILE.ensures c.in-Ok-a-2.is
+    c.open_jump-b-then-mark-eq-WHILE.ensures c.in-Ok-b-2.is c.decreases
 
 pub compile_stmt-returns-in_default-d-2 : goal.compile_stmt-returns-in_default-d-2
 compile_stmt-returns-in_default-d-2 t c =
     let mark = sym c.mark_at-mark.ensures ∙ c.if-mark-eq-WHILE.true in
     let p = c.requires in
-    whiles.stop_3 p mark c.span_at-span.ensures c.code_length-start.ensures c.compile_expr-a-then-mark-eq-WHILE.ensures c.in-Next-a-2.is
-    c.open_jump-b-then-mark-eq-WHILE.ensures c.in-Next-b-2.is c.compile_stmt-d-then-mark-eq-WHILE.ensures c.in_default-d-2.is
+    whiles.stop_3 p mark c.span_at-span.ensures c.code_length-start.ensures c.compile_expr-a-then-mark-eq-WHILE.ensures c.in-Ok-a-2.is
+    c.open_jump-b-then-mark-eq-WHILE.ensures c.in-Ok-b-2.is c.compile_stmt-d-then-mark-eq-WHILE.ensures c.in_default-d-2.is
 
 pub compile_stmt-close_loop-requires : goal.compile_stmt-close_loop-requires
 compile_stmt-close_loop-requires t c =
     let mark = sym c.mark_at-mark.ensures ∙ c.if-mark-eq-WHILE.true in
     let p = c.requires in
-    whiles.close p mark c.span_at-span.ensures c.code_length-start.ensures c.compile_expr-a-then-mark-eq-WHILE.ensures c.in-Next-a-2.is
-    c.open_jump-b-then-mark-eq-WHILE.ensures c.in-Next-b-2.is c.compile_stmt-d-then-mark-eq-WHILE.ensures c.in-Next-d-2.is
+    whiles.close p mark c.span_at-span.ensures c.code_length-start.ensures c.compile_expr-a-then-mark-eq-WHILE.ensures c.in-Ok-a-2.is
+    c.open_jump-b-then-mark-eq-WHILE.ensures c.in-Ok-b-2.is c.compile_stmt-d-then-mark-eq-WHILE.ensures c.in-Ok-d-2.is
 
 pub compile_stmt-returns-then-mark-eq-WHILE : goal.compile_stmt-returns-then-mark-eq-WHILE
 compile_stmt-returns-then-mark-eq-WHILE t c =
     let mark = sym c.mark_at-mark.ensures ∙ c.if-mark-eq-WHILE.true in
     let p = c.requires in
-    whiles.done p mark c.span_at-span.ensures c.code_length-start.ensures c.compile_expr-a-then-mark-eq-WHILE.ensures c.in-Next-a-2.is
-    c.open_jump-b-then-mark-eq-WHILE.ensures c.in-Next-b-2.is c.compile_stmt-d-then-mark-eq-WHILE.ensures c.in-Next-d-2.is c.close_loop.ensures
+    whiles.done p mark c.span_at-span.ensures c.code_length-start.ensures c.compile_expr-a-then-mark-eq-WHILE.ensures c.in-Ok-a-2.is
+    c.open_jump-b-then-mark-eq-WHILE.ensures c.in-Ok-b-2.is c.compile_stmt-d-then-mark-eq-WHILE.ensures c.in-Ok-d-2.is c.close_loop.ensures
 
 -- ## A `for`, whose two ways into it meet: what its start comes to is read off the way that was taken
 
@@ -407,39 +391,39 @@ compile_stmt-code_length-start-requires-then-mark-eq-FOR t c =
     let e = c.u8_at-parts.ensures in
     let o = c.begin_scope-then-mark-eq-FOR.ensures.gives _ _ p.ready.fit in
     let f = fors.fit p mark e o c.span_at-span.ensures (elim c.if-parts-eq1.branch [
-      | compile_stmt-then-parts-eq1+in-Next-a-3 w ↦ fors.came p w.t-is w.code-is w.spans-is w.out-is w.next-is
-          (fors.init_one p mark e o w.if-parts-eq1.true w.compile_stmt-a-then-parts-eq1.ensures w.in-Next-a-3.is)
+      | compile_stmt-then-parts-eq1+in-Ok-a-3 w ↦ fors.came p w.t-is w.code-is w.spans-is w.out-is w.next-is
+          (fors.init_one p mark e o w.if-parts-eq1.true w.compile_stmt-a-then-parts-eq1.ensures w.in-Ok-a-3.is)
       | compile_stmt-else-parts-eq1 w ↦ fors.came p w.t-is w.code-is w.spans-is w.out-is w.next-is (fors.init_none p mark e o w.if-parts-eq1.false _)
     ]) in
     (f.low, f.wf.size, f.coded.top)
 
-pub compile_stmt-for_cond-b-requires : goal.compile_stmt-for_cond-b-requires
-compile_stmt-for_cond-b-requires t c =
+pub compile_stmt-for_cond-tested-requires : goal.compile_stmt-for_cond-tested-requires
+compile_stmt-for_cond-tested-requires t c =
     let mark = sym c.mark_at-mark.ensures ∙ c.if-mark-eq-FOR.true in
     let p = c.requires in
     let e = c.u8_at-parts.ensures in
     let o = c.begin_scope-then-mark-eq-FOR.ensures.gives _ _ p.ready.fit in
     let init : fors.Init c.args.class c.args.limit c.args.level c.args.tree.now p.left c.args.at (mem c.begin_scope-then-mark-eq-FOR.new.t c.args.code.now c.args.spans.now) c.args.out.now
     (mem c.if-parts-eq1.t c.if-parts-eq1.code c.if-parts-eq1.spans) c.if-parts-eq1.out c.if-parts-eq1.next = elim c.if-parts-eq1.branch [
-      | compile_stmt-then-parts-eq1+in-Next-a-3 w ↦ fors.came p w.t-is w.code-is w.spans-is w.out-is w.next-is
-          (fors.init_one p mark e o w.if-parts-eq1.true w.compile_stmt-a-then-parts-eq1.ensures w.in-Next-a-3.is)
+      | compile_stmt-then-parts-eq1+in-Ok-a-3 w ↦ fors.came p w.t-is w.code-is w.spans-is w.out-is w.next-is
+          (fors.init_one p mark e o w.if-parts-eq1.true w.compile_stmt-a-then-parts-eq1.ensures w.in-Ok-a-3.is)
       | compile_stmt-else-parts-eq1 w ↦ fors.came p w.t-is w.code-is w.spans-is w.out-is w.next-is (fors.init_none p mark e o w.if-parts-eq1.false _)
     ] in (
       fors.cond_there p mark e o c.span_at-span.ensures init,
       fors.fit p mark e o c.span_at-span.ensures init,
     )
 
-pub compile_stmt-returns-in_default-test : goal.compile_stmt-returns-in_default-test
-compile_stmt-returns-in_default-test t c =
+pub compile_stmt-returns-in-Err : goal.compile_stmt-returns-in-Err
+compile_stmt-returns-in-Err t c =
     let mark = sym c.mark_at-mark.ensures ∙ c.if-mark-eq-FOR.true in
     let p = c.requires in
     let e = c.u8_at-parts.ensures in
     let o = c.begin_scope-then-mark-eq-FOR.ensures.gives _ _ p.ready.fit in
     fors.stop_2 p mark e o c.span_at-span.ensures (elim c.if-parts-eq1.branch [
-      | compile_stmt-then-parts-eq1+in-Next-a-3 w ↦ fors.came p w.t-is w.code-is w.spans-is w.out-is w.next-is
-          (fors.init_one p mark e o w.if-parts-eq1.true w.compile_stmt-a-then-parts-eq1.ensures w.in-Next-a-3.is)
+      | compile_stmt-then-parts-eq1+in-Ok-a-3 w ↦ fors.came p w.t-is w.code-is w.spans-is w.out-is w.next-is
+          (fors.init_one p mark e o w.if-parts-eq1.true w.compile_stmt-a-then-parts-eq1.ensures w.in-Ok-a-3.is)
       | compile_stmt-else-parts-eq1 w ↦ fors.came p w.t-is w.code-is w.spans-is w.out-is w.next-is (fors.init_none p mark e o w.if-parts-eq1.false _)
-    ]) c.code_length-start-then-mark-eq-FOR.ensures c.for_cond-b.ensures c.in_default-test.is
+    ]) c.code_length-start-then-mark-eq-FOR.ensures c.for_cond-tested.ensures c.in-Err.is
 
 pub compile_stmt-compile_stmt-d-requires-then-mark-eq-FOR : goal.compile_stmt-compile_stmt-d-requires-then-mark-eq-FOR
 compile_stmt-compile_stmt-d-requires-then-mark-eq-FOR t c =
@@ -448,10 +432,10 @@ compile_stmt-compile_stmt-d-requires-then-mark-eq-FOR t c =
     let e = c.u8_at-parts.ensures in
     let o = c.begin_scope-then-mark-eq-FOR.ensures.gives _ _ p.ready.fit in
     fors.body p mark e o c.span_at-span.ensures (elim c.if-parts-eq1.branch [
-      | compile_stmt-then-parts-eq1+in-Next-a-3 w ↦ fors.came p w.t-is w.code-is w.spans-is w.out-is w.next-is
-          (fors.init_one p mark e o w.if-parts-eq1.true w.compile_stmt-a-then-parts-eq1.ensures w.in-Next-a-3.is)
+      | compile_stmt-then-parts-eq1+in-Ok-a-3 w ↦ fors.came p w.t-is w.code-is w.spans-is w.out-is w.next-is
+          (fors.init_one p mark e o w.if-parts-eq1.true w.compile_stmt-a-then-parts-eq1.ensures w.in-Ok-a-3.is)
       | compile_stmt-else-parts-eq1 w ↦ fors.came p w.t-is w.code-is w.spans-is w.out-is w.next-is (fors.init_none p mark e o w.if-parts-eq1.false _)
-    ]) c.code_length-start-then-mark-eq-FOR.ensures c.for_cond-b.ensures c.in-Next-test.is c.decreases
+    ]) c.code_length-start-then-mark-eq-FOR.ensures c.for_cond-tested.ensures c.in-Ok-tested.is c.decreases
 
 pub compile_stmt-returns-in_default-d-3 : goal.compile_stmt-returns-in_default-d-3
 compile_stmt-returns-in_default-d-3 t c =
@@ -460,10 +444,10 @@ compile_stmt-returns-in_default-d-3 t c =
     let e = c.u8_at-parts.ensures in
     let o = c.begin_scope-then-mark-eq-FOR.ensures.gives _ _ p.ready.fit in
     fors.stop_3 p mark e o c.span_at-span.ensures (elim c.if-parts-eq1.branch [
-      | compile_stmt-then-parts-eq1+in-Next-a-3 w ↦ fors.came p w.t-is w.code-is w.spans-is w.out-is w.next-is
-          (fors.init_one p mark e o w.if-parts-eq1.true w.compile_stmt-a-then-parts-eq1.ensures w.in-Next-a-3.is)
+      | compile_stmt-then-parts-eq1+in-Ok-a-3 w ↦ fors.came p w.t-is w.code-is w.spans-is w.out-is w.next-is
+          (fors.init_one p mark e o w.if-parts-eq1.true w.compile_stmt-a-then-parts-eq1.ensures w.in-Ok-a-3.is)
       | compile_stmt-else-parts-eq1 w ↦ fors.came p w.t-is w.code-is w.spans-is w.out-is w.next-is (fors.init_none p mark e o w.if-parts-eq1.false _)
-    ]) c.code_length-start-then-mark-eq-FOR.ensures c.for_cond-b.ensures c.in-Next-test.is c.compile_stmt-d-then-mark-eq-FOR.ensures c.in_default-d-3.is
+    ]) c.code_length-start-then-mark-eq-FOR.ensures c.for_cond-tested.ensures c.in-Ok-tested.is c.compile_stmt-d-then-mark-eq-FOR.ensures c.in_default-d-3.is
 
 pub compile_stmt-for_incr-e-requires : goal.compile_stmt-for_incr-e-requires
 compile_stmt-for_incr-e-requires t c =
@@ -473,14 +457,14 @@ compile_stmt-for_incr-e-requires t c =
     let o = c.begin_scope-then-mark-eq-FOR.ensures.gives _ _ p.ready.fit in
     let init : fors.Init c.args.class c.args.limit c.args.level c.args.tree.now p.left c.args.at (mem c.begin_scope-then-mark-eq-FOR.new.t c.args.code.now c.args.spans.now) c.args.out.now
     (mem c.if-parts-eq1.t c.if-parts-eq1.code c.if-parts-eq1.spans) c.if-parts-eq1.out c.if-parts-eq1.next = elim c.if-parts-eq1.branch [
-      | compile_stmt-then-parts-eq1+in-Next-a-3 w ↦ fors.came p w.t-is w.code-is w.spans-is w.out-is w.next-is
-          (fors.init_one p mark e o w.if-parts-eq1.true w.compile_stmt-a-then-parts-eq1.ensures w.in-Next-a-3.is)
+      | compile_stmt-then-parts-eq1+in-Ok-a-3 w ↦ fors.came p w.t-is w.code-is w.spans-is w.out-is w.next-is
+          (fors.init_one p mark e o w.if-parts-eq1.true w.compile_stmt-a-then-parts-eq1.ensures w.in-Ok-a-3.is)
       | compile_stmt-else-parts-eq1 w ↦ fors.came p w.t-is w.code-is w.spans-is w.out-is w.next-is (fors.init_none p mark e o w.if-parts-eq1.false _)
     ] in (
-      fors.incr_there p mark e o c.span_at-span.ensures init c.code_length-start-then-mark-eq-FOR.ensures c.for_cond-b.ensures c.in-Next-test.is c.compile_stmt-d-then-mark-eq-FOR.ensures
-          c.in-Next-d-3.is,
-      fors.fit_2 p mark e o c.span_at-span.ensures init c.code_length-start-then-mark-eq-FOR.ensures c.for_cond-b.ensures c.in-Next-test.is c.compile_stmt-d-then-mark-eq-FOR.ensures
-          c.in-Next-d-3.is,
+      fors.incr_there p mark e o c.span_at-span.ensures init c.code_length-start-then-mark-eq-FOR.ensures c.for_cond-tested.ensures c.in-Ok-tested.is c.compile_stmt-d-then-mark-eq-FOR.ensures
+          c.in-Ok-d-3.is,
+      fors.fit_2 p mark e o c.span_at-span.ensures init c.code_length-start-then-mark-eq-FOR.ensures c.for_cond-tested.ensures c.in-Ok-tested.is c.compile_stmt-d-then-mark-eq-FOR.ensures
+          c.in-Ok-d-3.is,
     )
 
 pub compile_stmt-returns-in_default-e-2 : goal.compile_stmt-returns-in_default-e-2
@@ -490,10 +474,10 @@ compile_stmt-returns-in_default-e-2 t c =
     let e = c.u8_at-parts.ensures in
     let o = c.begin_scope-then-mark-eq-FOR.ensures.gives _ _ p.ready.fit in
     fors.stop_4 p mark e o c.span_at-span.ensures (elim c.if-parts-eq1.branch [
-      | compile_stmt-then-parts-eq1+in-Next-a-3 w ↦ fors.came p w.t-is w.code-is w.spans-is w.out-is w.next-is
-          (fors.init_one p mark e o w.if-parts-eq1.true w.compile_stmt-a-then-parts-eq1.ensures w.in-Next-a-3.is)
+      | compile_stmt-then-parts-eq1+in-Ok-a-3 w ↦ fors.came p w.t-is w.code-is w.spans-is w.out-is w.next-is
+          (fors.init_one p mark e o w.if-parts-eq1.true w.compile_stmt-a-then-parts-eq1.ensures w.in-Ok-a-3.is)
       | compile_stmt-else-parts-eq1 w ↦ fors.came p w.t-is w.code-is w.spans-is w.out-is w.next-is (fors.init_none p mark e o w.if-parts-eq1.false _)
-    ]) c.code_length-start-then-mark-eq-FOR.ensures c.for_cond-b.ensures c.in-Next-test.is c.compile_stmt-d-then-mark-eq-FOR.ensures c.in-Next-d-3.is
+    ]) c.code_length-start-then-mark-eq-FOR.ensures c.for_cond-tested.ensures c.in-Ok-tested.is c.compile_stmt-d-then-mark-eq-FOR.ensures c.in-Ok-d-3.is
     c.for_incr-e.ensures c.in_default-e-2.is
 
 pub compile_stmt-close_loop-f-requires : goal.compile_stmt-close_loop-f-requires
@@ -503,11 +487,11 @@ compile_stmt-close_loop-f-requires t c =
     let e = c.u8_at-parts.ensures in
     let o = c.begin_scope-then-mark-eq-FOR.ensures.gives _ _ p.ready.fit in
     fors.close p mark e o c.span_at-span.ensures (elim c.if-parts-eq1.branch [
-      | compile_stmt-then-parts-eq1+in-Next-a-3 w ↦ fors.came p w.t-is w.code-is w.spans-is w.out-is w.next-is
-          (fors.init_one p mark e o w.if-parts-eq1.true w.compile_stmt-a-then-parts-eq1.ensures w.in-Next-a-3.is)
+      | compile_stmt-then-parts-eq1+in-Ok-a-3 w ↦ fors.came p w.t-is w.code-is w.spans-is w.out-is w.next-is
+          (fors.init_one p mark e o w.if-parts-eq1.true w.compile_stmt-a-then-parts-eq1.ensures w.in-Ok-a-3.is)
       | compile_stmt-else-parts-eq1 w ↦ fors.came p w.t-is w.code-is w.spans-is w.out-is w.next-is (fors.init_none p mark e o w.if-parts-eq1.false _)
-    ]) c.code_length-start-then-mark-eq-FOR.ensures c.for_cond-b.ensures c.in-Next-test.is c.compile_stmt-d-then-mark-eq-FOR.ensures c.in-Next-d-3.is
-    c.for_incr-e.ensures c.in-Next-e-2.is
+    ]) c.code_length-start-then-mark-eq-FOR.ensures c.for_cond-tested.ensures c.in-Ok-tested.is c.compile_stmt-d-then-mark-eq-FOR.ensures c.in-Ok-d-3.is
+    c.for_incr-e.ensures c.in-Ok-e-2.is
 
 pub compile_stmt-returns-in_default-f-2 : goal.compile_stmt-returns-in_default-f-2
 compile_stmt-returns-in_default-f-2 t c =
@@ -516,11 +500,11 @@ compile_stmt-returns-in_default-f-2 t c =
     let e = c.u8_at-parts.ensures in
     let o = c.begin_scope-then-mark-eq-FOR.ensures.gives _ _ p.ready.fit in
     fors.stop_5 p mark e o c.span_at-span.ensures (elim c.if-parts-eq1.branch [
-      | compile_stmt-then-parts-eq1+in-Next-a-3 w ↦ fors.came p w.t-is w.code-is w.spans-is w.out-is w.next-is
-          (fors.init_one p mark e o w.if-parts-eq1.true w.compile_stmt-a-then-parts-eq1.ensures w.in-Next-a-3.is)
+      | compile_stmt-then-parts-eq1+in-Ok-a-3 w ↦ fors.came p w.t-is w.code-is w.spans-is w.out-is w.next-is
+          (fors.init_one p mark e o w.if-parts-eq1.true w.compile_stmt-a-then-parts-eq1.ensures w.in-Ok-a-3.is)
       | compile_stmt-else-parts-eq1 w ↦ fors.came p w.t-is w.code-is w.spans-is w.out-is w.next-is (fors.init_none p mark e o w.if-parts-eq1.false _)
-    ]) c.code_length-start-then-mark-eq-FOR.ensures c.for_cond-b.ensures c.in-Next-test.is c.compile_stmt-d-then-mark-eq-FOR.ensures c.in-Next-d-3.is
-    c.for_incr-e.ensures c.in-Next-e-2.is c.close_loop-f.ensures c.in_default-f-2.is
+    ]) c.code_length-start-then-mark-eq-FOR.ensures c.for_cond-tested.ensures c.in-Ok-tested.is c.compile_stmt-d-then-mark-eq-FOR.ensures c.in-Ok-d-3.is
+    c.for_incr-e.ensures c.in-Ok-e-2.is c.close_loop-f.ensures c.in_default-f-2.is
 
 pub compile_stmt-end_scope-requires-then-mark-eq-FOR : goal.compile_stmt-end_scope-requires-then-mark-eq-FOR
 compile_stmt-end_scope-requires-then-mark-eq-FOR t c =
@@ -529,11 +513,11 @@ compile_stmt-end_scope-requires-then-mark-eq-FOR t c =
     let e = c.u8_at-parts.ensures in
     let o = c.begin_scope-then-mark-eq-FOR.ensures.gives _ _ p.ready.fit in
     fors.end p mark e o c.span_at-span.ensures (elim c.if-parts-eq1.branch [
-      | compile_stmt-then-parts-eq1+in-Next-a-3 w ↦ fors.came p w.t-is w.code-is w.spans-is w.out-is w.next-is
-          (fors.init_one p mark e o w.if-parts-eq1.true w.compile_stmt-a-then-parts-eq1.ensures w.in-Next-a-3.is)
+      | compile_stmt-then-parts-eq1+in-Ok-a-3 w ↦ fors.came p w.t-is w.code-is w.spans-is w.out-is w.next-is
+          (fors.init_one p mark e o w.if-parts-eq1.true w.compile_stmt-a-then-parts-eq1.ensures w.in-Ok-a-3.is)
       | compile_stmt-else-parts-eq1 w ↦ fors.came p w.t-is w.code-is w.spans-is w.out-is w.next-is (fors.init_none p mark e o w.if-parts-eq1.false _)
-    ]) c.code_length-start-then-mark-eq-FOR.ensures c.for_cond-b.ensures c.in-Next-test.is c.compile_stmt-d-then-mark-eq-FOR.ensures c.in-Next-d-3.is
-    c.for_incr-e.ensures c.in-Next-e-2.is c.close_loop-f.ensures c.in-Next-f-2.is
+    ]) c.code_length-start-then-mark-eq-FOR.ensures c.for_cond-tested.ensures c.in-Ok-tested.is c.compile_stmt-d-then-mark-eq-FOR.ensures c.in-Ok-d-3.is
+    c.for_incr-e.ensures c.in-Ok-e-2.is c.close_loop-f.ensures c.in-Ok-f-2.is
 
 pub compile_stmt-returns-then-mark-eq-FOR : goal.compile_stmt-returns-then-mark-eq-FOR
 compile_stmt-returns-then-mark-eq-FOR t c =
@@ -542,11 +526,11 @@ compile_stmt-returns-then-mark-eq-FOR t c =
     let e = c.u8_at-parts.ensures in
     let o = c.begin_scope-then-mark-eq-FOR.ensures.gives _ _ p.ready.fit in
     fors.done p mark e o c.span_at-span.ensures (elim c.if-parts-eq1.branch [
-      | compile_stmt-then-parts-eq1+in-Next-a-3 w ↦ fors.came p w.t-is w.code-is w.spans-is w.out-is w.next-is
-          (fors.init_one p mark e o w.if-parts-eq1.true w.compile_stmt-a-then-parts-eq1.ensures w.in-Next-a-3.is)
+      | compile_stmt-then-parts-eq1+in-Ok-a-3 w ↦ fors.came p w.t-is w.code-is w.spans-is w.out-is w.next-is
+          (fors.init_one p mark e o w.if-parts-eq1.true w.compile_stmt-a-then-parts-eq1.ensures w.in-Ok-a-3.is)
       | compile_stmt-else-parts-eq1 w ↦ fors.came p w.t-is w.code-is w.spans-is w.out-is w.next-is (fors.init_none p mark e o w.if-parts-eq1.false _)
-    ]) c.code_length-start-then-mark-eq-FOR.ensures c.for_cond-b.ensures c.in-Next-test.is c.compile_stmt-d-then-mark-eq-FOR.ensures c.in-Next-d-3.is
-    c.for_incr-e.ensures c.in-Next-e-2.is c.close_loop-f.ensures c.in-Next-f-2.is c.end_scope-then-mark-eq-FOR.ensures
+    ]) c.code_length-start-then-mark-eq-FOR.ensures c.for_cond-tested.ensures c.in-Ok-tested.is c.compile_stmt-d-then-mark-eq-FOR.ensures c.in-Ok-d-3.is
+    c.for_incr-e.ensures c.in-Ok-e-2.is c.close_loop-f.ensures c.in-Ok-f-2.is c.end_scope-then-mark-eq-FOR.ensures
 
 -- ## A function that is declared
 
@@ -580,13 +564,13 @@ pub compile_stmt-define_name-requires : goal.compile_stmt-define_name-requires
 compile_stmt-define_name-requires t c =
     let mark = sym c.mark_at-mark.ensures ∙ c.if-mark-eq-FUN.true in
     let p = c.requires in
-    functions.fun_fit p mark c.span_at-span.ensures c.compile_function-a.ensures c.in-Next-a-4.is
+    functions.fun_fit p mark c.span_at-span.ensures c.compile_function-a.ensures c.in-Ok-a-4.is
 
 pub compile_stmt-returns-then-mark-eq-FUN : goal.compile_stmt-returns-then-mark-eq-FUN
 compile_stmt-returns-then-mark-eq-FUN t c =
     let mark = sym c.mark_at-mark.ensures ∙ c.if-mark-eq-FUN.true in
     let p = c.requires in
-    functions.fun_done p mark c.span_at-span.ensures c.compile_function-a.ensures c.in-Next-a-4.is
+    functions.fun_done p mark c.span_at-span.ensures c.compile_function-a.ensures c.in-Ok-a-4.is
     c.u16_at.ensures c.define_name.ensures
 
 -- ## A class
@@ -616,114 +600,105 @@ compile_stmt-overflow_add-at-then-mark-eq-CLASS t c =
     let b = (methods.head p mark).bound in
     omega (arith, b, c.well_formed)
 
-pub compile_stmt-u16_at-more-requires-then-mark-eq-CLASS : goal.compile_stmt-u16_at-more-requires-then-mark-eq-CLASS
-compile_stmt-u16_at-more-requires-then-mark-eq-CLASS t c =
+pub compile_stmt-u16_at-count-requires-then-mark-eq-CLASS : goal.compile_stmt-u16_at-count-requires-then-mark-eq-CLASS
+compile_stmt-u16_at-count-requires-then-mark-eq-CLASS t c =
     let mark = sym c.mark_at-mark.ensures ∙ c.if-mark-eq-CLASS.true in
     let p = c.requires in
     let b = (methods.head p mark).bound in
     omega (arith, b)
 
-pub compile_stmt-loop-more-then-mark-eq-CLASS-init : goal.compile_stmt-loop-more-then-mark-eq-CLASS-init
-compile_stmt-loop-more-then-mark-eq-CLASS-init t c =
+pub compile_stmt-loop-method-init : goal.compile_stmt-loop-method-init
+compile_stmt-loop-method-init t c =
     let mark = sym c.mark_at-mark.ensures ∙ c.if-mark-eq-CLASS.true in
     let p = c.requires in
-    methods.start p mark c.span_at-span.ensures c.open_class-a.ensures c.in-Next-a-5.is _ c.u16_at-more-then-mark-eq-CLASS.ensures
+    methods.start p mark c.span_at-span.ensures c.open_class-a.ensures c.in-Ok-a-5.is _ (all_left ∙ c.u16_at-count-then-mark-eq-CLASS.ensures)
 
-pub compile_stmt-overflow_add-next-in-loop-more-then-mark-eq-CLASS : goal.compile_stmt-overflow_add-next-in-loop-more-then-mark-eq-CLASS
-compile_stmt-overflow_add-next-in-loop-more-then-mark-eq-CLASS t c =
+pub compile_stmt-overflow_add-next-in-loop-method : goal.compile_stmt-overflow_add-next-in-loop-method
+compile_stmt-overflow_add-next-in-loop-method t c =
     let mark = sym c.mark_at-mark.ensures ∙ c.if-mark-eq-CLASS.true in
     let p = c.requires in
-    let b = methods.method_bound p mark c.span_at-span.ensures c.open_class-a.ensures c.in-Next-a-5.is
-    c.loop-more-then-mark-eq-CLASS.invariant c.loop-more-then-mark-eq-CLASS-test.true in
+    let b = methods.method_bound p mark c.span_at-span.ensures c.open_class-a.ensures c.in-Ok-a-5.is
+    c.loop-method.invariant (more_left c.loop-method-test.true) in
     omega (arith, b, c.well_formed)
 
 pub compile_stmt-u16_at-name-requires : goal.compile_stmt-u16_at-name-requires
 compile_stmt-u16_at-name-requires t c =
     let mark = sym c.mark_at-mark.ensures ∙ c.if-mark-eq-CLASS.true in
     let p = c.requires in
-    let b = methods.method_bound p mark c.span_at-span.ensures c.open_class-a.ensures c.in-Next-a-5.is
-    c.loop-more-then-mark-eq-CLASS.invariant c.loop-more-then-mark-eq-CLASS-test.true in
+    let b = methods.method_bound p mark c.span_at-span.ensures c.open_class-a.ensures c.in-Ok-a-5.is
+    c.loop-method.invariant (more_left c.loop-method-test.true) in
     omega (arith, b)
 
-pub compile_stmt-overflow_add-next-in-loop-more-then-mark-eq-CLASS-2 : goal.compile_stmt-overflow_add-next-in-loop-more-then-mark-eq-CLASS-2
-compile_stmt-overflow_add-next-in-loop-more-then-mark-eq-CLASS-2 t c =
+pub compile_stmt-overflow_add-next-in-loop-method-2 : goal.compile_stmt-overflow_add-next-in-loop-method-2
+compile_stmt-overflow_add-next-in-loop-method-2 t c =
     let mark = sym c.mark_at-mark.ensures ∙ c.if-mark-eq-CLASS.true in
     let p = c.requires in
-    let b = methods.method_bound p mark c.span_at-span.ensures c.open_class-a.ensures c.in-Next-a-5.is
-    c.loop-more-then-mark-eq-CLASS.invariant c.loop-more-then-mark-eq-CLASS-test.true in
+    let b = methods.method_bound p mark c.span_at-span.ensures c.open_class-a.ensures c.in-Ok-a-5.is
+    c.loop-method.invariant (more_left c.loop-method-test.true) in
     omega (arith, b, c.well_formed)
 
 pub compile_stmt-span_at-of-requires : goal.compile_stmt-span_at-of-requires
 compile_stmt-span_at-of-requires t c =
     let mark = sym c.mark_at-mark.ensures ∙ c.if-mark-eq-CLASS.true in
     let p = c.requires in
-    let b = methods.method_bound p mark c.span_at-span.ensures c.open_class-a.ensures c.in-Next-a-5.is
-    c.loop-more-then-mark-eq-CLASS.invariant c.loop-more-then-mark-eq-CLASS-test.true in
+    let b = methods.method_bound p mark c.span_at-span.ensures c.open_class-a.ensures c.in-Ok-a-5.is
+    c.loop-method.invariant (more_left c.loop-method-test.true) in
     omega (arith, b)
 
 pub compile_stmt-compile_function-b-requires : goal.compile_stmt-compile_function-b-requires
 compile_stmt-compile_function-b-requires t c =
     let mark = sym c.mark_at-mark.ensures ∙ c.if-mark-eq-CLASS.true in
     let p = c.requires in
-    methods.function p mark c.span_at-span.ensures c.open_class-a.ensures c.in-Next-a-5.is c.loop-more-then-mark-eq-CLASS.invariant
-    c.decreases c.loop-more-then-mark-eq-CLASS-test.true
+    methods.function p mark c.span_at-span.ensures c.open_class-a.ensures c.in-Ok-a-5.is c.loop-method.invariant
+    c.decreases (more_left c.loop-method-test.true)
 
 pub compile_stmt-returns-in_default-b-3 : goal.compile_stmt-returns-in_default-b-3
 compile_stmt-returns-in_default-b-3 t c =
     let mark = sym c.mark_at-mark.ensures ∙ c.if-mark-eq-CLASS.true in
     let p = c.requires in
-    methods.stop_2 p mark c.span_at-span.ensures c.open_class-a.ensures c.in-Next-a-5.is c.loop-more-then-mark-eq-CLASS.invariant
-    c.loop-more-then-mark-eq-CLASS-test.true c.span_at-of.ensures c.u16_at-name.ensures c.method_kind.ensures.0
+    methods.stop_2 p mark c.span_at-span.ensures c.open_class-a.ensures c.in-Ok-a-5.is c.loop-method.invariant
+    (more_left c.loop-method-test.true) c.span_at-of.ensures c.u16_at-name.ensures c.method_kind.ensures.0
     c.compile_function-b.ensures c.inner_class-inner.ensures c.in_default-b-3.is
 
 pub compile_stmt-emit_op_name-d-requires : goal.compile_stmt-emit_op_name-d-requires
 compile_stmt-emit_op_name-d-requires t c =
     let mark = sym c.mark_at-mark.ensures ∙ c.if-mark-eq-CLASS.true in
     let p = c.requires in
-    methods.method_fit p mark c.span_at-span.ensures c.open_class-a.ensures c.in-Next-a-5.is c.loop-more-then-mark-eq-CLASS.invariant
-    c.loop-more-then-mark-eq-CLASS-test.true c.span_at-of.ensures c.u16_at-name.ensures c.method_kind.ensures.0
-    c.compile_function-b.ensures c.in-Next-b-3.is
+    methods.method_fit p mark c.span_at-span.ensures c.open_class-a.ensures c.in-Ok-a-5.is c.loop-method.invariant
+    (more_left c.loop-method-test.true) c.span_at-of.ensures c.u16_at-name.ensures c.method_kind.ensures.0
+    c.compile_function-b.ensures c.in-Ok-b-3.is
 
 pub compile_stmt-returns-in_default-d-4 : goal.compile_stmt-returns-in_default-d-4
 compile_stmt-returns-in_default-d-4 t c =
     let mark = sym c.mark_at-mark.ensures ∙ c.if-mark-eq-CLASS.true in
     let p = c.requires in
-    methods.stop_3 p mark c.span_at-span.ensures c.open_class-a.ensures c.in-Next-a-5.is c.loop-more-then-mark-eq-CLASS.invariant
-    c.loop-more-then-mark-eq-CLASS-test.true c.span_at-of.ensures c.u16_at-name.ensures c.method_kind.ensures.0
-    c.compile_function-b.ensures c.in-Next-b-3.is c.emit_op_name-d.ensures c.inner_class-inner.ensures
+    methods.stop_3 p mark c.span_at-span.ensures c.open_class-a.ensures c.in-Ok-a-5.is c.loop-method.invariant
+    (more_left c.loop-method-test.true) c.span_at-of.ensures c.u16_at-name.ensures c.method_kind.ensures.0
+    c.compile_function-b.ensures c.in-Ok-b-3.is c.emit_op_name-d.ensures c.inner_class-inner.ensures
     c.in_default-d-4.is
 
-pub compile_stmt-overflow_sub-more-in-loop-more-then-mark-eq-CLASS : goal.compile_stmt-overflow_sub-more-in-loop-more-then-mark-eq-CLASS
-compile_stmt-overflow_sub-more-in-loop-more-then-mark-eq-CLASS t c =
-    c.loop-more-then-mark-eq-CLASS-test.true
-
-pub compile_stmt-loop-more-then-mark-eq-CLASS-smaller : goal.compile_stmt-loop-more-then-mark-eq-CLASS-smaller
-compile_stmt-loop-more-then-mark-eq-CLASS-smaller t c =
-    let h = c.loop-more-then-mark-eq-CLASS-test.true in
-    omega (arith, h)
-
-pub compile_stmt-loop-more-then-mark-eq-CLASS-preserved : goal.compile_stmt-loop-more-then-mark-eq-CLASS-preserved
-compile_stmt-loop-more-then-mark-eq-CLASS-preserved t c =
+pub compile_stmt-loop-method-preserved : goal.compile_stmt-loop-method-preserved
+compile_stmt-loop-method-preserved t c =
     let mark = sym c.mark_at-mark.ensures ∙ c.if-mark-eq-CLASS.true in
     let p = c.requires in
-    methods.step p mark c.span_at-span.ensures c.open_class-a.ensures c.in-Next-a-5.is c.loop-more-then-mark-eq-CLASS.invariant
-    c.loop-more-then-mark-eq-CLASS-test.true c.span_at-of.ensures c.u16_at-name.ensures c.method_kind.ensures.0
-    c.compile_function-b.ensures c.in-Next-b-3.is c.emit_op_name-d.ensures c.in-Next-d-4.is
+    methods.step p mark c.span_at-span.ensures c.open_class-a.ensures c.in-Ok-a-5.is c.loop-method.invariant
+    (more_left c.loop-method-test.true) c.span_at-of.ensures c.u16_at-name.ensures c.method_kind.ensures.0
+    c.compile_function-b.ensures c.in-Ok-b-3.is c.emit_op_name-d.ensures c.in-Ok-d-4.is (one_less c.loop-method-test.true)
 
 pub compile_stmt-close_class-requires : goal.compile_stmt-close_class-requires
 compile_stmt-close_class-requires t c =
     let mark = sym c.mark_at-mark.ensures ∙ c.if-mark-eq-CLASS.true in
     let p = c.requires in
-    let d = methods.close p mark c.span_at-span.ensures c.open_class-a.ensures c.in-Next-a-5.is
-    c.loop-more-then-mark-eq-CLASS.invariant c.inner_class-inner.ensures in
+    let d = methods.close p mark c.span_at-span.ensures c.open_class-a.ensures c.in-Ok-a-5.is
+    c.loop-method.invariant c.inner_class-inner.ensures in
     (methods.head p mark, d.0, d.1)
 
 pub compile_stmt-returns-then-mark-eq-CLASS : goal.compile_stmt-returns-then-mark-eq-CLASS
 compile_stmt-returns-then-mark-eq-CLASS t c =
     let mark = sym c.mark_at-mark.ensures ∙ c.if-mark-eq-CLASS.true in
     let p = c.requires in
-    methods.done p mark c.span_at-span.ensures c.open_class-a.ensures c.in-Next-a-5.is c.loop-more-then-mark-eq-CLASS.invariant
-    c.inner_class-inner.ensures c.loop-more-then-mark-eq-CLASS-test.false c.close_class.ensures
+    methods.done p mark c.span_at-span.ensures c.open_class-a.ensures c.in-Ok-a-5.is c.loop-method.invariant
+    c.inner_class-inner.ensures (none_left c.loop-method-test.false) c.close_class.ensures
 
 -- ## A statement that holds no statement, which is what is left where no mark fits
 

@@ -18,24 +18,15 @@ decreases-compile_stmt l = 2 * (length l.tree.now - l.at) + 1
 
 -- ## The loops: a function's statements, a block's statements, a class's methods
 
-abbrev pub invariant-compile_function-loop-more : goal.invariant-compile_function-loop-more
-invariant-compile_function-loop-more l =
+abbrev pub invariant-compile_function-loop : goal.invariant-compile_function-loop
+invariant-compile_function-loop l =
     walks.RowIn l.class l.limit (l.level + 1) l.tree l.at (word16 l.tree l.first) (l.first + 2) (mem l.initial.t l.initial.code l.initial.spans) l.initial.out (mem l.t l.code l.spans) l.out
-    l.next l.more
+    l.next (l.count - l.counter)
 
-abbrev pub decreases-compile_function-loop-more : goal.decreases-compile_function-loop-more
-decreases-compile_function-loop-more l = l.more
+abbrev pub invariant-compile_stmt-loop : goal.invariant-compile_stmt-loop
+invariant-compile_stmt-loop l =
+    walks.RowIn l.class l.limit l.level l.tree l.at (word16 l.tree (l.at + 10)) (l.at + 12) (mem l.initial.t l.initial.code l.initial.spans) l.initial.out (mem l.t l.code l.spans) l.out l.next (l.count - l.counter)
 
-abbrev pub invariant-compile_stmt-loop-more : goal.invariant-compile_stmt-loop-more
-invariant-compile_stmt-loop-more l =
-    walks.RowIn l.class l.limit l.level l.tree l.at (word16 l.tree (l.at + 10)) (l.at + 12) (mem l.initial.t l.initial.code l.initial.spans) l.initial.out (mem l.t l.code l.spans) l.out l.next l.more
-
-abbrev pub decreases-compile_stmt-loop-more : goal.decreases-compile_stmt-loop-more
-decreases-compile_stmt-loop-more l = l.more
-
-abbrev pub invariant-compile_stmt-loop-more-then-mark-eq-CLASS : goal.invariant-compile_stmt-loop-more-then-mark-eq-CLASS
-invariant-compile_stmt-loop-more-then-mark-eq-CLASS l =
-    methods.Methoding l.inner l.limit l.level l.tree l.at l.first (mem l.initial.t l.initial.code l.initial.spans) l.initial.out (mem l.t l.code l.spans) l.out l.next l.more
-
-abbrev pub decreases-compile_stmt-loop-more-then-mark-eq-CLASS : goal.decreases-compile_stmt-loop-more-then-mark-eq-CLASS
-decreases-compile_stmt-loop-more-then-mark-eq-CLASS l = l.more
+abbrev pub invariant-compile_stmt-loop-method : goal.invariant-compile_stmt-loop-method
+invariant-compile_stmt-loop-method l =
+    methods.Methoding l.inner l.limit l.level l.tree l.at l.first (mem l.initial.t l.initial.code l.initial.spans) l.initial.out (mem l.t l.code l.spans) l.out l.next (l.count - l._method)

@@ -11,16 +11,16 @@ returns-in_default c = λ class. close_stop _ _ _ _ (c.drop_class-a.ensures clas
 
 pub end_scope-requires : goal.end_scope-requires
 end_scope-requires c = (
-  (went (c.drop_class-a.ensures 0) c.in-Next.is).ahead.fit,
+  (went (c.drop_class-a.ensures 0) c.in-Ok.is).ahead.fit,
   depth_on (λ (d : ℕ). 0 < d)
-      (c.drop_class-a.ensures 0) c.in-Next.is
+      (c.drop_class-a.ensures 0) c.in-Ok.is
       (c.requires.2 (sym c.u8_at.ensures ∙ c.if-u8_at-eq1.true)),
 )
 
 pub returns-then-u8_at-eq1 : goal.returns-then-u8_at-eq1
 returns-then-u8_at-eq1 c =
     λ class. close_with _ _ _ _ (sym c.u8_at.ensures ∙ c.if-u8_at-eq1.true)
-    (c.drop_class-a.ensures class) c.in-Next.is (c.end_scope.ensures class)
+    (c.drop_class-a.ensures class) c.in-Ok.is (c.end_scope.ensures class)
 
 pub returns : goal.returns
-returns c = λ class. close_without _ _ _ _ (λ h. c.if-u8_at-eq1.false (c.u8_at.ensures ∙ h)) (c.drop_class-a.ensures class) c.in-Next.is
+returns c = λ class. close_without _ _ _ _ (λ h. c.if-u8_at-eq1.false (c.u8_at.ensures ∙ h)) (c.drop_class-a.ensures class) c.in-Ok.is

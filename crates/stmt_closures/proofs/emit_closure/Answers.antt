@@ -10,23 +10,23 @@ returns-in_default c =
     (c.emit_op-a.ensures class) c.in_default.is
 
 pub emit_constant-b-requires : goal.emit_constant-b-requires
-emit_constant-b-requires c = (went (c.emit_op-a.ensures 0) c.in-Next.is).ahead.fit
+emit_constant-b-requires c = (went (c.emit_op-a.ensures 0) c.in-Ok.is).ahead.fit
 
 pub returns-in_default-b : goal.returns-in_default-b
 returns-in_default-b c =
     λ class. let a = c.args in closure_second class a.limit a.level a.next a.number a.span _
-    (c.emit_op-a.ensures class) c.in-Next.is
+    (c.emit_op-a.ensures class) c.in-Ok.is
     c.function_word.result c.function_word.ensures
     (c.emit_constant-b.ensures class) c.in_default-b.is
 
 pub emit_upvalues-requires : goal.emit_upvalues-requires
 emit_upvalues-requires c =
-    ((went (c.emit_constant-b.ensures 0) c.in-Next-b.is).ahead.fit, c.requires.1)
+    ((went (c.emit_constant-b.ensures 0) c.in-Ok-b.is).ahead.fit, c.requires.1)
 
 pub returns : goal.returns
 returns c =
     λ class. let a = c.args in closure_last class a.limit a.level a.next a.number a.span _
-    (c.emit_op-a.ensures class) c.in-Next.is
+    (c.emit_op-a.ensures class) c.in-Ok.is
     c.function_word.result c.function_word.ensures
     c.requires.1 c.requires.0 refl (c.emit_constant-b.ensures class)
-    c.in-Next-b.is (c.emit_upvalues.ensures class)
+    c.in-Ok-b.is (c.emit_upvalues.ensures class)

@@ -16,11 +16,11 @@ returns-in_default c =
 
 pub overflow_cast-number : goal.overflow_cast-number
 overflow_cast-number c =
-    omega (arith, (went (c.implicit_return-a.ensures 0) c.in-Next.is).ahead.beyond refl image_at (omega arith), c.requires.3)
+    omega (arith, (went (c.implicit_return-a.ensures 0) c.in-Ok.is).ahead.beyond refl image_at (omega arith), c.requires.3)
 
 pub finish-requires : goal.finish-requires
 finish-requires c =
-    let g = (went (c.implicit_return-a.ensures 0) c.in-Next.is).ahead in (
+    let g = (went (c.implicit_return-a.ensures 0) c.in-Ok.is).ahead in (
       can_put g.fit c.requires.2,
       omega (arith, g.beyond refl image_at (omega arith), c.requires.3),
       omega
@@ -32,7 +32,7 @@ emit_closure-requires c =
     let a = c.args in (
       fit_after_at a.limit a.level a.span (mem a.t.now a.code.now a.spans.now) _ _ _ _ _ _ _
           c.requires.0 (went (c.implicit_return-a.ensures 0)
-          c.in-Next.is) c.finish.ensures
+          c.in-Ok.is) c.finish.ensures
           c.end_ctx.ensures,
       c.requires.0,
     )
@@ -41,5 +41,5 @@ pub returns : goal.returns
 returns c =
     λ class. let a = c.args in closed_last_at a.limit a.level a.span (mem a.t.now a.code.now a.spans.now) _ _ _ _ _
     _ _ _ refl c.requires.0 (went (c.implicit_return-a.ensures class)
-    c.in-Next.is) c.finish.ensures c.end_ctx.ensures
+    c.in-Ok.is) c.finish.ensures c.end_ctx.ensures
     (c.emit_closure.ensures class)

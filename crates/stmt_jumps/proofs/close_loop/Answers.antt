@@ -1,32 +1,32 @@
 -- The jump back, and where there is a condition the end that its jump lands on.
-use borrow.Author.Rules.{rules}
+use Rattle.std.proofs.lemmas.Option.{MatchOption-at_some}
 use Rattle.steps.proofs.Steps.{went, still}
 use Rattle.stmt_jumps.proofs.Loops as ways
 use Rattle.stmt_jumps.proofs.close_loop.Goals as goal
 
 pub returns-in_default : goal.returns-in_default
 returns-in_default c =
-    λ class. ways.loop_stop _ _ _ c.args.has_cond (c.emit_loop-a.ensures class) c.in_default.is
+    λ class. ways.loop_stop _ c.args.exit _ (c.emit_loop-a.ensures class) c.in_default.is
 
-pub returns-then-not-has_cond : goal.returns-then-not-has_cond
-returns-then-not-has_cond c =
-    λ class. ways.loop_plain _ _ _ c.args.has_cond c.if-not-has_cond.true (c.emit_loop-a.ensures class) c.in-Next.is
+pub returns-in_default-exit : goal.returns-in_default-exit
+returns-in_default-exit c =
+    λ class. ways.loop_plain _ c.args.exit _ c.in_default-exit.is (c.emit_loop-a.ensures class) c.in-Ok.is
 
 pub patch_jump-b-requires : goal.patch_jump-b-requires
 patch_jump-b-requires c =
-    let g = went (c.emit_loop-a.ensures 0) c.in-Next.is in
-    (g.ahead.fit, still _ (c.requires.2 (search rules)) g)
+    let g = went (c.emit_loop-a.ensures 0) c.in-Ok.is in
+    (g.ahead.fit, still _ (MatchOption-at_some _ _ _ c.in-Some.is c.requires.2) g)
 
 pub returns-in_default-b : goal.returns-in_default-b
 returns-in_default-b c =
-    λ class. ways.loop_patch_stop _ _ _ c.args.has_cond c.if-not-has_cond.false (c.emit_loop-a.ensures class) c.in-Next.is (c.patch_jump-b.ensures class)
+    λ class. ways.loop_patch_stop _ c.args.exit _ c.in-Some.is (c.emit_loop-a.ensures class) c.in-Ok.is (c.patch_jump-b.ensures class)
     c.in_default-b.is
 
 pub emit_op-requires : goal.emit_op-requires
 emit_op-requires c =
-    (went (c.patch_jump-b.ensures 0) c.in-Next-b.is).ahead.fit
+    (went (c.patch_jump-b.ensures 0) c.in-Ok-b.is).ahead.fit
 
 pub returns : goal.returns
 returns c =
-    λ class. ways.loop_done _ _ _ c.args.has_cond c.if-not-has_cond.false (c.emit_loop-a.ensures class) c.in-Next.is (c.patch_jump-b.ensures class)
-    c.in-Next-b.is (c.emit_op.ensures class)
+    λ class. ways.loop_done _ c.args.exit _ c.in-Some.is (c.emit_loop-a.ensures class) c.in-Ok.is (c.patch_jump-b.ensures class)
+    c.in-Ok-b.is (c.emit_op.ensures class)

@@ -8,8 +8,8 @@ returns-in_default c = λ class. open_stop _ (c.emit_jump-a.ensures class) c.in_
 
 pub emit_op-requires : goal.emit_op-requires
 emit_op-requires c =
-    (went_to (c.emit_jump-a.ensures 0) c.in-Next.is).ahead.fit
+    (went_to (c.emit_jump-a.ensures 0) c.in-Ok.is).ahead.fit
 
 pub returns : goal.returns
 returns c =
-    λ class. open_done _ (c.emit_jump-a.ensures class) c.in-Next.is (c.emit_op.ensures class)
+    λ class. open_done _ (c.emit_jump-a.ensures class) c.in-Ok.is (c.emit_op.ensures class)

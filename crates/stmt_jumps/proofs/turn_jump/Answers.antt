@@ -8,16 +8,16 @@ returns-in_default c = λ class. turn_stop _ _ (c.emit_jump-a.ensures class) c.i
 
 pub patch_jump-b-requires : goal.patch_jump-b-requires
 patch_jump-b-requires c =
-    let g = went_to (c.emit_jump-a.ensures 0) c.in-Next.is in (g.ahead.fit, still _ c.requires.1 g)
+    let g = went_to (c.emit_jump-a.ensures 0) c.in-Ok.is in (g.ahead.fit, still _ c.requires.1 g)
 
 pub returns-in_default-b : goal.returns-in_default-b
 returns-in_default-b c =
-    λ class. turn_stop_2 _ _ (c.emit_jump-a.ensures class) c.in-Next.is (c.patch_jump-b.ensures class) c.in_default-b.is
+    λ class. turn_stop_2 _ _ (c.emit_jump-a.ensures class) c.in-Ok.is (c.patch_jump-b.ensures class) c.in_default-b.is
 
 pub emit_op-requires : goal.emit_op-requires
 emit_op-requires c =
-    (went (c.patch_jump-b.ensures 0) c.in-Next-b.is).ahead.fit
+    (went (c.patch_jump-b.ensures 0) c.in-Ok-b.is).ahead.fit
 
 pub returns : goal.returns
 returns c =
-    λ class. turn_done _ _ (c.emit_jump-a.ensures class) c.in-Next.is (c.patch_jump-b.ensures class) c.in-Next-b.is (c.emit_op.ensures class)
+    λ class. turn_done _ _ (c.emit_jump-a.ensures class) c.in-Ok.is (c.patch_jump-b.ensures class) c.in-Ok-b.is (c.emit_op.ensures class)

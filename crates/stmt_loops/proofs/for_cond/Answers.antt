@@ -11,19 +11,19 @@ compile_expr-a-requires c =
     let value_there = cond_expr c.requires.0 c.if-parts-ne1.false in
     (value_there, c.requires.1)
 
-pub returns-in_default : goal.returns-in_default
-returns-in_default c =
-    λ d. cond_stop _ c.args.parts d _ c.if-parts-ne1.false (c.compile_expr-a.ensures d) c.in_default.is
+pub returns-in-Err : goal.returns-in-Err
+returns-in-Err c =
+    λ d. cond_stop _ c.args.parts d _ c.if-parts-ne1.false (c.compile_expr-a.ensures d) c.in-Err.is
 
 pub open_jump-b-requires : goal.open_jump-b-requires
 open_jump-b-requires c =
     let value_there = cond_expr c.requires.0 c.if-parts-ne1.false in
-    ran_fit value_there c.compile_expr-a.ensures c.in-Next.is
+    ran_fit value_there c.compile_expr-a.ensures c.in-Ok.is
 
-pub returns-in_default-b : goal.returns-in_default-b
-returns-in_default-b c =
-    λ d. cond_stop_2 _ c.args.parts d _ c.if-parts-ne1.false (c.compile_expr-a.ensures d) c.in-Next.is (c.open_jump-b.ensures _) c.in_default-b.is
+pub returns-in-Err-b : goal.returns-in-Err-b
+returns-in-Err-b c =
+    λ d. cond_stop_2 _ c.args.parts d _ c.if-parts-ne1.false (c.compile_expr-a.ensures d) c.in-Ok.is (c.open_jump-b.ensures _) c.in-Err-b.is
 
 pub returns : goal.returns
 returns c =
-    λ d. cond_done _ c.args.parts d _ c.if-parts-ne1.false (c.compile_expr-a.ensures d) c.in-Next.is (c.open_jump-b.ensures _) c.in-Next-b.is
+    λ d. cond_done _ c.args.parts d _ c.if-parts-ne1.false (c.compile_expr-a.ensures d) c.in-Ok.is (c.open_jump-b.ensures _) c.in-Ok-b.is

@@ -18,8 +18,8 @@ returns-in_default c =
 pub emit_op-requires : goal.emit_op-requires
 emit_op-requires c =
     let value_there = incr_expr c.requires.0 c.if-parts-ne1.false in
-    ran_fit value_there c.compile_expr-a.ensures c.in-Next.is
+    ran_fit value_there c.compile_expr-a.ensures c.in-Ok.is
 
 pub returns : goal.returns
 returns c =
-    λ d. incr_done _ c.args.parts d _ c.if-parts-ne1.false (c.compile_expr-a.ensures d) c.in-Next.is (c.emit_op.ensures _)
+    λ d. incr_done _ c.args.parts d _ c.if-parts-ne1.false (c.compile_expr-a.ensures d) c.in-Ok.is (c.emit_op.ensures _)

@@ -1,10 +1,10 @@
 -- `slot_zero` meets its contract.
-use native.Mathlib.Omega.{arith}
+use Rattle.std.proofs.Common.{rules}
 use Rattle.stmt_opening.proofs.Names.{method_slot, function_slot}
 use Rattle.stmt_opening.proofs.slot_zero.Goals as goal
 
-pub returns-then-kind-gt-FUNCTION : goal.returns-then-kind-gt-FUNCTION
-returns-then-kind-gt-FUNCTION c = method_slot c.args.kind c.args.name (omega arith)
+pub returns-in-Initializer : goal.returns-in-Initializer
+returns-in-Initializer c = method_slot _ _ (search rules)
 
-pub returns : goal.returns
-returns c = function_slot c.args.kind c.args.name (omega arith)
+pub returns-in-Script : goal.returns-in-Script
+returns-in-Script c = function_slot _ _ (search rules)

@@ -56,14 +56,14 @@ compile_expr-b-requires c =
 pub returns-in_default-b : goal.returns-in_default-b
 returns-in_default-b c =
     λ d. ways.return_value_stop _ d _ _ c.requires.1 _ c.u8_at.ensures c.if-u8_at-eq0.false _ c.span_at-span.ensures
-    (c.return_kind-a.ensures.gives c.args.code.now c.args.spans.now c.requires.2) c.in-Next.is (c.compile_expr-b.ensures _) c.in_default-b.is
+    (c.return_kind-a.ensures.gives c.args.code.now c.args.spans.now c.requires.2) c.in-Ok.is (c.compile_expr-b.ensures _) c.in_default-b.is
 
 pub emit_op-requires : goal.emit_op-requires
 emit_op-requires c =
     let value_there = ways.return_there c.requires.1 _ c.u8_at.ensures c.if-u8_at-eq0.false c.requires.0 in
-    ran_fit value_there c.compile_expr-b.ensures c.in-Next-b.is
+    ran_fit value_there c.compile_expr-b.ensures c.in-Ok-b.is
 
 pub returns : goal.returns
 returns c =
     λ d. ways.return_done _ d _ _ c.requires.1 _ c.u8_at.ensures c.if-u8_at-eq0.false _ c.span_at-span.ensures
-    (c.return_kind-a.ensures.gives c.args.code.now c.args.spans.now c.requires.2) c.in-Next.is (c.compile_expr-b.ensures _) c.in-Next-b.is (c.emit_op.ensures _)
+    (c.return_kind-a.ensures.gives c.args.code.now c.args.spans.now c.requires.2) c.in-Ok.is (c.compile_expr-b.ensures _) c.in-Ok-b.is (c.emit_op.ensures _)

@@ -19,22 +19,22 @@ returns-in_default c =
 pub define_local-requires : goal.define_local-requires
 define_local-requires c =
     let f = declared_fit _ _ c.requires.1 c.begin_scope.ensures
-    c.declare_local-d.ensures c.in-Next.is in (f.low, f.wf)
+    c.declare_local-d.ensures c.in-Ok.is in (f.low, f.wf)
 
 pub get_variable-a-requires : goal.get_variable-a-requires
 get_variable-a-requires c =
     defined_fit _ _ c.requires.1 c.begin_scope.ensures
-    c.declare_local-d.ensures c.in-Next.is c.define_local.ensures
+    c.declare_local-d.ensures c.in-Ok.is c.define_local.ensures
 
 pub returns-in_default-a : goal.returns-in_default-a
 returns-in_default-a c =
     inherit_done _ _ _ _ c.u16_at-parent.ensures c.span_at-place.ensures c.if-parent-name.false _ _
     c.requires.1 c.begin_scope.ensures c.declare_local-d.ensures
-    c.in-Next.is c.define_local.ensures
+    c.in-Ok.is c.define_local.ensures
     (halt _ c.get_variable-a.ensures c.in_default-a.is)
 
 pub get_variable-b-requires : goal.get_variable-b-requires
-get_variable-b-requires c = (went c.get_variable-a.ensures c.in-Next-a.is).ahead.fit
+get_variable-b-requires c = (went c.get_variable-a.ensures c.in-Ok-a.is).ahead.fit
 
 pub shape_of-t-in_default-b : goal.shape_of-t-in_default-b
 shape_of-t-in_default-b c =
@@ -44,15 +44,15 @@ pub returns-in_default-b : goal.returns-in_default-b
 returns-in_default-b c =
     inherit_done _ _ _ _ c.u16_at-parent.ensures c.span_at-place.ensures c.if-parent-name.false _ _
     c.requires.1 c.begin_scope.ensures c.declare_local-d.ensures
-    c.in-Next.is c.define_local.ensures
-    (then_on _ c.get_variable-a.ensures c.in-Next-a.is
+    c.in-Ok.is c.define_local.ensures
+    (then_on _ c.get_variable-a.ensures c.in-Ok-a.is
     (halt _ c.get_variable-b.ensures c.in_default-b.is))
 
 pub overflow_add-at-3 : goal.overflow_add-at-3
 overflow_add-at-3 c = omega (arith, c.requires.0, c.well_formed)
 
 pub emit_op-requires : goal.emit_op-requires
-emit_op-requires c = (went c.get_variable-b.ensures c.in-Next-b.is).ahead.fit
+emit_op-requires c = (went c.get_variable-b.ensures c.in-Ok-b.is).ahead.fit
 
 pub shape_of-t : goal.shape_of-t
 shape_of-t c =
@@ -63,6 +63,6 @@ pub returns : goal.returns
 returns c =
     inherit_done _ _ _ _ c.u16_at-parent.ensures c.span_at-place.ensures c.if-parent-name.false _ _
     c.requires.1 c.begin_scope.ensures c.declare_local-d.ensures
-    c.in-Next.is c.define_local.ensures
-    (then_on _ c.get_variable-a.ensures c.in-Next-a.is
-    (then_on _ c.get_variable-b.ensures c.in-Next-b.is (c.emit_op.ensures 2)))
+    c.in-Ok.is c.define_local.ensures
+    (then_on _ c.get_variable-a.ensures c.in-Ok-a.is
+    (then_on _ c.get_variable-b.ensures c.in-Ok-b.is (c.emit_op.ensures 2)))

@@ -1,32 +1,7 @@
--- An expression, and what is done with its value.
-use native.Mathlib.Omega.{arith}
-use Rattle.expressions.proofs.Arms.{ran_fit}
-use Rattle.stmt_plain_laws.proofs.Values as ways
+-- The mark says which instruction takes the value.
+use mathlib.Core.Path.{refl}
+use mathlib.Core.Logic.{inl}
 use Rattle.stmt_values.proofs.stmt_expr.Goals as goal
 
-pub overflow_add-at : goal.overflow_add-at
-overflow_add-at c = let b = ways.bound c.requires.0 in omega (arith, b)
-
-pub span_at-span-requires : goal.span_at-span-requires
-span_at-span-requires c = let b = ways.bound c.requires.0 in omega (arith, b)
-
-pub overflow_add-at-2 : goal.overflow_add-at-2
-overflow_add-at-2 c = let b = ways.bound c.requires.0 in omega (arith, b)
-
-pub compile_expr-a-requires : goal.compile_expr-a-requires
-compile_expr-a-requires c =
-    let value_there = ways.one_there {limit = 0} (ways.an_expression _ _ _ c.requires.1) c.requires.0.there in
-    (value_there, c.requires.2)
-
-pub returns-in_default : goal.returns-in_default
-returns-in_default c =
-    λ d. ways.one_stop (ways.an_expression _ d _ c.requires.1) (c.compile_expr-a.ensures _) c.in_default.is
-
-pub emit_op-requires : goal.emit_op-requires
-emit_op-requires c =
-    let value_there = ways.one_there {limit = 0} (ways.an_expression _ _ _ c.requires.1) c.requires.0.there in
-    ran_fit value_there c.compile_expr-a.ensures c.in-Next.is
-
-pub returns : goal.returns
-returns c =
-    λ d. ways.one_done (ways.an_expression _ d _ c.requires.1) _ c.span_at-span.ensures (c.compile_expr-a.ensures _) c.in-Next.is (c.emit_op.ensures _)
+pub value_then-requires : goal.value_then-requires
+value_then-requires c = (c.requires.0, inl (c.requires.1, refl), c.requires.2)

@@ -52,20 +52,20 @@ overflow_add-at-5 c =
 pub compile_value-b-requires : goal.compile_value-b-requires
 compile_value-b-requires c =
     let value_there = ways.var_value c.requires.1 c.u8_at-flag.ensures c.requires.0 in
-    (value_there, (went (c.open_var-a.ensures.gives {class = 0} c.args.code.now c.args.spans.now c.requires.2) c.in-Next.is).ahead.fit)
+    (value_there, (went (c.open_var-a.ensures.gives {class = 0} c.args.code.now c.args.spans.now c.requires.2) c.in-Ok.is).ahead.fit)
 
 pub returns-in_default-b : goal.returns-in_default-b
 returns-in_default-b c =
     λ d. ways.var_value_stop _ d _ _ c.requires.1 _ c.u8_at-flag.ensures _ c.span_at-span.ensures _ c.u16_at-name.ensures _
-    (c.is_global-global.ensures.says c.args.code.now c.args.spans.now) (c.open_var-a.ensures.gives c.args.code.now c.args.spans.now c.requires.2) c.in-Next.is
+    (c.is_global-global.ensures.says c.args.code.now c.args.spans.now) (c.open_var-a.ensures.gives c.args.code.now c.args.spans.now c.requires.2) c.in-Ok.is
     (c.compile_value-b.ensures _) c.in_default-b.is
 
 pub close_var-requires : goal.close_var-requires
 close_var-requires c =
     let value_there = ways.var_value c.requires.1 c.u8_at-flag.ensures c.requires.0 in
-    ways.value_fit value_there c.compile_value-b.ensures c.in-Next-b.is
+    ways.value_fit value_there c.compile_value-b.ensures c.in-Ok-b.is
 
 pub returns : goal.returns
 returns c =
     λ d. ways.var_done _ d _ _ c.requires.1 _ c.u8_at-flag.ensures _ c.span_at-span.ensures _ c.u16_at-name.ensures _ (c.is_global-global.ensures.says c.args.code.now c.args.spans.now)
-    (c.open_var-a.ensures.gives c.args.code.now c.args.spans.now c.requires.2) c.in-Next.is (c.compile_value-b.ensures _) c.in-Next-b.is (c.close_var.ensures _)
+    (c.open_var-a.ensures.gives c.args.code.now c.args.spans.now c.requires.2) c.in-Ok.is (c.compile_value-b.ensures _) c.in-Ok-b.is (c.close_var.ensures _)
