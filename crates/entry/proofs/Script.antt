@@ -1,4 +1,5 @@
 -- The script: what the areas are before it, and what the rules' `compile_functions` comes to by what its parts come to.
+use Rattle.std.specs.Prelude.{Ok, Err}
 use mathlib.Core.Path.{◌≡◌, refl, sym, ap, subst, ◌∙◌}
 use mathlib.Core.List.{List, ◌∷◌, ◌++◌, []}
 use Prim.Native.Nat.{ℕ, ◌+◌, ◌*◌, ◌/◌, ◌≤◌, min}
@@ -15,10 +16,8 @@ use Rattle.rules.specs.Entry.{functions_are, refused, from_outcome}
 use Rattle.state.specs.Layout.{image_at, ctx_at}
 use Rattle.steps.specs.View.{mem, Rest, view, Agrees, Fit, depth_at, Turn, steady, ◌⨾◌, Gave, Refused, Did, Started}
 use Rattle.rules.specs.declared.Stopped.{Stopped}
-use Rattle.steps.specs.Why.{told}
+use Rattle.steps.specs.Why.{told, Step}
 use Rattle.steps.specs.declared.Why.{Why}
-use Rattle.steps.specs.declared.Step.{Step}
-use Rattle.steps.specs.declared.Step.TheVariants.{Next, Stop}
 use Rattle.steps.proofs.Steps.{went, stuck, refused_seq, gave_seq, gave_refused_seq, seq_ok, seq_err}
 use Rattle.writer.specs.Put.{Closed}
 use Rattle.stmt_output_laws.specs.Output.{largest, Holds, more, grow, Grew, Worked, Walked, Ready}
@@ -91,11 +90,11 @@ module _ {t code spans out : List ℕ} {limit : ℕ} (clean : Clean t code spans
     -- ## By its parts
 
     module _ {at n : ℕ} {t₁ code₁ spans₁ out₁ : List ℕ} {a : Step} (w : Worked 0 limit 0 at n (compile_stmts limit stmts) (mem t code spans) out (mem t₁ code₁ spans₁) out₁ a) where
-      script_first : {x : Why} → a ≡ Stop x → from_outcome (compile_functions limit stmts) ≡ refused (told t₁ x)
+      script_first : {x : Why} → a ≡ Err x → from_outcome (compile_functions limit stmts) ≡ refused (told t₁ x)
       unfolding compile_script
       script_first q = refused_script (refused_seq (growing.refused w q) _)
 
-      module _ {v : ℕ} (q : a ≡ Next v) where
+      module _ {v : ℕ} (q : a ≡ Ok v) where
         grew : Grew 0 limit 0 at n (compile_stmts limit stmts) (mem t code spans) out (mem t₁ code₁ spans₁) out₁
         grew = growing.grown w q
 
@@ -103,11 +102,11 @@ module _ {t code spans out : List ℕ} {limit : ℕ} (clean : Clean t code spans
         fit_then = grew.gave.ahead.fit
 
         module _ {k : ℕ} {t₂ code₂ spans₂ : List ℕ} {b : Step} (d : Did 0 limit 0 k steady (script_end limit) (mem t₁ code₁ spans₁) (mem t₂ code₂ spans₂) b) where
-          script_second : {x : Why} → b ≡ Stop x → from_outcome (compile_functions limit stmts) ≡ refused (told t₂ x)
+          script_second : {x : Why} → b ≡ Err x → from_outcome (compile_functions limit stmts) ≡ refused (told t₂ x)
           unfolding compile_script
           script_second p = refused_script (gave_refused_seq grew.gave _ (stuck d p))
 
-          module _ {u : ℕ} (p : b ≡ Next u) where
+          module _ {u : ℕ} (p : b ≡ Ok u) where
             ended : Gave 0 limit 0 steady (script_end limit) tt (mem t₁ code₁ spans₁) (mem t₂ code₂ spans₂)
             ended = went d p
 
@@ -152,23 +151,23 @@ module _ {tree t code spans out : List ℕ} {count at limit : ℕ} (rows : Rows 
   by_rows : (stmts : Stmts) → rows_at tree count at ≡ got stmts (length tree) → Worked 0 limit 0 at (length tree) (compile_stmts limit stmts) (mem t code spans) out (mem t₁ code₁ spans₁) out₁ a
   by_rows stmts e = w.did stmts (length tree) e
 
-  pub stopped_first : {x : Why} → a ≡ Stop x → Scripted limit (rows_at tree count at) (length tree) t₁ out₁ a
+  pub stopped_first : {x : Why} → a ≡ Err x → Scripted limit (rows_at tree count at) (length tree) t₁ out₁ a
   stopped_first q = record { did = λ stmts e. subst (ScriptedAs (from_outcome (compile_functions limit stmts)) t₁ out₁) (sym q) (script_first clean stmts (by_rows stmts e) q) }
 
-  module _ {v : ℕ} (q : a ≡ Next v) where
+  module _ {v : ℕ} (q : a ≡ Ok v) where
     pub fit_between : Fit (mem t₁ code₁ spans₁) 0 limit
     fit_between = fit_then clean rows.stmts (by_rows rows.stmts rows.is) q
 
     module _ {k : ℕ} {t₂ code₂ spans₂ : List ℕ} {b : Step} (d : Did 0 limit 0 k steady (script_end limit) (mem t₁ code₁ spans₁) (mem t₂ code₂ spans₂) b) where
-      pub stopped_second : {x : Why} → b ≡ Stop x → Scripted limit (rows_at tree count at) (length tree) t₂ out₁ b
+      pub stopped_second : {x : Why} → b ≡ Err x → Scripted limit (rows_at tree count at) (length tree) t₂ out₁ b
       stopped_second p = record { did = λ stmts e. subst (ScriptedAs (from_outcome (compile_functions limit stmts)) t₂ out₁) (sym p) (script_second clean stmts (by_rows stmts e) q d p) }
 
-      module _ {u : ℕ} (p : b ≡ Next u) where
+      module _ {u : ℕ} (p : b ≡ Ok u) where
         -- what `finish` asks for
         pub to_finish : (Closed t₂ code₂ spans₂ 0) × (get_or t₂ image_at 0 ≤ max_tree) × (get_or t₂ (image_at + 1) 0 ≤ max_tree * largest)
         to_finish =
             let g = by_rows rows.stmts rows.is in
             (can_finish clean rows.stmts g q d p, few_then clean rows.stmts g q d p rows.short, little_then clean rows.stmts g q d p rows.short)
 
-        pub scripted : {t₃ out₃ : List ℕ} → Filed 0 t₂ code₂ spans₂ out₁ t₃ out₃ → Scripted limit (rows_at tree count at) (length tree) t₃ out₃ (Next (6 + get_or t₃ (image_at + 1) 0))
+        pub scripted : {t₃ out₃ : List ℕ} → Filed 0 t₂ code₂ spans₂ out₁ t₃ out₃ → Scripted limit (rows_at tree count at) (length tree) t₃ out₃ (Ok (6 + get_or t₃ (image_at + 1) 0))
         scripted f = record { did = λ stmts e. recorded clean stmts (by_rows stmts e) q d p rows.short f refl }

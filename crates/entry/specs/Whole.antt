@@ -1,5 +1,5 @@
 -- The whole, cut in parts: the script's statements, the output without its header, the header, and what is answered.
-use Rattle.std.specs.Prelude.{◌≡◌, List, ℕ, ◌+◌, ◌*◌, ◌/◌, ◌≤◌, min, length, get_or, replicate}
+use Rattle.std.specs.Prelude.{◌≡◌, List, ℕ, ◌+◌, ◌*◌, ◌/◌, ◌≤◌, min, length, get_or, replicate, Result, Ok, Err}
 use Rattle.rules.specs.Limits.{first_limits, max_tree, max_code}
 use Rattle.rules.specs.Answer.{NO_SPAN}
 use Rattle.rules.specs.Tree.{Stmts}
@@ -10,11 +10,9 @@ use Rattle.rules.specs.Compiler.{Compile, ◌>>◌, emit_op, compile_functions}
 use Rattle.rules.specs.Entry.{Lent, Compiled, functions_are, refused, from_outcome, leaves, write_out}
 use Rattle.state.specs.Layout.{image_at}
 use Rattle.steps.specs.View.{Started}
-use Rattle.steps.specs.Why.{told}
-use Rattle.steps.specs.declared.Step.{Step}
-use Rattle.steps.specs.declared.Step.TheVariants.{Next, Stop}
+use Rattle.steps.specs.Why.{told, Step}
 use Rattle.entry_parts.specs.Ends.{answer_of, output_of}
-use Rattle.entry_parts.specs.declared.Made.{Made}
+use Rattle.rules.specs.declared.Stopped.{Stopped}
 use Rattle.stmt_output_laws.specs.Output.{stmts_at, Holds}
 
 -- ## What is lent
@@ -57,13 +55,13 @@ pub record Recorded (made : Compiled) (t out : List ℕ) (n : ℕ) : Type 0 wher
   pub small : n + 6 + 4 * get_or t image_at 0 ≤ 1152921504606846976
 
 abbrev pub ScriptedAs : Compiled → (t out : List ℕ) → Step → Type 0
-ScriptedAs made t out (Next n) = Recorded made t out n
-ScriptedAs made t out (Stop x) = made ≡ refused (told t x)
+ScriptedAs made t out (Ok n) = Recorded made t out n
+ScriptedAs made t out (Err x) = made ≡ refused (told t x)
 
 pub record Scripted (limit : ℕ) (rows : Read Stmts) (end : ℕ) (t out : List ℕ) (r : Step) : Type 0 where
   pub did : (stmts : Stmts) → rows ≡ got stmts end → ScriptedAs (from_outcome (compile_functions limit stmts)) t out r
 
 -- ## What is answered, and what the output holds in the end: after a refusal it is still to be cleared
 
-pub record Written (options : ℕ) (made : Compiled) (out : List ℕ) (r : Made) : Type 0 where
+pub record Written (options : ℕ) (made : Compiled) (out : List ℕ) (r : Result ℕ Stopped) : Type 0 where
   pub is : (lent : Lent) → lent.options ≡ options → lent.output_bytes ≡ length out → write_out lent made ≡ leaves lent (answer_of r) (output_of out r)

@@ -2,26 +2,25 @@
 // zeros, or after a refusal only zeros; the work areas end all zero.
 #![tactic(auto)]
 
-ghost use Rattle.std.specs.Prelude.{◌≡◌, length};
+ghost use Rattle.std.specs.Prelude.{◌≡◌, length, Ok};
 ghost use Rattle.rules.specs.Limits.{first_limits};
 ghost use Rattle.rules.specs.Entry as rules;
 ghost use Rattle.tree.specs.Checked.{checked_file};
-ghost use Rattle.tree.specs.declared.Checked as checks;
 ghost use Rattle.state.specs.Layout.{table_words};
 ghost use Rattle.steps.specs.View.{mem, Fit, steady, Did};
 ghost use Rattle.entry_parts.specs.Ends.{lent_of};
 ghost use Rattle.entry.specs.Whole.{limit_of, rows_at, Rows, Clean, script_end, Scripted, Written};
 
 use answers::outside;
-use entry_parts::{Made, code_limit, end_call, finish_image, stopped_of};
+use entry_parts::{code_limit, end_call, finish_image, stopped_of};
 use op::Op;
-use rules::{Answer, Refusal, Span};
+use rules::{Answer, Refusal, Span, Stopped};
 use state::Table;
 use statements::compile_stmts;
 use step_bytes::emit_op;
 use steps::{Class, Step};
 use stmt_functions::finish;
-use tree::{Checked, Script};
+use tree::Script;
 
 // ## The script
 
@@ -32,7 +31,7 @@ fn end_script(t: &mut [u64], code: &mut [u8], spans: &mut [u32], limit: usize) -
 {
     let span = Span { start: 0, end: 0 };
     let a = emit_op(t, code, spans, 0, limit, Op::NIL, span, 0);
-    let Step::Next(_) = a else {
+    let Ok(_) = a else {
         return a;
     };
     emit_op(t, code, spans, 0, limit, Op::RETURN, span, 0)
@@ -53,15 +52,15 @@ fn compile_script(
     ensures { Scripted limit (rows_at tree.now count at) (length tree.now) t.new out.new result }
 {
     let a = compile_stmts(tree, at, count, t, code, spans, out, 0, limit, Class::NONE);
-    let Step::Next(_) = a else {
+    let Ok(_) = a else {
         return a;
     };
     let b = end_script(t, code, spans, limit);
-    let Step::Next(_) = b else {
+    let Ok(_) = b else {
         return b;
     };
     finish(t, &code[..], &spans[..], out, 0);
-    Step::Next(6 + t[Table::IMAGE_BYTES] as usize)
+    Ok(6 + t[Table::IMAGE_BYTES] as usize)
 }
 
 // ## The image
@@ -75,8 +74,8 @@ fn compile_sound(
     t: &mut [u64],
     code: &mut [u8],
     spans: &mut [u32],
-) -> Made
-    requires { (checked_file tree.now ≡ checks.Checked.Sound script) × (length t.old ≡ table_words) }
+) -> Result<usize, Stopped>
+    requires { (checked_file tree.now ≡ Ok script) × (length t.old ≡ table_words) }
     ensures { Written options (rules.compile_tree first_limits tree.now (limit_of code.old spans.old)) out.new result }
 {
     let limit = code_limit(code.len(), spans.len());
@@ -93,8 +92,8 @@ fn compile_sound(
         limit,
     );
     match r {
-        Step::Next(n) => finish_image(out, n, t[Table::FUNCTIONS], options),
-        Step::Stop(why) => Made::Refused(stopped_of(&t[..], why)),
+        Ok(n) => finish_image(out, n, t[Table::FUNCTIONS], options),
+        Err(why) => Err(stopped_of(&t[..], why)),
     }
 }
 
@@ -106,15 +105,15 @@ fn compile_lent(
     table: &mut [u64],
     code: &mut [u8],
     spans: &mut [u32],
-) -> Made
+) -> Result<usize, Stopped>
     ensures { Written options (rules.compile_lent first_limits tree.now (lent_of options table.old code.old spans.old out.old)) out.new result }
 {
     if table.len() < Table::WORDS {
-        return Made::Refused(outside(Refusal::WorkShort));
+        return Err(outside(Refusal::WorkShort));
     }
     match tree::read(tree) {
-        Checked::Bad(x) => Made::Refused(outside(x)),
-        Checked::Sound(script) => {
+        Err(x) => Err(outside(x)),
+        Ok(script) => {
             compile_sound(
                 tree,
                 script,

@@ -12,23 +12,23 @@ returns-then-table-lt-WORDS c =
     let a = c.args in
     refused_as c.outside.ensures (table_short a.tree.now a.options a.table.now a.code.now a.spans.now a.out.now c.if-table-lt-WORDS.true)
 
-pub slice_bounds-compile_sound-end-in-Sound : goal.slice_bounds-compile_sound-end-in-Sound
-slice_bounds-compile_sound-end-in-Sound c = sym (length-take-le table_words c.args.table.now (search rules))
+pub slice_bounds-compile_sound-end-in-Ok : goal.slice_bounds-compile_sound-end-in-Ok
+slice_bounds-compile_sound-end-in-Ok c = sym (length-take-le table_words c.args.table.now (search rules))
 
 pub compile_sound-requires : goal.compile_sound-requires
 compile_sound-requires c = (
-  sym c.read.ensures ∙ c.in-Sound.is,
+  sym c.read.ensures ∙ c.in-Ok.is,
   length-take-le table_words
       c.args.table.now c.if-table-lt-WORDS.false,
 )
 
-pub returns-in-Bad : goal.returns-in-Bad
-returns-in-Bad c =
+pub returns-in-Err : goal.returns-in-Err
+returns-in-Err c =
     let a = c.args in
     written_as (table_enough a.tree.now a.options a.table.now a.code.now a.spans.now a.out.now c.if-table-lt-WORDS.false)
-    (refused_as c.outside-in-Bad.ensures (refused_file _ _ (sym c.read.ensures ∙ c.in-Bad.is)))
+    (refused_as c.outside-in-Err.ensures (refused_file _ _ (sym c.read.ensures ∙ c.in-Err.is)))
 
-pub returns-in-Sound : goal.returns-in-Sound
-returns-in-Sound c =
+pub returns-in-Ok : goal.returns-in-Ok
+returns-in-Ok c =
     let a = c.args in written_as (table_enough a.tree.now a.options a.table.now a.code.now a.spans.now a.out.now
     c.if-table-lt-WORDS.false) c.compile_sound.ensures

@@ -17,24 +17,24 @@ returns-in_default c =
 
 pub end_script-b-requires : goal.end_script-b-requires
 end_script-b-requires c =
-    fit_between c.requires.0 c.requires.1 (c.compile_stmts-a.ensures.at_depth first_limits.depth) c.in-Next.is
+    fit_between c.requires.0 c.requires.1 (c.compile_stmts-a.ensures.at_depth first_limits.depth) c.in-Ok.is
 
 pub returns-in_default-b : goal.returns-in_default-b
 returns-in_default-b c =
-    stopped_second c.requires.0 c.requires.1 (c.compile_stmts-a.ensures.at_depth first_limits.depth) c.in-Next.is c.end_script-b.ensures c.in_default-b.is
+    stopped_second c.requires.0 c.requires.1 (c.compile_stmts-a.ensures.at_depth first_limits.depth) c.in-Ok.is c.end_script-b.ensures c.in_default-b.is
 
 pub finish-requires : goal.finish-requires
 finish-requires c =
-    to_finish c.requires.0 c.requires.1 (c.compile_stmts-a.ensures.at_depth first_limits.depth) c.in-Next.is c.end_script-b.ensures
-    c.in-Next-b.is
+    to_finish c.requires.0 c.requires.1 (c.compile_stmts-a.ensures.at_depth first_limits.depth) c.in-Ok.is c.end_script-b.ensures
+    c.in-Ok-b.is
 
 pub overflow_add-result : goal.overflow_add-result
 overflow_add-result c =
-    let f = to_finish c.requires.0 c.requires.1 (c.compile_stmts-a.ensures.at_depth first_limits.depth) c.in-Next.is c.end_script-b.ensures
-    c.in-Next-b.is in
+    let f = to_finish c.requires.0 c.requires.1 (c.compile_stmts-a.ensures.at_depth first_limits.depth) c.in-Ok.is c.end_script-b.ensures
+    c.in-Ok-b.is in
     omega (arith, c.finish.ensures.bytes, f.2)
 
 pub returns : goal.returns
 returns c =
-    scripted c.requires.0 c.requires.1 (c.compile_stmts-a.ensures.at_depth first_limits.depth) c.in-Next.is c.end_script-b.ensures c.in-Next-b.is
+    scripted c.requires.0 c.requires.1 (c.compile_stmts-a.ensures.at_depth first_limits.depth) c.in-Ok.is c.end_script-b.ensures c.in-Ok-b.is
     c.finish.ensures

@@ -15,24 +15,24 @@ compile_script-r-requires c = (
 
 pub finish_image-requires : goal.finish_image-requires
 finish_image-requires c =
-    let w = sound_recorded _ c.requires.0 c.compile_script-r.ensures c.in-Next.is in
+    let w = sound_recorded _ c.requires.0 c.compile_script-r.ensures c.in-Ok.is in
     (omega (arith, w.long), w.small)
 
 pub stopped_of-requires : goal.stopped_of-requires
 stopped_of-requires c =
     omega (arith, c.compile_script-r.auto.t, c.begin_script.auto.t, c.requires.1)
 
-pub returns-in-Next : goal.returns-in-Next
-returns-in-Next c =
+pub returns-in-Ok : goal.returns-in-Ok
+returns-in-Ok c =
     written_limit _ c.code_limit-limit.ensures
     (written_finished (sound_recorded _ c.requires.0 c.compile_script-r.ensures
-    c.in-Next.is) c.finish_image.ensures)
+    c.in-Ok.is) c.finish_image.ensures)
 
-pub shape_of-out-in-Stop : goal.shape_of-out-in-Stop
-shape_of-out-in-Stop c =
+pub shape_of-out-in-Err : goal.shape_of-out-in-Err
+shape_of-out-in-Err c =
     omega (arith, c.compile_script-r.auto.out, c.clear8.auto.area)
 
-pub returns-in-Stop : goal.returns-in-Stop
-returns-in-Stop c =
+pub returns-in-Err : goal.returns-in-Err
+returns-in-Err c =
     written_limit _ c.code_limit-limit.ensures
-    (refused_as c.stopped_of.ensures (sound_refused _ c.requires.0 c.compile_script-r.ensures c.in-Stop.is))
+    (refused_as c.stopped_of.ensures (sound_refused _ c.requires.0 c.compile_script-r.ensures c.in-Err.is))

@@ -6,7 +6,7 @@ pub returns-in_default : goal.returns-in_default
 returns-in_default c = halt _ (c.emit_op-a.ensures 0) c.in_default.is
 
 pub emit_op-requires : goal.emit_op-requires
-emit_op-requires c = (went (c.emit_op-a.ensures 0) c.in-Next.is).ahead.fit
+emit_op-requires c = (went (c.emit_op-a.ensures 0) c.in-Ok.is).ahead.fit
 
 pub returns : goal.returns
-returns c = then_on _ (c.emit_op-a.ensures 0) c.in-Next.is (c.emit_op.ensures 0)
+returns c = then_on _ (c.emit_op-a.ensures 0) c.in-Ok.is (c.emit_op.ensures 0)
