@@ -1,7 +1,7 @@
 // Statements and methods. A record's own fields are read first, and a class's superclass with them, and then the records that they announce.
 #![tactic(auto)]
 
-ghost use Rattle.std.specs.Prelude.{◌≡◌, ◌+◌, ◌≤◌, ◌<◌, length};
+ghost use Rattle.std.specs.Prelude.{◌≡◌, ◌<◌};
 ghost use Rattle.rules.specs.declared.Refusal.TheVariants.{TreeForm};
 ghost use Rattle.rules.specs.Reader.{u16};
 ghost use Rattle.rules.specs.TreeFile.{read_superclass};
@@ -12,7 +12,7 @@ ghost use Rattle.fields.specs.Marks as marks;
 use fields::Mark;
 use rules::Refusal;
 use tree_exprs::{check_expr, check_exprs};
-use tree_small::{byte_at, count_at, name_at, names_at};
+use tree_small::{Opened, byte_at, count_at, name_at, names_at};
 
 // What a statement's fields announce. From `at` on stand `init` statements, `cond` expressions, `body` records and `incr` expressions,
 // the statements with `funs` more `SF` to open in them; the records of the body are `methods`, or statements.
@@ -84,26 +84,20 @@ fn planned(at: usize, cond: usize, body: usize, funs: usize, methods: bool) -> H
 }
 
 // The number of statements, at `at`, and then they.
-fn body_kids(tree: &[u8], start: usize, at: usize, funs: usize) -> Result<Head, Refusal>
-    ensures { result ≡ body_from (u16 tree.now (TreeForm start) at) funs }
+fn body_kids(opened: &Opened, at: usize, funs: usize) -> Result<Head, Refusal>
+    ensures { result ≡ body_from (u16 opened.now.tree.now (TreeForm opened.now.start) at) funs }
 {
-    let Some(count) = count_at(tree, at) else {
-        return Err(Refusal::TreeForm(start));
+    let Some(count) = count_at(opened.tree, at) else {
+        return Err(Refusal::TreeForm(opened.start));
     };
     Ok(planned(at + 2, 0, count, funs, false))
 }
 
 // The superclass is read here: it has no children.
-fn class_kids(
-    tree: &[u8],
-    names: u16,
-    depth: usize,
-    start: usize,
-    funs: usize,
-) -> Result<Head, Refusal>
-    requires { start + 10 ≤ length tree.now }
-    ensures { ClassKids tree.now names depth start funs result }
+fn class_kids(opened: &Opened, names: u16, depth: usize, funs: usize) -> Result<Head, Refusal>
+    ensures { ClassKids opened.now.tree.now names depth opened.now.start funs result }
 {
+    let (tree, start) = (opened.tree, opened.start);
     let Some(_) = name_at(tree, names, start + 10) else {
         return Err(Refusal::TreeForm(start));
     };
@@ -121,10 +115,10 @@ fn class_kids(
 }
 
 // A function or a method, whose body may open `funs` more.
-fn fun_kids(tree: &[u8], names: u16, start: usize, funs: usize) -> Result<Head, Refusal>
-    requires { start + 10 ≤ length tree.now }
-    ensures { FunKids tree.now names start funs result }
+fn fun_kids(opened: &Opened, names: u16, funs: usize) -> Result<Head, Refusal>
+    ensures { FunKids opened.now.tree.now names opened.now.start funs result }
 {
+    let (tree, start) = (opened.tree, opened.start);
     let Some(_) = name_at(tree, names, start + 10) else {
         return Err(Refusal::TreeForm(start));
     };
@@ -132,25 +126,25 @@ fn fun_kids(tree: &[u8], names: u16, start: usize, funs: usize) -> Result<Head, 
         return Err(Refusal::TreeForm(start));
     };
     let next = names_at(tree, names, start, arity, start + 14)?;
-    body_kids(tree, start, next, funs)
+    body_kids(opened, next, funs)
 }
 
-fn if_kids(tree: &[u8], start: usize, funs: usize) -> Result<Head, Refusal>
-    requires { start + 10 ≤ length tree.now }
-    ensures { IfKids tree.now start funs result }
+fn if_kids(opened: &Opened, funs: usize) -> Result<Head, Refusal>
+    ensures { IfKids opened.now.tree.now opened.now.start funs result }
 {
-    let Some(has_else) = byte_at(tree, 2, start + 10) else {
+    let start = opened.start;
+    let Some(has_else) = byte_at(opened.tree, 2, start + 10) else {
         return Err(Refusal::TreeForm(start));
     };
     Ok(planned(start + 11, 1, 1 + has_else, funs, false))
 }
 
 // 1 init, 2 condition, 4 increment.
-fn for_kids(tree: &[u8], start: usize, funs: usize) -> Result<Head, Refusal>
-    requires { start + 10 ≤ length tree.now }
-    ensures { ForKids tree.now start funs result }
+fn for_kids(opened: &Opened, funs: usize) -> Result<Head, Refusal>
+    ensures { ForKids opened.now.tree.now opened.now.start funs result }
 {
-    let Some(parts) = byte_at(tree, 8, start + 10) else {
+    let start = opened.start;
+    let Some(parts) = byte_at(opened.tree, 8, start + 10) else {
         return Err(Refusal::TreeForm(start));
     };
     Ok(Head::Kids(Plan {
@@ -165,47 +159,47 @@ fn for_kids(tree: &[u8], start: usize, funs: usize) -> Result<Head, Refusal>
 }
 
 // A flag at `at`, and the expression that it announces.
-fn value_kids(tree: &[u8], start: usize, at: usize) -> Result<Head, Refusal>
-    ensures { ValueKids tree.now start at result }
+fn value_kids(opened: &Opened, at: usize) -> Result<Head, Refusal>
+    ensures { ValueKids opened.now.tree.now opened.now.start at result }
 {
-    let Some(has_value) = byte_at(tree, 2, at) else {
-        return Err(Refusal::TreeForm(start));
+    let Some(has_value) = byte_at(opened.tree, 2, at) else {
+        return Err(Refusal::TreeForm(opened.start));
     };
     Ok(Head::Exprs(at + 1, has_value))
 }
 
-fn var_kids(tree: &[u8], names: u16, start: usize) -> Result<Head, Refusal>
-    requires { start + 10 ≤ length tree.now }
-    ensures { VarKids tree.now names start result }
+fn var_kids(opened: &Opened, names: u16) -> Result<Head, Refusal>
+    ensures { VarKids opened.now.tree.now names opened.now.start result }
 {
-    let Some(_) = name_at(tree, names, start + 10) else {
+    let start = opened.start;
+    let Some(_) = name_at(opened.tree, names, start + 10) else {
         return Err(Refusal::TreeForm(start));
     };
-    value_kids(tree, start, start + 12)
+    value_kids(opened, start + 12)
 }
 
 // What follows the span, by the mark. `depth` is what the children have.
 fn stmt_kids(
-    tree: &[u8],
+    opened: &Opened,
     names: u16,
     depth: usize,
     funs: usize,
     mark: u16,
-    start: usize,
 ) -> Result<Head, Refusal>
-    requires { (start + 10 ≤ length tree.now) × (mark ≡ marks.SF → 0 < funs) }
-    ensures { StmtKids tree.now names depth funs mark start result }
+    requires { mark ≡ marks.SF → 0 < funs }
+    ensures { StmtKids opened.now.tree.now names depth funs mark opened.now.start result }
 {
+    let at = opened.start + 10;
     match mark {
-        Mark::BLOCK => body_kids(tree, start, start + 10, funs),
-        Mark::CLASS => class_kids(tree, names, depth, start, funs),
-        Mark::EXPRESSION | Mark::PRINT => Ok(Head::Exprs(start + 10, 1)),
-        Mark::FUN => fun_kids(tree, names, start, funs - 1),
-        Mark::IF => if_kids(tree, start, funs),
-        Mark::FOR => for_kids(tree, start, funs),
-        Mark::RETURN => value_kids(tree, start, start + 10),
-        Mark::VAR => var_kids(tree, names, start),
-        _ => Ok(planned(start + 10, 1, 1, funs, false)),
+        Mark::BLOCK => body_kids(opened, at, funs),
+        Mark::CLASS => class_kids(opened, names, depth, funs),
+        Mark::EXPRESSION | Mark::PRINT => Ok(Head::Exprs(at, 1)),
+        Mark::FUN => fun_kids(opened, names, funs - 1),
+        Mark::IF => if_kids(opened, funs),
+        Mark::FOR => for_kids(opened, funs),
+        Mark::RETURN => value_kids(opened, at),
+        Mark::VAR => var_kids(opened, names),
+        _ => Ok(planned(at, 1, 1, funs, false)),
     }
 }
 
@@ -234,7 +228,7 @@ fn open_stmt(
     if !fields::has(tree, start, 10) {
         return Err(Refusal::TreeForm(start));
     }
-    stmt_kids(tree, names, depth - 1, funs, mark, start)
+    stmt_kids(&Opened { tree, start }, names, depth - 1, funs, mark)
 }
 
 // A statement, or where `method` is set a method. The answer of expressions is taken apart and made anew, as in `check_kids`.
