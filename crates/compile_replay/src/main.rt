@@ -72,7 +72,8 @@ fn same_output(out: &[u8], image: &[u8]) -> bool {
     front == image && rest.iter().all(|b| *b == 0)
 }
 
-// A tree, compiled in what is lent: whether the answer is what is told, and the output the image.
+// A tree, compiled in what is lent: whether the answer is what is told, and the output the image. The areas stay parameters: of a struct of them,
+// which was tried, one field cannot be lent while another is.
 fn agrees(
     lent: Lent,
     told: [u64; 7],

@@ -8,7 +8,7 @@ ghost use Rattle.rules.specs.Chunk.{ObjectFunction};
 ghost use Rattle.rules.specs.Checker.{distinct};
 ghost use Rattle.image_code.specs.declared.Kind.TheVariants.{Missing};
 ghost use Rattle.image_constants.specs.Words.{constant_of, constants_of, Gathered, stamps_least, slot_in};
-ghost use Rattle.image_constants.specs.Earlier.{earlier, is_got, upvalues_at, Counts, kind_word, Kinds};
+ghost use Rattle.image_constants.specs.Earlier.{earlier, is_got, upvalues_at, kind_word, Kinds};
 
 use image_code::Kind;
 
@@ -69,51 +69,62 @@ fn upvalues_by_walk(s: &[u8], j: usize) -> u16
     h.upvalues
 }
 
-fn upvalues_of(s: &[u8], j: usize, k: usize, counts: &[u16]) -> u16
-    requires { Counts s.now k counts.now × (j < k) }
-    ensures { result ≡ upvalues_at (earlier s.now k) j }
-{
-    if j < counts.len() {
-        return counts[j];
-    }
-    upvalues_by_walk(s, j)
+// What is known where function `k` is judged: `k` functions were read, and the table has how many variables each of them captures, as far as it goes.
+// In a proof a field's type does not say that a byte is one.
+#[derive(Clone, Copy)]
+pub struct Earlier<'a> {
+    pub s: &'a [u8],
+    pub k: usize,
+    pub counts: &'a [u16],
+    pub ghost bytes: { (i : ℕ) → get_or s.now i 0 < 256 },
+    pub ghost there: { is_got (many k (read_function s.now) 6) ≡ true },
+    pub ghost known: { (j : ℕ) → j < k → j < length counts.now → get_or counts.now j 0 ≡ upvalues_at (earlier s.now k) j },
 }
 
-// The kind of a constant of function `k`, by its word.
-fn kind_of(s: &[u8], word: u64, k: usize, counts: &[u16]) -> Kind
-    requires { Counts s.now k counts.now }
-    ensures { result ≡ kind_word (earlier s.now k) k (constant_of word) }
-{
-    if word % 2 == 0 {
-        return Kind::Number;
+impl<'a> Earlier<'a> {
+    fn upvalues_of(&self, j: usize) -> u16
+        requires { j < self.now.k }
+        ensures { result ≡ upvalues_at (earlier self.now.s.now self.now.k) j }
+    {
+        if j < self.counts.len() {
+            return self.counts[j];
+        }
+        upvalues_by_walk(self.s, j)
     }
-    if word % 4 == 1 {
-        return Kind::Text;
-    }
-    let number = (word / 4) as usize;
-    if number < k {
-        return Kind::Function(upvalues_of(s, number, k, counts));
-    }
-    Kind::Missing
-}
 
-// The kinds of the constants of function `k`, in a table that had none. False where one names no earlier function, or is a function that no
-// CLOSURE can name.
-pub fn kinds_of(s: &[u8], words: &[u64], k: usize, counts: &[u16], kinds: &mut [Kind; 256]) -> bool
-    requires counts { Counts s.now k counts.now }
-    requires kinds_len { (length kinds.old ≡ 256) × ((p : ℕ) → get_or kinds.old p Missing ≡ Missing) }
-    ensures { Kinds (earlier s.now k) k (constants_of (length words.now) words.now) result kinds.new }
-{
-    for (i, word) in words.iter().enumerate() {
-        let kind = kind_of(s, *word, k, counts);
-        if let Kind::Missing = kind {
-            return false;
+    // The kind of a constant, by its word.
+    fn kind_of(&self, word: u64) -> Kind
+        ensures { result ≡ kind_word (earlier self.now.s.now self.now.k) self.now.k (constant_of word) }
+    {
+        if word % 2 == 0 {
+            return Kind::Number;
         }
-        if i < 256 {
-            kinds[i] = kind;
-        } else if let Kind::Function(_) = kind {
-            return false;
+        if word % 4 == 1 {
+            return Kind::Text;
         }
+        let number = (word / 4) as usize;
+        if number < self.k {
+            return Kind::Function(self.upvalues_of(number));
+        }
+        Kind::Missing
     }
-    true
+
+    // The kinds of the constants, in a table that had none. False where one names no earlier function, or is a function that no CLOSURE can name.
+    pub fn kinds_of(&self, words: &[u64], kinds: &mut [Kind; 256]) -> bool
+        requires { (length kinds.old ≡ 256) × ((p : ℕ) → get_or kinds.old p Missing ≡ Missing) }
+        ensures { Kinds (earlier self.now.s.now self.now.k) self.now.k (constants_of (length words.now) words.now) result kinds.new }
+    {
+        for (i, word) in words.iter().enumerate() {
+            let kind = self.kind_of(*word);
+            if let Kind::Missing = kind {
+                return false;
+            }
+            if i < 256 {
+                kinds[i] = kind;
+            } else if let Kind::Function(_) = kind {
+                return false;
+            }
+        }
+        true
+    }
 }

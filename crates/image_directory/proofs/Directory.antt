@@ -95,11 +95,11 @@ module _ (s : List ℕ) where
       unfolding ends
       refused b = sym (directory_is ∙ ap (ends (length s)) b)
 
-      pub no_room : length s < at + 6 → false ≡ behind_right s functions
+      no_room : length s < at + 6 → false ≡ behind_right s functions
       no_room h = refused (no_room_by g.value at _ _ refl refl h)
 
       module _ (h : at + 6 ≤ length s) where
-        pub no_mark : (letters s at ≡ 0x4458 → ⊥) → false ≡ behind_right s functions
+        no_mark : (letters s at ≡ 0x4458 → ⊥) → false ≡ behind_right s functions
         no_mark m = refused (other_mark g.value at (omega arith) m)
 
         module _ (m : letters s at ≡ 0x4458) (said : ℕ) (is_said : said ≡ word32 s (at + 2)) where
@@ -109,7 +109,7 @@ module _ (s : List ℕ) where
           offsets_are : said ≡ count → behind_right s functions ≡ ends (length s) (read_offsets s (places 6 g.value) (at + 6))
           offsets_are c = directory_is ∙ ap (ends (length s)) (same_count g.value at h m (sym is_said ∙ c ∙ sym number_of))
 
-          pub no_end : said ≡ count → (at + 6 + 4 * said ≡ length s → ⊥) → false ≡ behind_right s functions
+          no_end : said ≡ count → (at + 6 + 4 * said ≡ length s → ⊥) → false ≡ behind_right s functions
           no_end c z =
               let l = places_length 6 g.value in
               sym (offsets_are c ∙ not_there (places 6 g.value) (at + 6) _ refl (λ q. z (omega (arith, number_of))))
@@ -117,3 +117,16 @@ module _ (s : List ℕ) where
           pub by_offsets : said ≡ count → offsets_right s 6 (at + 6) functions ≡ behind_right s functions
           unfolding offsets_right
           by_offsets c = ap (offsets_right s 6 (at + 6)) g.is ∙ sym (offsets_are c)
+
+      -- a mark, a count or an end is not as it should be
+      pub no_directory : (at + 6 ≤ length s → letters s at ≡ 0x4458 → at + 6 + 4 * word32 s (at + 2) ≡ length s → ⊥) → false ≡ behind_right s functions
+      no_directory z = by _ _ _ refl refl refl
+        where
+          by : (t u v : Bool) → leb (at + 6) (length s) ≡ t → eqb (letters s at) 0x4458 ≡ u → eqb (word32 s (at + 2)) count ≡ v → false ≡ behind_right s functions
+          by true true true e f g =
+              let h = leb-true _ _ e in
+              let m = eqb-true _ _ f in
+              no_end h m (word32 s (at + 2)) refl (eqb-true _ _ g) (z h m)
+          by true true false e f g = no_count (leb-true _ _ e) (eqb-true _ _ f) (word32 s (at + 2)) refl (eqb-false _ _ g)
+          by true false v e f g = no_mark (leb-true _ _ e) (eqb-false _ _ f)
+          by false u v e f g = no_room (leb-false _ _ e)

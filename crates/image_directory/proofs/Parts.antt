@@ -90,15 +90,15 @@ module _ (s : List ℕ) where
     no_room_by true false e f h = other_mark (leb-true _ _ e) (eqb-false _ _ f)
     no_room_by false u e f h = cut_mark (leb-false _ _ e)
 
-    pub no_room : length s < place + 6 → refusal ImageRefused ≡ code_through s place k
+    no_room : length s < place + 6 → refusal ImageRefused ≡ code_through s place k
     no_room h = entry_refused (no_room_by _ _ refl refl h)
 
     module _ (h : place + 6 ≤ length s) where
-      pub no_mark : (letters s place ≡ 0x4458 → ⊥) → refusal ImageRefused ≡ code_through s place k
+      no_mark : (letters s place ≡ 0x4458 → ⊥) → refusal ImageRefused ≡ code_through s place k
       no_mark n = entry_refused (other_mark (omega arith) n)
 
       module _ (m : letters s place ≡ 0x4458) (count : ℕ) (is-count : count ≡ word32 s (place + 2)) where
-        pub no_end : (place + 6 + 4 * count ≡ length s → ⊥) → refusal ImageRefused ≡ code_through s place k
+        no_end : (place + 6 + 4 * count ≡ length s → ⊥) → refusal ImageRefused ≡ code_through s place k
         unfolding code_through entry_part directory_entry ◌>>=◌ ◌>>◌ go_on here need
         no_end n =
             let p : place + 2 + 4 ≡ place + 6 = omega arith in
@@ -138,3 +138,13 @@ module _ (s : List ℕ) where
                 (a_u32 s).whole ImageRefused (place + 6 + 4 * k) (omega arith),
                 q,
               ) refl
+
+    -- a mark, a count or an end is not as it should be
+    pub no_directory : (place + 6 ≤ length s → letters s place ≡ 0x4458 → place + 6 + 4 * word32 s (place + 2) ≡ length s → ⊥)
+        → refusal ImageRefused ≡ code_through s place k
+    no_directory n = by _ _ refl refl
+      where
+        by : (t u : Bool) → leb (place + 6) (length s) ≡ t → eqb (letters s place) 0x4458 ≡ u → refusal ImageRefused ≡ code_through s place k
+        by true true e f = let h = leb-true _ _ e in let m = eqb-true _ _ f in no_end h m (word32 s (place + 2)) refl (n h m)
+        by true false e f = no_mark (leb-true _ _ e) (eqb-false _ _ f)
+        by false u e f = no_room (leb-false _ _ e)

@@ -6,7 +6,7 @@ ghost use Rattle.rules.specs.Reader.{many};
 ghost use Rattle.rules.specs.ImageFile.{read_function};
 ghost use Rattle.rules.specs.Checker.{record_part, code_through};
 ghost use Rattle.image_records.specs.Told.{place_told};
-ghost use Rattle.image_directory.specs.Behind.{offsets_right, behind_right};
+ghost use Rattle.image_directory.specs.Behind.{offsets_right, behind_right, EntriesTold};
 
 use answers::refused;
 use fields::Mark;
@@ -15,6 +15,23 @@ use rules::{Answer, Refusal};
 
 // A directory's mark and count.
 const HEAD: usize = 6;
+
+// How many entries the directory at `place` says it has, where it ends with them at the last byte; None where no such directory stands there.
+fn entry_count(image: &[u8], place: usize) -> Option<usize>
+    ensures { EntriesTold image.now place result }
+{
+    if !fields::has(image, place, HEAD) {
+        return None;
+    }
+    if fields::mark_at(image, place) != Mark::DIRECTORY {
+        return None;
+    }
+    let count = fields::u32_at(image, place + 2) as usize;
+    if image.len() - (place + HEAD) != 4 * count {
+        return None;
+    }
+    Some(count)
+}
 
 // Whether the entries from `first` on, to the last byte, are where the `count` functions stand. A place is compared as a number: no entry has one
 // that needs more than four bytes.
@@ -43,21 +60,13 @@ pub fn behind(image: &[u8], count: usize, at: usize) -> bool
     if at == image.len() {
         return true;
     }
-    if !fields::has(image, at, HEAD) {
+    let Some(said) = entry_count(image, at) else {
         return false;
-    }
-    if fields::mark_at(image, at) != Mark::DIRECTORY {
-        return false;
-    }
-    let said = fields::u32_at(image, at + 2) as usize;
+    };
     if said != count {
         return false;
     }
-    let first = at + HEAD;
-    if image.len() - first != 4 * said {
-        return false;
-    }
-    offsets(image, first, count)
+    offsets(image, at + HEAD, count)
 }
 
 // What is told of the function at `at`: 0 with the place of its code in `at`, its end in `end` and its length in `length`; 40 where none stands there.
@@ -87,16 +96,9 @@ pub fn record_part(image: &[u8], at: usize) -> Answer
 pub fn code_through(image: &[u8], place: usize, k: usize) -> Answer
     ensures { result ≡ code_through image.now place k }
 {
-    if !fields::has(image, place, HEAD) {
+    let Some(count) = entry_count(image, place) else {
         return refused(Refusal::ImageRefused);
-    }
-    if fields::mark_at(image, place) != Mark::DIRECTORY {
-        return refused(Refusal::ImageRefused);
-    }
-    let count = fields::u32_at(image, place + 2) as usize;
-    if image.len() - (place + HEAD) != 4 * count {
-        return refused(Refusal::ImageRefused);
-    }
+    };
     if k >= count {
         return refused(Refusal::NoSuchFunction);
     }

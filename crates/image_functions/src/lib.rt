@@ -12,75 +12,65 @@ ghost use Rattle.image_constants.specs.Earlier.{Counts};
 ghost use Rattle.image_functions.specs.Judged.{ConstantsRight, code_done, Judged, NextIs, functions_done};
 
 use image_code::{Kind, WINDOW};
+use image_constants::Earlier;
 use image_records::Header;
 
 // An image of at most this many bytes is small: it pays for small tables only.
 const SMALL: usize = 4096;
 
-// The constants of function `k`, as many as there are words for: that they are right, where they end, and their kinds.
+// The constants of the next function, as many as there are words for: that they are right, where they end, and their kinds.
 fn constants_in(
-    s: &[u8],
+    known: &Earlier,
     at: usize,
-    k: usize,
-    counts: &[u16],
     words: &mut [u64],
     stamps: &mut [u32],
     kinds: &mut [Kind; 256],
 ) -> Option<usize>
-    requires k_bound { (k < 4294967295) × Counts s.now k counts.now }
+    requires k_bound { known.now.k < 4294967295 }
     requires stamps_len { stamps_least ≤ length stamps.old }
     requires kinds_len { (p : ℕ) → get_or kinds.old p Missing ≡ Missing }
-    ensures { ConstantsRight s.now k at (length words.old) result kinds.new }
+    ensures { ConstantsRight known.now.s.now known.now.k at (length words.old) result kinds.new }
 {
-    let next = image_constants::gather(s, at, words)?;
-    let mark = (k + 1) as u32;
+    let next = image_constants::gather(known.s, at, words)?;
+    let mark = (known.k + 1) as u32;
     if !image_constants::all_new(words, mark, stamps) {
         return None;
     }
-    if !image_constants::kinds_of(s, words, k, counts, kinds) {
+    if !known.kinds_of(words, kinds) {
         return None;
     }
     Some(next)
 }
 
 // More than 256 constants, which no compiler makes: tables of their own, so that the others pay for none.
-fn constants_many(
-    s: &[u8],
-    at: usize,
-    n: usize,
-    k: usize,
-    counts: &[u16],
-    kinds: &mut [Kind; 256],
-) -> Option<usize>
-    requires n_bound { (n < 65536) × ((k < 4294967295) × Counts s.now k counts.now) }
+fn constants_many(known: &Earlier, at: usize, n: usize, kinds: &mut [Kind; 256]) -> Option<usize>
+    requires n_bound { (n < 65536) × (known.now.k < 4294967295) }
     requires kinds_len { (p : ℕ) → get_or kinds.old p Missing ≡ Missing }
-    ensures { ConstantsRight s.now k at n result kinds.new }
+    ensures { ConstantsRight known.now.s.now known.now.k at n result kinds.new }
 {
     let mut words = [0; 65536];
     let mut stamps = [0; 65536];
-    constants_in(s, at, k, counts, &mut words[..n], &mut stamps, kinds)
+    constants_in(known, at, &mut words[..n], &mut stamps, kinds)
 }
 
 // Any number of constants.
 fn constants_right(
-    s: &[u8],
+    known: &Earlier,
     at: usize,
     n: usize,
-    k: usize,
-    counts: &[u16],
     words: &mut [u64; 256],
     stamps: &mut [u32],
     kinds: &mut [Kind; 256],
 ) -> Option<usize>
-    requires n_bound { (n < 65536) × ((k < 4294967295) × Counts s.now k counts.now) }
+    requires n_bound { (n < 65536) × (known.now.k < 4294967295) }
     requires stamps_len { stamps_least ≤ length stamps.old }
     requires kinds_len { (p : ℕ) → get_or kinds.old p Missing ≡ Missing }
-    ensures { ConstantsRight s.now k at n result kinds.new }
+    ensures { ConstantsRight known.now.s.now known.now.k at n result kinds.new }
 {
     if n <= 256 {
-        return constants_in(s, at, k, counts, &mut words[..n], stamps, kinds);
+        return constants_in(known, at, &mut words[..n], stamps, kinds);
     }
-    constants_many(s, at, n, k, counts, kinds)
+    constants_many(known, at, n, kinds)
 }
 
 // The code of `size` bytes whose mark is at `at`, beside runs that stand for `sum` bytes: how many instructions it has, and where it ends.
@@ -106,28 +96,25 @@ fn code_right(
     Some((n, end))
 }
 
-// Function `k`, which begins at `at`: how many instructions it has, and where it ends.
+// The next function, which begins at `at`: how many instructions it has, and where it ends.
 fn function(
-    s: &[u8],
+    known: &Earlier,
     at: usize,
-    k: usize,
-    counts: &[u16],
     words: &mut [u64; 256],
     stamps: &mut [u32],
     ring: &mut [bool],
 ) -> Option<(usize, usize)>
-    requires k_bound { (k < 4294967295) × Counts s.now k counts.now }
-    requires stamps_len { (stamps_least ≤ length stamps.old) × Wide (length s.now) (length ring.old) }
-    ensures { Judged s.now k at result }
+    requires k_bound { known.now.k < 4294967295 }
+    requires stamps_len { (stamps_least ≤ length stamps.old) × Wide (length known.now.s.now) (length ring.old) }
+    ensures { Judged known.now.s.now known.now.k at result }
 {
+    let s = known.s;
     let h = image_records::head_of(s, at)?;
     let mut kinds = [Kind::Missing; 256];
     let runs_at = constants_right(
-        s,
+        known,
         at + Header::BYTES,
         h.constants as usize,
-        k,
-        counts,
         words,
         stamps,
         &mut kinds,
@@ -175,7 +162,7 @@ fn judge_all(
     let mut at = Header::FIRST;
     let mut total: usize = 0;
     for k in 0..count {
-        let (n, next) = function(s, at, k, counts, words, stamps, ring)?;
+        let (n, next) = function(&Earlier { s, k, counts }, at, words, stamps, ring)?;
         note_count(s, at, k, counts);
         total += n;
         at = next;

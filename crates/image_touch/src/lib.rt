@@ -9,11 +9,12 @@ ghost use Rattle.image_code.specs.declared.Kind.TheVariants.{Missing};
 ghost use Rattle.image_code.specs.Table.{kinds_in, instruction_at, from, instructions, is_some};
 ghost use Rattle.image_constants.specs.Words.{constants_of};
 ghost use Rattle.rules.specs.ImageFile.{read_function};
-ghost use Rattle.image_constants.specs.Earlier.{Counts, earlier};
+ghost use Rattle.image_constants.specs.Earlier.{earlier};
 ghost use Rattle.image_touch.specs.Walked.{of_function, walked, First, ConstantsKnown, is_right, Stepped, Sound};
 
 use answers::{accepted, refused};
 use image_code::Kind;
+use image_constants::Earlier;
 use image_records::Header;
 use op::Op;
 use rules::{Answer, Refusal};
@@ -73,46 +74,42 @@ fn walk(code: &[u8], kinds: &[Kind; 256], words: &[u64], name: u16, before: usiz
     Found { at: None, read }
 }
 
-// What operands can name of the `n` constants of function `k`: the first as words, and their kinds; and where all of them end.
+// What operands can name of the `n` constants of the next function: the first as words, and their kinds; and where all of them end.
 fn constants(
-    s: &[u8],
+    known: &Earlier,
     at: usize,
     n: usize,
-    k: usize,
-    counts: &[u16],
     words: &mut [u64],
     kinds: &mut [Kind; 256],
 ) -> Option<usize>
-    requires first { First n (length words.old) × Counts s.now k counts.now }
+    requires first { First n (length words.old) }
     requires kinds_len { (length kinds.old ≡ 256) × ((p : ℕ) → get_or kinds.old p Missing ≡ Missing) }
-    ensures { ConstantsKnown s.now k at n (length words.old) result words.new kinds.new }
+    ensures { ConstantsKnown known.now.s.now known.now.k at n (length words.old) result words.new kinds.new }
 {
-    let next = image_constants::gather(s, at, words)?;
-    if !image_constants::kinds_of(s, words, k, counts, kinds) {
+    let next = image_constants::gather(known.s, at, words)?;
+    if !known.kinds_of(words, kinds) {
         return None;
     }
-    image_records::skip_constants(s, next, n - words.len())
+    image_records::skip_constants(known.s, next, n - words.len())
 }
 
-// Function `k` of an image that was checked, which begins at `at`, after `before` instructions: what is found in it, and where it ends.
+// The next function of an image that was checked, which begins at `at`, after `before` instructions: what is found in it, and where it ends.
 fn function(
-    s: &[u8],
+    known: &Earlier,
     at: usize,
-    k: usize,
-    counts: &[u16],
     words: &mut [u64; 256],
     name: u16,
     before: usize,
 ) -> Option<(Found, usize)>
-    requires counts { Counts s.now k counts.now }
-    requires at_value { (is_right (earlier s.now k) (read_function s.now at) ≡ true) × (before ≤ at) }
-    ensures { Stepped name before s.now k at result }
+    requires { (is_right (earlier known.now.s.now known.now.k) (read_function known.now.s.now at) ≡ true) × (before ≤ at) }
+    ensures { Stepped name before known.now.s.now known.now.k at result }
 {
+    let s = known.s;
     let h = image_records::head_of(s, at)?;
     let n = h.constants as usize;
     let first = &mut words[..n.min(256)];
     let mut kinds = [Kind::Missing; 256];
-    let runs_at = constants(s, at + Header::BYTES, n, k, counts, first, &mut kinds)?;
+    let runs_at = constants(known, at + Header::BYTES, n, first, &mut kinds)?;
     let mark_at = image_records::skip_runs(s, runs_at, h.runs as usize)?;
     let size = h.code as usize;
     let start = image_records::code_at(s, mark_at, size)?;
@@ -147,7 +144,8 @@ fn search(s: &[u8], count: usize, counts: &mut [u16], words: &mut [u64; 256], na
     let mut at: usize = Header::FIRST;
     let mut read: usize = 0;
     for k in 0..count {
-        let Some((found, next)) = function(s, at, k, counts, words, name, read) else {
+        let known = Earlier { s, k, counts };
+        let Some((found, next)) = function(&known, at, words, name, read) else {
             return refused(Refusal::ImageRefused);
         };
         if let Some(place) = found.at {

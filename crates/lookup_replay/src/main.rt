@@ -24,15 +24,11 @@ fn lookup(bytes: &[u8], directory: Option<usize>, k: usize) -> Answer {
 
 fn fold_answer(sum: u64, bytes: &[u8], directory: Option<usize>, k: usize) -> u64 {
     let a = lookup(bytes, directory, k);
-    vectors::fold(vectors::fold(vectors::fold(sum, a.number), a.at), a.end)
+    vectors::fold_all(sum, &[a.number, a.at, a.end])
 }
 
 fn digest(bytes: &[u8], directory: Option<usize>, count: usize) -> u64 {
-    let mut sum: u64 = 0;
-    for k in 0..count {
-        sum = fold_answer(sum, bytes, directory, k);
-    }
-    sum
+    (0..count).fold(0, |sum, k| fold_answer(sum, bytes, directory, k))
 }
 
 fn line(rt: &impl Print, size: u32, count: u32, sum: u64) -> io::Result<()> {
@@ -52,16 +48,8 @@ fn replay<R: Read>(rt: &impl Print, input: &mut R, space: &mut [u8]) -> io::Resu
     Ok(true)
 }
 
-fn replay_all<R: Read>(rt: &impl Print, input: &mut R, space: &mut [u8; 1024]) -> io::Result<()> {
-    for _ in 0..1000 {
-        if !replay(rt, input, space)? {
-            break;
-        }
-    }
-    Ok(())
-}
-
 fn main(rt: HostRuntime) -> io::Result<()> {
     let mut space = [0u8; 1024];
-    replay_all(&rt, &mut rt.reader(), &mut space)
+    let mut input = rt.reader();
+    vectors::each(1000, || replay(&rt, &mut input, &mut space))
 }

@@ -14,6 +14,7 @@ pub fn read_full<R: Read>(input: &mut R, space: &mut [u8]) -> io::Result<usize>
     ensures end { IfOk result (λ n. n < length space.new → IsAtEnd (R.remaining input.new)) }
 {
     let mut done = 0;
+    // each turn moves by what was read: no range or iterator has such steps
     while done < space.len() {
         let n = input.read(&mut space[done..])?;
         if n == 0 {

@@ -14,15 +14,11 @@ fn fill<R: Read>(input: &mut R, words: &mut [u32]) -> io::Result<()> {
 
 fn fold_answer(sum: u64, words: &[u32], offset: usize) -> u64 {
     let a = spans::span_of_words(words, offset);
-    vectors::fold(vectors::fold(vectors::fold(sum, a.number), a.at), a.end)
+    vectors::fold_all(sum, &[a.number, a.at, a.end])
 }
 
 fn digest(words: &[u32], offsets: usize) -> u64 {
-    let mut sum: u64 = 0;
-    for offset in 0..offsets {
-        sum = fold_answer(sum, words, offset);
-    }
-    sum
+    (0..offsets).fold(0, |sum, offset| fold_answer(sum, words, offset))
 }
 
 fn line(rt: &impl Print, size: u32, offsets: u32, sum: u64) -> io::Result<()> {
@@ -44,16 +40,8 @@ fn replay<R: Read>(rt: &impl Print, input: &mut R, words: &mut [u32]) -> io::Res
     Ok(true)
 }
 
-fn replay_all<R: Read>(rt: &impl Print, input: &mut R, words: &mut [u32; 3072]) -> io::Result<()> {
-    for _ in 0..1000 {
-        if !replay(rt, input, words)? {
-            break;
-        }
-    }
-    Ok(())
-}
-
 fn main(rt: HostRuntime) -> io::Result<()> {
     let mut words = [0u32; 3072];
-    replay_all(&rt, &mut rt.reader(), &mut words)
+    let mut input = rt.reader();
+    vectors::each(1000, || replay(&rt, &mut input, &mut words))
 }

@@ -7,16 +7,11 @@ use std::io::Read;
 
 fn fold_answer(sum: u64, bytes: &[u8], name: u16) -> u64 {
     let a = image_touch::touch(bytes, name);
-    let place = vectors::fold(vectors::fold(vectors::fold(sum, a.number), a.at), a.end);
-    vectors::fold(vectors::fold(place, a.name), a.length)
+    vectors::fold_all(sum, &[a.number, a.at, a.end, a.name, a.length])
 }
 
 fn digest(bytes: &[u8], count: u16) -> u64 {
-    let mut sum: u64 = 0;
-    for name in 0..count {
-        sum = fold_answer(sum, bytes, name);
-    }
-    sum
+    (0..count).fold(0, |sum, name| fold_answer(sum, bytes, name))
 }
 
 fn line(rt: &impl Print, size: u32, count: u16, sum: u64) -> io::Result<()> {
@@ -39,16 +34,8 @@ fn replay<R: Read>(rt: &impl Print, input: &mut R, space: &mut [u8]) -> io::Resu
     Ok(true)
 }
 
-fn replay_all<R: Read>(rt: &impl Print, input: &mut R, space: &mut [u8; 1024]) -> io::Result<()> {
-    for _ in 0..1000 {
-        if !replay(rt, input, space)? {
-            break;
-        }
-    }
-    Ok(())
-}
-
 fn main(rt: HostRuntime) -> io::Result<()> {
     let mut space = [0u8; 1024];
-    replay_all(&rt, &mut rt.reader(), &mut space)
+    let mut input = rt.reader();
+    vectors::each(1000, || replay(&rt, &mut input, &mut space))
 }

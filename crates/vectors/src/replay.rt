@@ -104,6 +104,18 @@ pub fn count<F: FnMut() -> io::Result<Option<bool>>>(
     Ok(())
 }
 
+// Up to `most` turns of a replay, which answers false where nothing is left.
+pub fn each<F: FnMut() -> io::Result<bool>>(most: usize, mut replay: F) -> io::Result<()>
+    requires { (f : _) → F.pre f }
+{
+    for _ in 0..most {
+        if !replay()? {
+            break;
+        }
+    }
+    Ok(())
+}
+
 pub fn replay_all<R: Read>(
     rt: &impl Print,
     input: &mut R,

@@ -5,14 +5,22 @@ use crate::Kind;
 use std::io;
 use std::io::Read;
 
-// What a digest has: numbers folded one after the other.
-pub fn fold(sum: u64, value: u64) -> u64 {
+fn fold(sum: u64, value: u64) -> u64 {
     (sum % 4294967291 * 65599 + value % 4294967291) % 4294967291
+}
+
+// What a digest has: numbers folded one after the other.
+pub fn fold_all(start: u64, values: &[u64]) -> u64 {
+    let mut sum = start;
+    for value in values {
+        sum = fold(sum, *value);
+    }
+    sum
 }
 
 fn fold_answer(kind: Kind, sum: u64, bytes: &[u8]) -> u64 {
     let a = crate::answer(kind, bytes);
-    fold(fold(fold(sum, a.number), a.at), a.length)
+    fold_all(sum, &[a.number, a.at, a.length])
 }
 
 fn add_one(bytes: &mut [u8], at: usize) {
@@ -89,10 +97,5 @@ pub fn vary_all<R: Read>(
     kind: Kind,
     space: &mut [u8; 1024],
 ) -> io::Result<()> {
-    for _ in 0..100 {
-        if !vary(rt, input, kind, space)? {
-            break;
-        }
-    }
-    Ok(())
+    crate::each(100, || vary(rt, input, kind, space))
 }

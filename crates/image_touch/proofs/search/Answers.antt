@@ -10,10 +10,7 @@ loop-k-init c = search_begin c.args.s.now c.args.count c.args.name c.requires c.
 pub function-requires : goal.function-requires
 function-requires c =
     let g = c.loop-k.invariant in
-    record {
-      counts = g.counts_are;
-      at_value = (function_right c.args.s.now c.args.count c.args.name c.requires _ c.loop-k.at c.loop-k.k c.loop-k.read g c.loop-k-test.true, g.low);
-    }
+    (function_right c.args.s.now c.args.count c.args.name c.requires _ c.loop-k.at c.loop-k.k c.loop-k.read g c.loop-k-test.true, g.low)
 
 pub returns-in_default : goal.returns-in_default
 returns-in_default c =
