@@ -4,7 +4,7 @@
 
 ghost use Rattle.std.specs.Prelude.{◌+◌, ◌≤◌};
 ghost use Rattle.fields.specs.Words.{word16};
-ghost use Rattle.steps.specs.View.{mem, Fit};
+ghost use Rattle.steps.specs.View.{areas, SameAreas, Fit};
 ghost use Rattle.expr_laws.specs.Exprs.{Somewhere, CallOpened, CallParts, CallClosed};
 
 use fields::{Mark, mark_at, u16_at};
@@ -13,22 +13,21 @@ use rules::{Limit, Name, Span};
 use step_bytes::{emit_invoke, emit_op_u8};
 use step_names::get_variable;
 use step_returns::need_super;
-use steps::{Reason, Step, Why};
+use steps::{Reason, Step, Why, Work};
 
 // A call up to its first part that is compiled; the answer's value is where that part stands.
 pub fn call_open(
     tree: &[u8],
     at: usize,
-    t: &mut [u64],
-    code: &mut [u8],
-    spans: &mut [u32],
+    work: &mut Work<'_>,
     level: usize,
     limit: usize,
     class: u8,
     span: Span,
 ) -> Step
-    requires { (Fit (mem t.old code.old spans.old) level limit) × (Somewhere tree.now (at + 12)) }
-    ensures { CallOpened class limit level tree.now at span (mem t.old code.old spans.old) (mem t.new code.new spans.new) result }
+    requires { (Fit (areas work.old) level limit) × (Somewhere tree.now (at + 12)) }
+    ensures does { CallOpened class limit level tree.now at span (areas work.old) (areas work.new) result }
+    ensures same { SameAreas work.old work.new }
 {
     if Limit::ARGS < u16_at(tree, at + 10) {
         return Err(Why {
@@ -44,17 +43,7 @@ pub fn call_open(
         let Ok(_) = n else {
             return n;
         };
-        return get_variable(
-            t,
-            code,
-            spans,
-            level,
-            limit,
-            class,
-            Name::THIS,
-            span,
-            at + 24,
-        );
+        return get_variable(work, level, limit, class, Name::THIS, span, at + 24);
     }
     if mark == Mark::GET {
         return Ok(at + 24);
@@ -77,30 +66,27 @@ pub fn call_parts(tree: &[u8], at: usize) -> usize
 pub fn call_close(
     tree: &[u8],
     at: usize,
-    t: &mut [u64],
-    code: &mut [u8],
-    spans: &mut [u32],
+    work: &mut Work<'_>,
     level: usize,
     limit: usize,
     class: u8,
     span: Span,
     next: usize,
 ) -> Step
-    requires { (Fit (mem t.old code.old spans.old) level limit) × (Somewhere tree.now (at + 12)) × (word16 tree.now (at + 10) ≤ 255) }
-    ensures { CallClosed class limit level tree.now at next span (mem t.old code.old spans.old) (mem t.new code.new spans.new) result }
+    requires { (Fit (areas work.old) level limit) × (Somewhere tree.now (at + 12)) × (word16 tree.now (at + 10) ≤ 255) }
+    ensures does { CallClosed class limit level tree.now at next span (areas work.old) (areas work.new) result }
+    ensures same { SameAreas work.old work.new }
 {
     let count = (u16_at(tree, at + 10) % 256) as u8;
     let mark = mark_at(tree, at + 12);
     if mark == Mark::SUPER {
-        let a = get_variable(t, code, spans, level, limit, class, Name::SUPER, span, next);
+        let a = get_variable(work, level, limit, class, Name::SUPER, span, next);
         let Ok(_) = a else {
             return a;
         };
         let name = u16_at(tree, at + 22);
         return emit_invoke(
-            t,
-            code,
-            spans,
+            work,
             level,
             limit,
             Op::SUPER_INVOKE,
@@ -112,18 +98,7 @@ pub fn call_close(
     }
     if mark == Mark::GET {
         let name = u16_at(tree, at + 22);
-        return emit_invoke(
-            t,
-            code,
-            spans,
-            level,
-            limit,
-            Op::INVOKE,
-            name,
-            count,
-            span,
-            next,
-        );
+        return emit_invoke(work, level, limit, Op::INVOKE, name, count, span, next);
     }
-    emit_op_u8(t, code, spans, level, limit, Op::CALL, count, span, next)
+    emit_op_u8(work, level, limit, Op::CALL, count, span, next)
 }

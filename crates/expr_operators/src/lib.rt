@@ -2,14 +2,14 @@
 #![tactic(auto)]
 
 ghost use Rattle.std.specs.Prelude.{ℕ, ◌+◌, ◌≤◌, ◌<◌};
-ghost use Rattle.steps.specs.View.{mem, Fit, code_len};
+ghost use Rattle.steps.specs.View.{areas, SameAreas, Fit, code_len};
 ghost use Rattle.expr_laws.specs.Exprs.{PrefixOp, InfixOp, Begun, Closed};
 
 use op::Op;
 use rules::Span;
 use step_bytes::emit_op;
 use step_jumps::{emit_jump, patch_jump};
-use steps::Step;
+use steps::{Step, Work};
 
 // The opcode of a prefix operator's number.
 pub fn prefix_op(operator: u8) -> u8
@@ -44,42 +44,39 @@ fn infix_op(operator: u8) -> u8
 
 // An infix operator up to its right side. `and` and `or` leave the operand of a jump open, whose place is the answer's value.
 pub fn before_right(
-    t: &mut [u64],
-    code: &mut [u8],
-    spans: &mut [u32],
+    work: &mut Work<'_>,
     level: usize,
     limit: usize,
     operator: u8,
     span: Span,
 ) -> Step
-    requires { Fit (mem t.old code.old spans.old) level limit }
-    ensures { (class : ℕ) → Begun class limit level operator span (mem t.old code.old spans.old) (mem t.new code.new spans.new) result }
+    requires { Fit (areas work.old) level limit }
+    ensures does { (class : ℕ) → Begun class limit level operator span (areas work.old) (areas work.new) result }
+    ensures same { SameAreas work.old work.new }
 {
     if operator < 10 {
         return Ok(0);
     }
-    let a = emit_jump(t, code, spans, level, limit, Op::JUMP_IF_FALSE, span);
+    let a = emit_jump(work, level, limit, Op::JUMP_IF_FALSE, span);
     let Ok(first) = a else {
         return a;
     };
     if operator == 10 {
-        return emit_op(t, code, spans, level, limit, Op::POP, span, first);
+        return emit_op(work, level, limit, Op::POP, span, first);
     }
-    let b = emit_jump(t, code, spans, level, limit, Op::JUMP, span);
+    let b = emit_jump(work, level, limit, Op::JUMP, span);
     let Ok(second) = b else {
         return b;
     };
-    let d = patch_jump(t, code, spans, level, limit, first, span, 0);
+    let d = patch_jump(work, level, limit, first, span, 0);
     let Ok(_) = d else {
         return d;
     };
-    emit_op(t, code, spans, level, limit, Op::POP, span, second)
+    emit_op(work, level, limit, Op::POP, span, second)
 }
 
 pub fn after_right(
-    t: &mut [u64],
-    code: &mut [u8],
-    spans: &mut [u32],
+    work: &mut Work<'_>,
     level: usize,
     limit: usize,
     operator: u8,
@@ -87,11 +84,12 @@ pub fn after_right(
     span: Span,
     next: usize,
 ) -> Step
-    requires { (Fit (mem t.old code.old spans.old) level limit) × (10 ≤ operator → place + 2 ≤ code_len (mem t.old code.old spans.old) level) }
-    ensures { (class : ℕ) → Closed class limit level operator place next span (mem t.old code.old spans.old) (mem t.new code.new spans.new) result }
+    requires { (Fit (areas work.old) level limit) × (10 ≤ operator → place + 2 ≤ code_len (areas work.old) level) }
+    ensures does { (class : ℕ) → Closed class limit level operator place next span (areas work.old) (areas work.new) result }
+    ensures same { SameAreas work.old work.new }
 {
     if operator < 10 {
-        return emit_op(t, code, spans, level, limit, infix_op(operator), span, next);
+        return emit_op(work, level, limit, infix_op(operator), span, next);
     }
-    patch_jump(t, code, spans, level, limit, place, span, next)
+    patch_jump(work, level, limit, place, span, next)
 }

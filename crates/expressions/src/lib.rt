@@ -4,7 +4,7 @@
 
 ghost use Rattle.std.specs.Prelude.{◌≡◌, ℕ, ◌+◌};
 ghost use Rattle.fields.specs.Words.{letters, span_of};
-ghost use Rattle.steps.specs.View.{mem, Fit};
+ghost use Rattle.steps.specs.View.{areas, SameAreas, Fit};
 ghost use Rattle.expr_laws.specs.Exprs.{Somewhere, expr_at, Ran};
 ghost use Rattle.fields.specs.Marks as marks;
 
@@ -16,57 +16,36 @@ use op::Op;
 use rules::Span;
 use step_bytes::{emit_op, emit_op_constant, emit_op_name};
 use step_names::{get_variable, set_variable};
-use steps::Step;
+use steps::{Step, Work};
 
 fn literal(
     tree: &[u8],
     at: usize,
-    t: &mut [u64],
-    code: &mut [u8],
-    spans: &mut [u32],
+    work: &mut Work<'_>,
     level: usize,
     limit: usize,
     span: Span,
 ) -> Step
-    requires { (Fit (mem t.old code.old spans.old) level limit) × (Somewhere tree.now at) × (letters tree.now at ≡ marks.EL) × (span ≡ span_of tree.now (at + 2)) }
-    ensures { (class d : ℕ) → Ran class limit level (expr_at tree.now d at) (mem t.old code.old spans.old) (mem t.new code.new spans.new) result }
+    requires { (Fit (areas work.old) level limit) × (Somewhere tree.now at) × (letters tree.now at ≡ marks.EL) × (span ≡ span_of tree.now (at + 2)) }
+    ensures does { (class d : ℕ) → Ran class limit level (expr_at tree.now d at) (areas work.old) (areas work.new) result }
+    ensures same { SameAreas work.old work.new }
 {
     let kind = u8_at(tree, at + 10);
     if kind == 0 {
-        return emit_op(t, code, spans, level, limit, Op::FALSE, span, at + 11);
+        return emit_op(work, level, limit, Op::FALSE, span, at + 11);
     }
     if kind == 1 {
-        return emit_op(t, code, spans, level, limit, Op::TRUE, span, at + 11);
+        return emit_op(work, level, limit, Op::TRUE, span, at + 11);
     }
     if kind == 2 {
-        return emit_op(t, code, spans, level, limit, Op::NIL, span, at + 11);
+        return emit_op(work, level, limit, Op::NIL, span, at + 11);
     }
     if kind == 3 {
         let bits = u64_at(tree, at + 11);
-        return emit_op_constant(
-            t,
-            code,
-            spans,
-            level,
-            limit,
-            Op::CONSTANT,
-            bits,
-            span,
-            at + 19,
-        );
+        return emit_op_constant(work, level, limit, Op::CONSTANT, bits, span, at + 19);
     }
     let name = u16_at(tree, at + 11);
-    emit_op_name(
-        t,
-        code,
-        spans,
-        level,
-        limit,
-        Op::CONSTANT,
-        name,
-        span,
-        at + 13,
-    )
+    emit_op_name(work, level, limit, Op::CONSTANT, name, span, at + 13)
 }
 
 // The expression whose record starts at `at`. The answer's value is where the record ends. It calls itself further on in the tree, so fewer bytes are left
@@ -74,20 +53,19 @@ fn literal(
 pub fn compile_expr(
     tree: &[u8],
     at: usize,
-    t: &mut [u64],
-    code: &mut [u8],
-    spans: &mut [u32],
+    work: &mut Work<'_>,
     level: usize,
     limit: usize,
     class: u8,
 ) -> Step
-    requires { (Somewhere tree.now at) × (Fit (mem t.old code.old spans.old) level limit) }
-    ensures { (d : ℕ) → Ran class limit level (expr_at tree.now d at) (mem t.old code.old spans.old) (mem t.new code.new spans.new) result }
+    requires { (Somewhere tree.now at) × (Fit (areas work.old) level limit) }
+    ensures does { (d : ℕ) → Ran class limit level (expr_at tree.now d at) (areas work.old) (areas work.new) result }
+    ensures same { SameAreas work.old work.new }
 {
     let mark = mark_at(tree, at);
     let span = span_at(tree, at + 2);
     if mark == Mark::LITERAL {
-        let plain = literal(tree, at, t, code, spans, level, limit, span);
+        let plain = literal(tree, at, work, level, limit, span);
         let Ok(end) = plain else {
             return plain;
         };
@@ -95,7 +73,7 @@ pub fn compile_expr(
     }
     if mark == Mark::VARIABLE {
         let variable = u16_at(tree, at + 10);
-        let fetched = get_variable(t, code, spans, level, limit, class, variable, span, at + 12);
+        let fetched = get_variable(work, level, limit, class, variable, span, at + 12);
         let Ok(end) = fetched else {
             return fetched;
         };
@@ -103,19 +81,19 @@ pub fn compile_expr(
     }
     if mark == Mark::INFIX {
         let operator = u8_at(tree, at + 10);
-        let lhs = compile_expr(&tree[..], at + 11, t, code, spans, level, limit, class);
+        let lhs = compile_expr(&tree[..], at + 11, work, level, limit, class);
         let Ok(right) = lhs else {
             return lhs;
         };
-        let begun = before_right(t, code, spans, level, limit, operator, span);
+        let begun = before_right(work, level, limit, operator, span);
         let Ok(place) = begun else {
             return begun;
         };
-        let rhs = compile_expr(&tree[..], right, t, code, spans, level, limit, class);
+        let rhs = compile_expr(&tree[..], right, work, level, limit, class);
         let Ok(next) = rhs else {
             return rhs;
         };
-        let joined = after_right(t, code, spans, level, limit, operator, place, span, next);
+        let joined = after_right(work, level, limit, operator, place, span, next);
         let Ok(end) = joined else {
             return joined;
         };
@@ -123,31 +101,31 @@ pub fn compile_expr(
     }
     if mark == Mark::PREFIX {
         let sign = u8_at(tree, at + 10);
-        let operand = compile_expr(&tree[..], at + 11, t, code, spans, level, limit, class);
+        let operand = compile_expr(&tree[..], at + 11, work, level, limit, class);
         let Ok(next) = operand else {
             return operand;
         };
-        let signed = emit_op(t, code, spans, level, limit, prefix_op(sign), span, next);
+        let signed = emit_op(work, level, limit, prefix_op(sign), span, next);
         let Ok(end) = signed else {
             return signed;
         };
         return Ok(end);
     }
     if mark == Mark::CALL {
-        let opened = call_open(tree, at, t, code, spans, level, limit, class, span);
+        let opened = call_open(tree, at, work, level, limit, class, span);
         let Ok(first) = opened else {
             return opened;
         };
         let mut next = first;
         let parts = call_parts(tree, at);
         for _ in 0..parts {
-            let part = compile_expr(&tree[..], next, t, code, spans, level, limit, class);
+            let part = compile_expr(&tree[..], next, work, level, limit, class);
             let Ok(n) = part else {
                 return part;
             };
             next = n;
         }
-        let called = call_close(tree, at, t, code, spans, level, limit, class, span, next);
+        let called = call_close(tree, at, work, level, limit, class, span, next);
         let Ok(end) = called else {
             return called;
         };
@@ -155,7 +133,7 @@ pub fn compile_expr(
     }
     if mark == Mark::SUPER {
         let method = u16_at(tree, at + 10);
-        let bound = compile_super(t, code, spans, level, limit, class, method, span, at + 12);
+        let bound = compile_super(work, level, limit, class, method, span, at + 12);
         let Ok(end) = bound else {
             return bound;
         };
@@ -163,11 +141,11 @@ pub fn compile_expr(
     }
     if mark == Mark::ASSIGN {
         let assigned = u16_at(tree, at + 10);
-        let given = compile_expr(&tree[..], at + 12, t, code, spans, level, limit, class);
+        let given = compile_expr(&tree[..], at + 12, work, level, limit, class);
         let Ok(next) = given else {
             return given;
         };
-        let stored = set_variable(t, code, spans, level, limit, assigned, span, next);
+        let stored = set_variable(work, level, limit, assigned, span, next);
         let Ok(end) = stored else {
             return stored;
         };
@@ -175,21 +153,11 @@ pub fn compile_expr(
     }
     if mark == Mark::GET {
         let property = u16_at(tree, at + 10);
-        let object = compile_expr(&tree[..], at + 12, t, code, spans, level, limit, class);
+        let object = compile_expr(&tree[..], at + 12, work, level, limit, class);
         let Ok(next) = object else {
             return object;
         };
-        let read = emit_op_name(
-            t,
-            code,
-            spans,
-            level,
-            limit,
-            Op::GET_PROPERTY,
-            property,
-            span,
-            next,
-        );
+        let read = emit_op_name(work, level, limit, Op::GET_PROPERTY, property, span, next);
         let Ok(end) = read else {
             return read;
         };
@@ -198,25 +166,15 @@ pub fn compile_expr(
     // A set: the value stands before the object, whose place is known once the value is compiled.
     let field = u16_at(tree, at + 10);
     let from = at + 12;
-    let value = compile_expr(&tree[..], from, t, code, spans, level, limit, class);
+    let value = compile_expr(&tree[..], from, work, level, limit, class);
     let Ok(after) = value else {
         return value;
     };
-    let holder = compile_expr(&tree[..], after, t, code, spans, level, limit, class);
+    let holder = compile_expr(&tree[..], after, work, level, limit, class);
     let Ok(next) = holder else {
         return holder;
     };
-    let put = emit_op_name(
-        t,
-        code,
-        spans,
-        level,
-        limit,
-        Op::SET_PROPERTY,
-        field,
-        span,
-        next,
-    );
+    let put = emit_op_name(work, level, limit, Op::SET_PROPERTY, field, span, next);
     let Ok(end) = put else {
         return put;
     };

@@ -5,26 +5,25 @@ ghost use Rattle.std.specs.Prelude.{◌≡◌, ℕ};
 ghost use Rattle.rules.specs.Chunk.{CS, CF};
 ghost use Rattle.rules.specs.Compiler.{emit_op, emit_op_u8, emit_constant, emit_op_constant, emit_invoke};
 ghost use Rattle.state.specs.Layout.{constant_of};
-ghost use Rattle.steps.specs.View.{mem, Fit, steady, Did};
+ghost use Rattle.steps.specs.View.{areas, SameAreas, Fit, steady, Did};
 
 use rules::Span;
-use steps::{Reason, Step, Why};
+use steps::{Reason, Step, Why, Work};
 
 // An instruction with no operand, or a byte of one.
 pub fn emit_op(
-    t: &mut [u64],
-    code: &mut [u8],
-    spans: &mut [u32],
+    work: &mut Work<'_>,
     level: usize,
     limit: usize,
     byte: u8,
     span: Span,
     next: usize,
 ) -> Step
-    requires { Fit (mem t.old code.old spans.old) level limit }
-    ensures { (class : ℕ) → Did class limit level next steady (emit_op limit byte span) (mem t.old code.old spans.old) (mem t.new code.new spans.new) result }
+    requires { Fit (areas work.old) level limit }
+    ensures does { (class : ℕ) → Did class limit level next steady (emit_op limit byte span) (areas work.old) (areas work.new) result }
+    ensures same { SameAreas work.old work.new }
 {
-    let r = state_code::emit_u8(t, code, spans, level, limit, byte, span);
+    let r = state_code::emit_u8(work.table, work.code, work.spans, level, limit, byte, span);
     let Ok(()) = r else {
         return Err(Why {
             reason: Reason::CodeFull,
@@ -37,9 +36,7 @@ pub fn emit_op(
 }
 
 pub fn emit_op_u8(
-    t: &mut [u64],
-    code: &mut [u8],
-    spans: &mut [u32],
+    work: &mut Work<'_>,
     level: usize,
     limit: usize,
     op: u8,
@@ -47,31 +44,31 @@ pub fn emit_op_u8(
     span: Span,
     next: usize,
 ) -> Step
-    requires { Fit (mem t.old code.old spans.old) level limit }
-    ensures { (class : ℕ) → Did class limit level next steady (emit_op_u8 limit op operand span) (mem t.old code.old spans.old) (mem t.new code.new spans.new) result }
+    requires { Fit (areas work.old) level limit }
+    ensures does { (class : ℕ) → Did class limit level next steady (emit_op_u8 limit op operand span) (areas work.old) (areas work.new) result }
+    ensures same { SameAreas work.old work.new }
 {
-    let a = emit_op(t, code, spans, level, limit, op, span, next);
+    let a = emit_op(work, level, limit, op, span, next);
     let Ok(_) = a else {
         return a;
     };
-    emit_op(t, code, spans, level, limit, operand, span, next)
+    emit_op(work, level, limit, operand, span, next)
 }
 
 // The place of a constant, whose word is w.
 pub fn emit_constant(
-    t: &mut [u64],
-    code: &mut [u8],
-    spans: &mut [u32],
+    work: &mut Work<'_>,
     level: usize,
     limit: usize,
     w: u64,
     span: Span,
     next: usize,
 ) -> Step
-    requires { Fit (mem t.old code.old spans.old) level limit }
-    ensures { (class : ℕ) → Did class limit level next steady (emit_constant limit (constant_of w) span) (mem t.old code.old spans.old) (mem t.new code.new spans.new) result }
+    requires { Fit (areas work.old) level limit }
+    ensures does { (class : ℕ) → Did class limit level next steady (emit_constant limit (constant_of w) span) (areas work.old) (areas work.new) result }
+    ensures same { SameAreas work.old work.new }
 {
-    let r = state_code::write_constant(t, level, w);
+    let r = state_code::write_constant(work.table, level, w);
     let Ok(place) = r else {
         return Err(Why {
             reason: Reason::TooManyConstants,
@@ -80,13 +77,11 @@ pub fn emit_constant(
             around: level,
         });
     };
-    emit_op(t, code, spans, level, limit, place, span, next)
+    emit_op(work, level, limit, place, span, next)
 }
 
 pub fn emit_op_constant(
-    t: &mut [u64],
-    code: &mut [u8],
-    spans: &mut [u32],
+    work: &mut Work<'_>,
     level: usize,
     limit: usize,
     op: u8,
@@ -94,14 +89,15 @@ pub fn emit_op_constant(
     span: Span,
     next: usize,
 ) -> Step
-    requires { Fit (mem t.old code.old spans.old) level limit }
-    ensures { (class : ℕ) → Did class limit level next steady (emit_op_constant limit op (constant_of w) span) (mem t.old code.old spans.old) (mem t.new code.new spans.new) result }
+    requires { Fit (areas work.old) level limit }
+    ensures does { (class : ℕ) → Did class limit level next steady (emit_op_constant limit op (constant_of w) span) (areas work.old) (areas work.new) result }
+    ensures same { SameAreas work.old work.new }
 {
-    let a = emit_op(t, code, spans, level, limit, op, span, next);
+    let a = emit_op(work, level, limit, op, span, next);
     let Ok(_) = a else {
         return a;
     };
-    let b = emit_constant(t, code, spans, level, limit, w, span, next);
+    let b = emit_constant(work, level, limit, w, span, next);
     let Ok(_) = b else {
         return b;
     };
@@ -123,9 +119,7 @@ pub fn function_word(number: u32) -> u64
 
 // An opcode and the place of a name.
 pub fn emit_op_name(
-    t: &mut [u64],
-    code: &mut [u8],
-    spans: &mut [u32],
+    work: &mut Work<'_>,
     level: usize,
     limit: usize,
     op: u8,
@@ -133,26 +127,15 @@ pub fn emit_op_name(
     span: Span,
     next: usize,
 ) -> Step
-    requires { Fit (mem t.old code.old spans.old) level limit }
-    ensures { (class : ℕ) → Did class limit level next steady (emit_op_constant limit op (CS name) span) (mem t.old code.old spans.old) (mem t.new code.new spans.new) result }
+    requires { Fit (areas work.old) level limit }
+    ensures does { (class : ℕ) → Did class limit level next steady (emit_op_constant limit op (CS name) span) (areas work.old) (areas work.new) result }
+    ensures same { SameAreas work.old work.new }
 {
-    emit_op_constant(
-        t,
-        code,
-        spans,
-        level,
-        limit,
-        op,
-        name_word(name),
-        span,
-        next,
-    )
+    emit_op_constant(work, level, limit, op, name_word(name), span, next)
 }
 
 pub fn emit_invoke(
-    t: &mut [u64],
-    code: &mut [u8],
-    spans: &mut [u32],
+    work: &mut Work<'_>,
     level: usize,
     limit: usize,
     op: u8,
@@ -161,16 +144,17 @@ pub fn emit_invoke(
     span: Span,
     next: usize,
 ) -> Step
-    requires { Fit (mem t.old code.old spans.old) level limit }
-    ensures { (class : ℕ) → Did class limit level next steady (emit_invoke limit op (CS name) count span) (mem t.old code.old spans.old) (mem t.new code.new spans.new) result }
+    requires { Fit (areas work.old) level limit }
+    ensures does { (class : ℕ) → Did class limit level next steady (emit_invoke limit op (CS name) count span) (areas work.old) (areas work.new) result }
+    ensures same { SameAreas work.old work.new }
 {
-    let a = emit_op(t, code, spans, level, limit, op, span, next);
+    let a = emit_op(work, level, limit, op, span, next);
     let Ok(_) = a else {
         return a;
     };
-    let b = emit_constant(t, code, spans, level, limit, name_word(name), span, next);
+    let b = emit_constant(work, level, limit, name_word(name), span, next);
     let Ok(_) = b else {
         return b;
     };
-    emit_op(t, code, spans, level, limit, count, span, next)
+    emit_op(work, level, limit, count, span, next)
 }

@@ -6,14 +6,14 @@ ghost use Rattle.rules.specs.Compiler.{get_variable, set_variable, define_name};
 ghost use Rattle.rules.specs.Tree.{this_name};
 ghost use Rattle.state.specs.Layout.{levels, Wf};
 ghost use Rattle.step_names.specs.Access.{op_of, access_name};
-ghost use Rattle.steps.specs.View.{mem, Fit, steady, Did, Placed};
+ghost use Rattle.steps.specs.View.{areas, SameAreas, Fit, steady, Did, Placed};
 
 use op::Op;
 use rules::{Name, Span};
 use state::Uncaptured;
 use step_bytes::{emit_op_name, emit_op_u8};
 use step_scopes::{declare_local, define_local, is_global};
-use steps::{Class, Place, Reason, Step, Why};
+use steps::{Class, Place, Reason, Step, Why, Work};
 
 pub fn resolve(t: &mut [u64], level: usize, name: u16, span: Span) -> Result<Place, Why>
     requires { (level < levels) × (Wf t.old) }
@@ -84,9 +84,7 @@ impl Access {
 
 // The variable of a name is found, and read or set.
 fn access_variable(
-    t: &mut [u64],
-    code: &mut [u8],
-    spans: &mut [u32],
+    work: &mut Work<'_>,
     level: usize,
     limit: usize,
     access: Access,
@@ -94,26 +92,25 @@ fn access_variable(
     span: Span,
     next: usize,
 ) -> Step
-    requires { Fit (mem t.old code.old spans.old) level limit }
-    ensures { (class : ℕ) → Did class limit level next steady (access_name access limit name span) (mem t.old code.old spans.old) (mem t.new code.new spans.new) result }
+    requires { Fit (areas work.old) level limit }
+    ensures does { (class : ℕ) → Did class limit level next steady (access_name access limit name span) (areas work.old) (areas work.new) result }
+    ensures same { SameAreas work.old work.new }
 {
-    let found = resolve(t, level, name, span);
+    let found = resolve(work.table, level, name, span);
     let place = match found {
         Ok(place) => place,
         Err(why) => return Err(why),
     };
     let op = access.op(place);
     match place {
-        Place::Local(slot) => emit_op_u8(t, code, spans, level, limit, op, slot, span, next),
-        Place::Upvalue(slot) => emit_op_u8(t, code, spans, level, limit, op, slot, span, next),
-        Place::Global => emit_op_name(t, code, spans, level, limit, op, name, span, next),
+        Place::Local(slot) => emit_op_u8(work, level, limit, op, slot, span, next),
+        Place::Upvalue(slot) => emit_op_u8(work, level, limit, op, slot, span, next),
+        Place::Global => emit_op_name(work, level, limit, op, name, span, next),
     }
 }
 
 pub fn get_variable(
-    t: &mut [u64],
-    code: &mut [u8],
-    spans: &mut [u32],
+    work: &mut Work<'_>,
     level: usize,
     limit: usize,
     class: u8,
@@ -121,8 +118,9 @@ pub fn get_variable(
     span: Span,
     next: usize,
 ) -> Step
-    requires { Fit (mem t.old code.old spans.old) level limit }
-    ensures { Did class limit level next steady (get_variable limit name span) (mem t.old code.old spans.old) (mem t.new code.new spans.new) result }
+    requires { Fit (areas work.old) level limit }
+    ensures does { Did class limit level next steady (get_variable limit name span) (areas work.old) (areas work.new) result }
+    ensures same { SameAreas work.old work.new }
 {
     if lost_this(name, class) {
         return Err(Why {
@@ -132,7 +130,7 @@ pub fn get_variable(
             around: level,
         });
     }
-    let a = access_variable(t, code, spans, level, limit, Access::Get, name, span, next);
+    let a = access_variable(work, level, limit, Access::Get, name, span, next);
     let Ok(_) = a else {
         return a;
     };
@@ -140,19 +138,18 @@ pub fn get_variable(
 }
 
 pub fn set_variable(
-    t: &mut [u64],
-    code: &mut [u8],
-    spans: &mut [u32],
+    work: &mut Work<'_>,
     level: usize,
     limit: usize,
     name: u16,
     span: Span,
     next: usize,
 ) -> Step
-    requires { Fit (mem t.old code.old spans.old) level limit }
-    ensures { (class : ℕ) → Did class limit level next steady (set_variable limit name span) (mem t.old code.old spans.old) (mem t.new code.new spans.new) result }
+    requires { Fit (areas work.old) level limit }
+    ensures does { (class : ℕ) → Did class limit level next steady (set_variable limit name span) (areas work.old) (areas work.new) result }
+    ensures same { SameAreas work.old work.new }
 {
-    let a = access_variable(t, code, spans, level, limit, Access::Set, name, span, next);
+    let a = access_variable(work, level, limit, Access::Set, name, span, next);
     let Ok(_) = a else {
         return a;
     };
@@ -161,35 +158,24 @@ pub fn set_variable(
 
 // A global is defined, or a local declared and defined.
 pub fn define_name(
-    t: &mut [u64],
-    code: &mut [u8],
-    spans: &mut [u32],
+    work: &mut Work<'_>,
     level: usize,
     limit: usize,
     name: u16,
     span: Span,
     next: usize,
 ) -> Step
-    requires { Fit (mem t.old code.old spans.old) level limit }
-    ensures { (class : ℕ) → Did class limit level next steady (define_name limit name span) (mem t.old code.old spans.old) (mem t.new code.new spans.new) result }
+    requires { Fit (areas work.old) level limit }
+    ensures does { (class : ℕ) → Did class limit level next steady (define_name limit name span) (areas work.old) (areas work.new) result }
+    ensures same { SameAreas work.old work.new }
 {
-    if is_global(&t[..], level) {
-        return emit_op_name(
-            t,
-            code,
-            spans,
-            level,
-            limit,
-            Op::DEFINE_GLOBAL,
-            name,
-            span,
-            next,
-        );
+    if is_global(&*work, level) {
+        return emit_op_name(work, level, limit, Op::DEFINE_GLOBAL, name, span, next);
     }
-    let a = declare_local(t, level, name, span, next);
+    let a = declare_local(work.table, level, name, span, next);
     let Ok(_) = a else {
         return a;
     };
-    define_local(t, level);
+    define_local(work.table, level);
     Ok(next)
 }

@@ -6,12 +6,12 @@ ghost use Rattle.rules.specs.Compiler.{declare_local, define_local, is_global, b
 ghost use Rattle.rules.specs.Op as ops;
 ghost use Rattle.state.specs.Kinds.{number_of};
 ghost use Rattle.state.specs.Layout.{levels, deepest, local_of, Wf, depth_place, level_words};
-ghost use Rattle.steps.specs.View.{mem, Fit, steady, deeper, shallower, Did, Changed, Tried, Asked, PoppedAt, Entered, Left};
+ghost use Rattle.steps.specs.View.{areas, SameAreas, Fit, steady, deeper, shallower, Did, Changed, Tried, Asked, PoppedAt, Entered, Left};
 
 use op::Op;
 use rules::Span;
 use state::{Kind, Table, Undeclared};
-use steps::{Reason, Step, Why};
+use steps::{Reason, Step, Why, Work};
 
 pub fn begin_scope(t: &mut [u64], level: usize)
     requires { (level < levels) × (Wf t.old) × (get_or t.old (level * level_words + depth_place) 0 < deepest) }
@@ -21,11 +21,11 @@ pub fn begin_scope(t: &mut [u64], level: usize)
     state_levels::move_scope(t, level, depth + 1);
 }
 
-pub fn is_global(t: &[u64], level: usize) -> bool
-    requires { (level < levels) × (Wf t.now) }
-    ensures { Asked level is_global result t.now }
+pub fn is_global(work: &Work<'_>, level: usize) -> bool
+    requires { (level < levels) × (Wf work.now.table.now) }
+    ensures { Asked level is_global result work.now.table.now }
 {
-    t[level * Table::LEVEL_WORDS + Table::DEPTH] == 0
+    work.table[level * Table::LEVEL_WORDS + Table::DEPTH] == 0
 }
 
 pub fn declare_local(t: &mut [u64], level: usize, name: u16, span: Span, next: usize) -> Step
@@ -68,27 +68,29 @@ pub fn drop_op(w: u64) -> u8
 }
 
 // One step of ending a scope: the newest local goes if it lies deeper than the scope. The answer is whether one went: then another may.
-pub fn pop_local(
-    t: &mut [u64],
-    code: &mut [u8],
-    spans: &mut [u32],
-    level: usize,
-    limit: usize,
-    span: Span,
-) -> Result<bool, Why>
-    requires { Fit (mem t.old code.old spans.old) level limit }
-    ensures { PoppedAt limit level span (mem t.old code.old spans.old) (mem t.new code.new spans.new) result }
+pub fn pop_local(work: &mut Work<'_>, level: usize, limit: usize, span: Span) -> Result<bool, Why>
+    requires { Fit (areas work.old) level limit }
+    ensures does { PoppedAt limit level span (areas work.old) (areas work.new) result }
+    ensures same { SameAreas work.old work.new }
 {
-    let n = t[level * Table::LEVEL_WORDS + Table::LOCAL_COUNT] as usize;
+    let n = work.table[level * Table::LEVEL_WORDS + Table::LOCAL_COUNT] as usize;
     if n == 0 {
         return Ok(false);
     }
-    let w = t[level * Table::LEVEL_WORDS + (n - 1)];
-    let depth = t[level * Table::LEVEL_WORDS + Table::DEPTH];
+    let w = work.table[level * Table::LEVEL_WORDS + (n - 1)];
+    let depth = work.table[level * Table::LEVEL_WORDS + Table::DEPTH];
     if w / 65536 / 2 / 2 <= depth {
         return Ok(false);
     }
-    let done = state_code::emit_u8(t, code, spans, level, limit, drop_op(w), span);
+    let done = state_code::emit_u8(
+        work.table,
+        work.code,
+        work.spans,
+        level,
+        limit,
+        drop_op(w),
+        span,
+    );
     let Ok(()) = done else {
         return Err(Why {
             reason: Reason::CodeFull,
@@ -97,26 +99,19 @@ pub fn pop_local(
             around: level,
         });
     };
-    state_names::drop_local(t, level);
+    state_names::drop_local(work.table, level);
     Ok(true)
 }
 
-pub fn end_scope(
-    t: &mut [u64],
-    code: &mut [u8],
-    spans: &mut [u32],
-    level: usize,
-    limit: usize,
-    span: Span,
-    next: usize,
-) -> Step
-    requires { (Fit (mem t.old code.old spans.old) level limit) × (0 < get_or t.old (level * level_words + depth_place) 0) }
-    ensures { (class : ℕ) → Did class limit level next shallower (end_scope limit span) (mem t.old code.old spans.old) (mem t.new code.new spans.new) result }
+pub fn end_scope(work: &mut Work<'_>, level: usize, limit: usize, span: Span, next: usize) -> Step
+    requires { (Fit (areas work.old) level limit) × (0 < get_or work.old.table.now (level * level_words + depth_place) 0) }
+    ensures does { (class : ℕ) → Did class limit level next shallower (end_scope limit span) (areas work.old) (areas work.new) result }
+    ensures same { SameAreas work.old work.new }
 {
-    let depth = t[level * Table::LEVEL_WORDS + Table::DEPTH];
-    state_levels::move_scope(t, level, depth - 1);
+    let depth = work.table[level * Table::LEVEL_WORDS + Table::DEPTH];
+    state_levels::move_scope(work.table, level, depth - 1);
     loop {
-        let popped = pop_local(t, code, spans, level, limit, span);
+        let popped = pop_local(work, level, limit, span);
         match popped {
             Ok(true) => {}
             Ok(false) => return Ok(next),

@@ -9,6 +9,7 @@ use Rattle.state.specs.Layout.{levels, image_at, start_of_code, end_of_code, end
 use Rattle.state.specs.Meaning.{Kept}
 use Rattle.steps.specs.Why.{Step, code_full, told}
 use Rattle.steps.specs.declared.Why.{Why}
+use Rattle.steps.specs.declared.Work.{Work}
 use Rattle.steps.specs.declared.Place.{Place}
 use Rattle.steps.specs.declared.Place.TheVariants.{Local, Upvalue, Global}
 
@@ -26,6 +27,14 @@ code_of (mem t code spans) = code
 
 abbrev pub spans_of : Mem → List ℕ
 spans_of (mem t code spans) = spans
+
+-- what the lent areas hold
+abbrev pub areas : Work → Mem
+areas w = mem w.table.now w.code.now w.spans.now
+
+-- the areas are still those that were lent
+abbrev pub SameAreas : (before now : Work) → Type 0
+SameAreas before now = (now.table.ghost_name ≡ before.table.ghost_name) × (now.code.ghost_name ≡ before.code.ghost_name) × (now.spans.ghost_name ≡ before.spans.ghost_name)
 
 -- what no lent area holds word for word: the classes around the place, and the finished functions
 pub record Rest : Type 0 where

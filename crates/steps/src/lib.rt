@@ -1,4 +1,4 @@
-// A step's answer, and where a name is found. specs/View.antt says what it is for a function over the lent areas to come to a step of the rules: the
+// A step's answer, the areas that it works on, and where a name is found. specs/View.antt says what it is for a function over the lent areas to come to a step of the rules: the
 // functions are in step_bytes, step_jumps, step_scopes, step_names and step_returns. In all of them `level` is the innermost open function and `limit`
 // the code limit; a step's answer is where to read on, which is what its last parameter says, or the rules' refusal. Where time counts an answer is taken
 // apart and made anew: one that is only handed on is copied through memory, and the copy waits for the stores.
@@ -53,6 +53,14 @@ pub struct Why {
 
 // Where to read on, or why the compiler stops.
 pub type Step = Result<usize, Why>;
+
+// The areas that a caller lends, as the compiler hands them on: the table of its state, the open functions' code, and their runs.
+#[derive(Drop)]
+pub struct Work<'a> {
+    pub table: &'a mut [u64],
+    pub code: &'a mut [u8],
+    pub spans: &'a mut [u32],
+}
 
 // Where a name is found.
 #[derive(Clone, Copy)]

@@ -3,7 +3,7 @@
 
 ghost use Rattle.std.specs.Prelude.{ℕ, ◌+◌, ◌*◌, ◌<◌, get_or};
 ghost use Rattle.state.specs.Layout.{deepest, depth_place, level_words};
-ghost use Rattle.steps.specs.View.{mem, Fit};
+ghost use Rattle.steps.specs.View.{areas, SameAreas, Fit};
 ghost use Rattle.stmt_heads.specs.Classes.{ClassHead, ClassOpened};
 
 use fields::u16_at;
@@ -11,7 +11,7 @@ use op::Op;
 use rules::Span;
 use step_bytes::emit_op_name;
 use step_names::{define_name, get_variable};
-use steps::Step;
+use steps::{Step, Work};
 use stmt_heads::inner_class;
 use stmt_superclass::superclass;
 
@@ -19,26 +19,25 @@ use stmt_superclass::superclass;
 pub fn open_class(
     tree: &[u8],
     at: usize,
-    t: &mut [u64],
-    code: &mut [u8],
-    spans: &mut [u32],
+    work: &mut Work<'_>,
     level: usize,
     limit: usize,
     span: Span,
 ) -> Step
-    requires { (ClassHead tree.now at) × (Fit (mem t.old code.old spans.old) level limit) × (get_or t.old (level * level_words + depth_place) 0 < deepest) }
-    ensures { (class : ℕ) → ClassOpened class limit level tree.now at span (mem t.old code.old spans.old) (mem t.new code.new spans.new) result }
+    requires { (ClassHead tree.now at) × (Fit (areas work.old) level limit) × (get_or work.old.table.now (level * level_words + depth_place) 0 < deepest) }
+    ensures does { (class : ℕ) → ClassOpened class limit level tree.now at span (areas work.old) (areas work.new) result }
+    ensures same { SameAreas work.old work.new }
 {
     let name = u16_at(tree, at + 10);
-    let a = emit_op_name(t, code, spans, level, limit, Op::CLASS, name, span, 0);
+    let a = emit_op_name(work, level, limit, Op::CLASS, name, span, 0);
     let Ok(_) = a else {
         return a;
     };
-    let b = define_name(t, code, spans, level, limit, name, span, 0);
+    let b = define_name(work, level, limit, name, span, 0);
     let Ok(_) = b else {
         return b;
     };
-    let d = superclass(tree, at, t, code, spans, level, limit, name, span);
+    let d = superclass(tree, at, work, level, limit, name, span);
     let Ok(first) = d else {
         return d;
     };
@@ -46,5 +45,5 @@ pub fn open_class(
         return Ok(first);
     }
     let class = inner_class(tree, at);
-    get_variable(t, code, spans, level, limit, class, name, span, first)
+    get_variable(work, level, limit, class, name, span, first)
 }

@@ -5,7 +5,7 @@
 ghost use Rattle.std.specs.Prelude.{◌≡◌, ℕ, ◌<◌};
 ghost use Rattle.fields.specs.Words.{letters};
 ghost use Rattle.state.specs.Layout.{levels, Wf};
-ghost use Rattle.steps.specs.View.{mem, Fit, steady, Tried};
+ghost use Rattle.steps.specs.View.{areas, SameAreas, Fit, steady, Tried};
 ghost use Rattle.stmt_output_laws.specs.Output.{stmt_at};
 ghost use Rattle.stmt_plain_laws.specs.Plain.{StmtSomewhere, Plainly, may_return};
 ghost use Rattle.fields.specs.Marks as marks;
@@ -17,7 +17,7 @@ use rules::Span;
 use state::{Kind, Table};
 use step_bytes::emit_op;
 use step_returns::return_nothing;
-use steps::{Reason, Step, Why};
+use steps::{Reason, Step, Why, Work};
 
 // As words of the table.
 const SCRIPT: u64 = Kind::Script as u64;
@@ -25,11 +25,11 @@ const SCRIPT: u64 = Kind::Script as u64;
 const INITIALIZER: u64 = Kind::Initializer as u64;
 
 // A value is returned by a function and by a method that is no initializer.
-fn return_kind(t: &[u64], level: usize, span: Span, next: usize) -> Step
-    requires { (level < levels) × (Wf t.now) }
-    ensures { Tried level next steady (may_return span) t.now t.now result }
+fn return_kind(work: &Work<'_>, level: usize, span: Span, next: usize) -> Step
+    requires { (level < levels) × (Wf work.now.table.now) }
+    ensures { Tried level next steady (may_return span) work.now.table.now work.now.table.now result }
 {
-    let kind = t[level * Table::LEVEL_WORDS + Table::TYPE];
+    let kind = work.table[level * Table::LEVEL_WORDS + Table::TYPE];
     if kind == SCRIPT {
         return Err(Why {
             reason: Reason::ReturnOutsideFunction,
@@ -52,27 +52,26 @@ fn return_kind(t: &[u64], level: usize, span: Span, next: usize) -> Step
 pub fn compile_return(
     tree: &[u8],
     at: usize,
-    t: &mut [u64],
-    code: &mut [u8],
-    spans: &mut [u32],
+    work: &mut Work<'_>,
     level: usize,
     limit: usize,
     class: u8,
 ) -> Step
-    requires { (StmtSomewhere tree.now level at) × (letters tree.now at ≡ marks.SR) × (Fit (mem t.old code.old spans.old) level limit) }
-    ensures { (d : ℕ) → Plainly class limit level (stmt_at tree.now d level at) (mem t.old code.old spans.old) (mem t.new code.new spans.new) result }
+    requires { (StmtSomewhere tree.now level at) × (letters tree.now at ≡ marks.SR) × (Fit (areas work.old) level limit) }
+    ensures does { (d : ℕ) → Plainly class limit level (stmt_at tree.now d level at) (areas work.old) (areas work.new) result }
+    ensures same { SameAreas work.old work.new }
 {
     let span = span_at(tree, at + 2);
     if u8_at(tree, at + 10) == 0 {
-        return return_nothing(t, code, spans, level, limit, span, at + 11);
+        return return_nothing(work, level, limit, span, at + 11);
     }
-    let a = return_kind(&t[..], level, span, at + 11);
+    let a = return_kind(&*work, level, span, at + 11);
     let Ok(_) = a else {
         return a;
     };
-    let b = compile_expr(tree, at + 11, t, code, spans, level, limit, class);
+    let b = compile_expr(tree, at + 11, work, level, limit, class);
     let Ok(n) = b else {
         return b;
     };
-    emit_op(t, code, spans, level, limit, Op::RETURN, span, n)
+    emit_op(work, level, limit, Op::RETURN, span, n)
 }

@@ -5,7 +5,7 @@ ghost use Rattle.std.proofs.Math.Option.{some};
 ghost use Rattle.std.specs.Prelude.{◌+◌, ◌*◌, ◌≤◌, ◌<◌, length, get_or};
 ghost use Rattle.rules.specs.Compiler.{compile_superclass};
 ghost use Rattle.state.specs.Layout.{deepest, depth_place, level_words};
-ghost use Rattle.steps.specs.View.{mem, Fit, deeper, Did};
+ghost use Rattle.steps.specs.View.{areas, SameAreas, Fit, deeper, Did};
 ghost use Rattle.stmt_heads.specs.Classes.{ClassHead, superclass_of, SuperOpened};
 
 use fields::{span_at, u8_at, u16_at};
@@ -14,7 +14,7 @@ use rules::{Name, Span};
 use step_bytes::emit_op;
 use step_names::get_variable;
 use step_scopes::{begin_scope, declare_local, define_local};
-use steps::{Class, Reason, Step, Why};
+use steps::{Class, Reason, Step, Why, Work};
 
 // A class that inherits: the innermost one where its superclass is looked up.
 const HEIR: u8 = Class::WITH_SUPER;
@@ -23,16 +23,15 @@ const HEIR: u8 = Class::WITH_SUPER;
 fn inherit(
     tree: &[u8],
     at: usize,
-    t: &mut [u64],
-    code: &mut [u8],
-    spans: &mut [u32],
+    work: &mut Work<'_>,
     level: usize,
     limit: usize,
     name: u16,
     span: Span,
 ) -> Step
-    requires { (at + 27 ≤ length tree.now) × (Fit (mem t.old code.old spans.old) level limit) × (get_or t.old (level * level_words + depth_place) 0 < deepest) }
-    ensures { Did 2 limit level (at + 27) deeper (compile_superclass limit name (some (superclass_of tree.now at)) span) (mem t.old code.old spans.old) (mem t.new code.new spans.new) result }
+    requires { (at + 27 ≤ length tree.now) × (Fit (areas work.old) level limit) × (get_or work.old.table.now (level * level_words + depth_place) 0 < deepest) }
+    ensures does { Did 2 limit level (at + 27) deeper (compile_superclass limit name (some (superclass_of tree.now at)) span) (areas work.old) (areas work.new) result }
+    ensures same { SameAreas work.old work.new }
 {
     let parent = u16_at(tree, at + 25);
     let place = span_at(tree, at + 17);
@@ -44,40 +43,39 @@ fn inherit(
             around: level,
         });
     }
-    begin_scope(t, level);
-    let d = declare_local(t, level, Name::SUPER, Span { start: 0, end: 0 }, 0);
+    begin_scope(work.table, level);
+    let d = declare_local(work.table, level, Name::SUPER, Span { start: 0, end: 0 }, 0);
     let Ok(_) = d else {
         return d;
     };
-    define_local(t, level);
-    let a = get_variable(t, code, spans, level, limit, HEIR, parent, place, 0);
+    define_local(work.table, level);
+    let a = get_variable(work, level, limit, HEIR, parent, place, 0);
     let Ok(_) = a else {
         return a;
     };
-    let b = get_variable(t, code, spans, level, limit, HEIR, name, span, 0);
+    let b = get_variable(work, level, limit, HEIR, name, span, 0);
     let Ok(_) = b else {
         return b;
     };
-    emit_op(t, code, spans, level, limit, Op::INHERIT, span, at + 27)
+    emit_op(work, level, limit, Op::INHERIT, span, at + 27)
 }
 
 // The superclass where there is one. The answer's value is where the first method stands.
 pub fn superclass(
     tree: &[u8],
     at: usize,
-    t: &mut [u64],
-    code: &mut [u8],
-    spans: &mut [u32],
+    work: &mut Work<'_>,
     level: usize,
     limit: usize,
     name: u16,
     span: Span,
 ) -> Step
-    requires { (ClassHead tree.now at) × (Fit (mem t.old code.old spans.old) level limit) × (get_or t.old (level * level_words + depth_place) 0 < deepest) }
-    ensures { SuperOpened limit level name tree.now at span (mem t.old code.old spans.old) (mem t.new code.new spans.new) result }
+    requires { (ClassHead tree.now at) × (Fit (areas work.old) level limit) × (get_or work.old.table.now (level * level_words + depth_place) 0 < deepest) }
+    ensures does { SuperOpened limit level name tree.now at span (areas work.old) (areas work.new) result }
+    ensures same { SameAreas work.old work.new }
 {
     if u8_at(tree, at + 12) == 1 {
-        return inherit(tree, at, t, code, spans, level, limit, name, span);
+        return inherit(tree, at, work, level, limit, name, span);
     }
     Ok(at + 15)
 }

@@ -2,7 +2,7 @@
 -- as all of them from where the loop began, and the next one stands after the call's own start.
 use Prim.Native.Nat.{ℕ, ◌-◌, ◌<◌}
 use lib.ListN.{length}
-use Rattle.steps.specs.View.{mem}
+use Rattle.steps.specs.View.{areas, SameAreas}
 use Rattle.expr_laws.specs.Exprs.{expr_at}
 use Rattle.expr_laws.proofs.Calls.{Walk}
 use Rattle.expressions.proofs.+compile_expr.Given as goal
@@ -13,5 +13,5 @@ decreases-compile_expr l = length l.tree.now - l.at
 
 abbrev pub invariant-loop : goal.invariant-loop
 invariant-loop l =
-    ((d : ℕ) → Walk l.class l.limit l.level (expr_at l.tree d) l.parts l.initial.next (mem l.initial.t l.initial.code l.initial.spans) (mem l.t l.code l.spans) l.next (l.parts - l.counter))
-    × (l.at < l.next)
+    ((d : ℕ) → Walk l.class l.limit l.level (expr_at l.tree d) l.parts l.initial.next (areas l.initial.work) (areas l.work) l.next (l.parts - l.counter))
+    × (l.at < l.next) × SameAreas l.initial.work l.work

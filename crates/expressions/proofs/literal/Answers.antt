@@ -17,25 +17,25 @@ pub overflow_add-at-then-kind-eq0 : goal.overflow_add-at-then-kind-eq0
 overflow_add-at-then-kind-eq0 c =
     let b = (literal_at _ _ _ _ c.requires.2 c.requires.1.there.is).bound in omega (arith, b)
 
-pub returns-then-kind-eq0 : goal.returns-then-kind-eq0
-returns-then-kind-eq0 c =
-    λ class d. false_done _ d _ _ c.requires.2 c.requires.3 (sym c.u8_at-kind.ensures ∙ c.if-kind-eq0.true) (c.emit_op.ensures class)
+pub returns-then-kind-eq0-clause-does : goal.returns-then-kind-eq0-clause-does
+returns-then-kind-eq0-clause-does c =
+    λ class d. false_done _ d _ _ c.requires.2 c.requires.3 (sym c.u8_at-kind.ensures ∙ c.if-kind-eq0.true) (c.emit_op.ensures.does class)
 
 pub overflow_add-at-then-kind-eq1 : goal.overflow_add-at-then-kind-eq1
 overflow_add-at-then-kind-eq1 c =
     let b = (literal_at _ _ _ _ c.requires.2 c.requires.1.there.is).bound in omega (arith, b)
 
-pub returns-then-kind-eq1 : goal.returns-then-kind-eq1
-returns-then-kind-eq1 c =
-    λ class d. true_done _ d _ _ c.requires.2 c.requires.3 (sym c.u8_at-kind.ensures ∙ c.if-kind-eq1.true) (c.emit_op-then-kind-eq1.ensures class)
+pub returns-then-kind-eq1-clause-does : goal.returns-then-kind-eq1-clause-does
+returns-then-kind-eq1-clause-does c =
+    λ class d. true_done _ d _ _ c.requires.2 c.requires.3 (sym c.u8_at-kind.ensures ∙ c.if-kind-eq1.true) (c.emit_op-then-kind-eq1.ensures.does class)
 
 pub overflow_add-at-then-kind-eq2 : goal.overflow_add-at-then-kind-eq2
 overflow_add-at-then-kind-eq2 c =
     let b = (literal_at _ _ _ _ c.requires.2 c.requires.1.there.is).bound in omega (arith, b)
 
-pub returns-then-kind-eq2 : goal.returns-then-kind-eq2
-returns-then-kind-eq2 c =
-    λ class d. nil_done _ d _ _ c.requires.2 c.requires.3 (sym c.u8_at-kind.ensures ∙ c.if-kind-eq2.true) (c.emit_op-then-kind-eq2.ensures class)
+pub returns-then-kind-eq2-clause-does : goal.returns-then-kind-eq2-clause-does
+returns-then-kind-eq2-clause-does c =
+    λ class d. nil_done _ d _ _ c.requires.2 c.requires.3 (sym c.u8_at-kind.ensures ∙ c.if-kind-eq2.true) (c.emit_op-then-kind-eq2.ensures.does class)
 
 pub overflow_add-at-then-kind-eq3 : goal.overflow_add-at-then-kind-eq3
 overflow_add-at-then-kind-eq3 c =
@@ -49,11 +49,11 @@ pub overflow_add-at-then-kind-eq3-2 : goal.overflow_add-at-then-kind-eq3-2
 overflow_add-at-then-kind-eq3-2 c =
     let b = (number_at _ _ _ (literal_at _ _ _ _ c.requires.2 c.requires.1.there.is) (sym c.u8_at-kind.ensures ∙ c.if-kind-eq3.true)).bound in omega (arith, b)
 
-pub returns-then-kind-eq3 : goal.returns-then-kind-eq3
-returns-then-kind-eq3 c =
+pub returns-then-kind-eq3-clause-does : goal.returns-then-kind-eq3-clause-does
+returns-then-kind-eq3-clause-does c =
     λ class d. number_done _ d _ _ c.requires.2 c.requires.3 _ c.u64_at-bits.ensures
     (number_at _ _ _ (literal_at _ _ _ _ c.requires.2 c.requires.1.there.is) (sym c.u8_at-kind.ensures ∙ c.if-kind-eq3.true)).small (sym c.u8_at-kind.ensures ∙ c.if-kind-eq3.true)
-    (c.emit_op_constant.ensures class)
+    (c.emit_op_constant.ensures.does class)
 
 pub overflow_add-at-2 : goal.overflow_add-at-2
 overflow_add-at-2 c =
@@ -73,8 +73,8 @@ overflow_add-at-3 c =
     (λ e. c.if-kind-eq2.false (c.u8_at-kind.ensures ∙ e)) (λ e. c.if-kind-eq3.false (c.u8_at-kind.ensures ∙ e)) in
     let b = (string_at _ _ _ i k).bound in omega (arith, b)
 
-pub returns : goal.returns
-returns c =
+pub returns-clause-does : goal.returns-clause-does
+returns-clause-does c =
     λ class d. string_done _ d _ _ c.requires.2 c.requires.3 _ c.u16_at-name.ensures
     (last_kind _ _ _ (literal_at _ _ _ _ c.requires.2 c.requires.1.there.is) (λ e. c.if-kind-eq0.false (c.u8_at-kind.ensures ∙ e)) (λ e. c.if-kind-eq1.false (c.u8_at-kind.ensures ∙ e))
-    (λ e. c.if-kind-eq2.false (c.u8_at-kind.ensures ∙ e)) (λ e. c.if-kind-eq3.false (c.u8_at-kind.ensures ∙ e))) (c.emit_op_name.ensures class)
+    (λ e. c.if-kind-eq2.false (c.u8_at-kind.ensures ∙ e)) (λ e. c.if-kind-eq3.false (c.u8_at-kind.ensures ∙ e))) (c.emit_op_name.ensures.does class)

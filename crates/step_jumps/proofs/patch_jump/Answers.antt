@@ -16,9 +16,9 @@ pub overflow_sub-distance-3 : goal.overflow_sub-distance-3
 unfolding code_len
 overflow_sub-distance-3 c = let k = c.requires.1 in omega arith
 
-pub returns-then-distance-gt-JUMP : goal.returns-then-distance-gt-JUMP
+pub returns-then-distance-gt-JUMP-clause-does : goal.returns-then-distance-gt-JUMP-clause-does
 unfolding code_len
-returns-then-distance-gt-JUMP c =
+returns-then-distance-gt-JUMP-clause-does c =
     λ class. stop _ (ways.far c.args.level c.args.place _ c.args.span _ _ _
     c.requires.0 c.requires.1 refl c.if-distance-gt-JUMP.true)
 
@@ -26,21 +26,21 @@ pub overflow_add-at : goal.overflow_add-at
 unfolding code_len
 overflow_add-at c = let k = c.requires.1 in omega arith
 
-pub bounds-code-at : goal.bounds-code-at
+pub bounds-work-at : goal.bounds-work-at
 unfolding code_len
-bounds-code-at c = let k = c.requires.1 in omega (arith, c.requires.0.coded.within, c.requires.0.coded.room_code)
+bounds-work-at c = let k = c.requires.1 in omega (arith, c.requires.0.coded.within, c.requires.0.coded.room_code)
 
-pub overflow_add-code : goal.overflow_add-code
+pub overflow_add-work : goal.overflow_add-work
 unfolding code_len
-overflow_add-code c = let k = c.requires.1 in omega arith
+overflow_add-work c = let k = c.requires.1 in omega arith
 
-pub bounds-code-at-2 : goal.bounds-code-at-2
+pub bounds-work-at-2 : goal.bounds-work-at-2
 unfolding code_len
-bounds-code-at-2 c =
+bounds-work-at-2 c =
     let k = c.requires.1 in simp length-set (omega (arith, c.requires.0.coded.within, c.requires.0.coded.room_code))
 
-pub returns : goal.returns
+pub returns-clause-does : goal.returns-clause-does
 unfolding code_len
-returns c =
+returns-clause-does c =
     λ class. next (ways.patched c.args.level c.args.place _ c.args.span _ _
     _ c.requires.0 c.requires.1 refl (search rules))

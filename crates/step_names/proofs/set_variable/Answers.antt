@@ -3,10 +3,10 @@ use Rattle.rules.specs.Compiler.{set_variable}
 use Rattle.steps.proofs.Steps.{anew}
 use Rattle.step_names.proofs.set_variable.Goals as goal
 
-pub returns-in_default : goal.returns-in_default
+pub returns-in_default-clause-does : goal.returns-in_default-clause-does
 unfolding set_variable
-returns-in_default c = c.access_variable-a.ensures
+returns-in_default-clause-does c = c.access_variable-a.ensures.does
 
-pub returns : goal.returns
+pub returns-clause-does : goal.returns-clause-does
 unfolding set_variable
-returns c = λ class. anew (c.access_variable-a.ensures class) c.in-Ok.is
+returns-clause-does c = λ class. anew (c.access_variable-a.ensures.does class) c.in-Ok.is

@@ -11,26 +11,26 @@ pub stmt_expr-requires : goal.stmt_expr-requires
 stmt_expr-requires c =
     (c.requires.0, sym c.mark_at-mark.ensures ∙ c.if-mark-eq-EXPRESSION.true, c.requires.2)
 
-pub returns-then-mark-eq-EXPRESSION : goal.returns-then-mark-eq-EXPRESSION
-returns-then-mark-eq-EXPRESSION c = c.stmt_expr.ensures
+pub returns-then-mark-eq-EXPRESSION-clause-does : goal.returns-then-mark-eq-EXPRESSION-clause-does
+returns-then-mark-eq-EXPRESSION-clause-does c = c.stmt_expr.ensures.does
 
 pub stmt_print-requires : goal.stmt_print-requires
 stmt_print-requires c =
     (c.requires.0, sym c.mark_at-mark.ensures ∙ c.if-mark-eq-PRINT.true, c.requires.2)
 
-pub returns-then-mark-eq-PRINT : goal.returns-then-mark-eq-PRINT
-returns-then-mark-eq-PRINT c = c.stmt_print.ensures
+pub returns-then-mark-eq-PRINT-clause-does : goal.returns-then-mark-eq-PRINT-clause-does
+returns-then-mark-eq-PRINT-clause-does c = c.stmt_print.ensures.does
 
 pub compile_var-requires : goal.compile_var-requires
 compile_var-requires c =
     (c.requires.0, sym c.mark_at-mark.ensures ∙ c.if-mark-eq-VAR.true, c.requires.2)
 
-pub returns-then-mark-eq-VAR : goal.returns-then-mark-eq-VAR
-returns-then-mark-eq-VAR c = c.compile_var.ensures
+pub returns-then-mark-eq-VAR-clause-does : goal.returns-then-mark-eq-VAR-clause-does
+returns-then-mark-eq-VAR-clause-does c = c.compile_var.ensures.does
 
 pub compile_return-requires : goal.compile_return-requires
 compile_return-requires c =
     (c.requires.0, last_return c.requires.0 c.requires.1 c.mark_at-mark.ensures c.if-mark-eq-EXPRESSION.false c.if-mark-eq-PRINT.false c.if-mark-eq-VAR.false, c.requires.2)
 
-pub returns : goal.returns
-returns c = c.compile_return.ensures
+pub returns-clause-does : goal.returns-clause-does
+returns-clause-does c = c.compile_return.ensures.does

@@ -29,19 +29,19 @@ overflow_add-at-then-u8_at-eq0 c =
     let bound = ways.return_bound c.requires.1 c.requires.0 in
     let b = bound in omega (arith, b)
 
-pub returns-then-u8_at-eq0 : goal.returns-then-u8_at-eq0
-returns-then-u8_at-eq0 c =
-    λ d. ways.return_none _ d _ _ c.requires.1 _ c.u8_at.ensures _ c.span_at-span.ensures c.if-u8_at-eq0.true (c.return_nothing.ensures _)
+pub returns-then-u8_at-eq0-clause-does : goal.returns-then-u8_at-eq0-clause-does
+returns-then-u8_at-eq0-clause-does c =
+    λ d. ways.return_none _ d _ _ c.requires.1 _ c.u8_at.ensures _ c.span_at-span.ensures c.if-u8_at-eq0.true (c.return_nothing.ensures.does _)
 
 pub overflow_add-at-3 : goal.overflow_add-at-3
 overflow_add-at-3 c =
     let bound = ways.return_bound c.requires.1 c.requires.0 in
     let b = bound in omega (arith, b)
 
-pub returns-in_default : goal.returns-in_default
-returns-in_default c =
+pub returns-in_default-clause-does : goal.returns-in_default-clause-does
+returns-in_default-clause-does c =
     λ d. ways.return_stop _ d _ _ c.requires.1 _ c.u8_at.ensures c.if-u8_at-eq0.false _ c.span_at-span.ensures
-    (c.return_kind-a.ensures.gives c.args.code.now c.args.spans.now c.requires.2) c.in_default.is
+    (c.return_kind-a.ensures.gives c.args.work.now.code.now c.args.work.now.spans.now c.requires.2) c.in_default.is
 
 pub overflow_add-at-4 : goal.overflow_add-at-4
 overflow_add-at-4 c =
@@ -53,17 +53,17 @@ compile_expr-b-requires c =
     let value_there = ways.return_there c.requires.1 _ c.u8_at.ensures c.if-u8_at-eq0.false c.requires.0 in
     (value_there, c.requires.2)
 
-pub returns-in_default-b : goal.returns-in_default-b
-returns-in_default-b c =
+pub returns-in_default-b-clause-does : goal.returns-in_default-b-clause-does
+returns-in_default-b-clause-does c =
     λ d. ways.return_value_stop _ d _ _ c.requires.1 _ c.u8_at.ensures c.if-u8_at-eq0.false _ c.span_at-span.ensures
-    (c.return_kind-a.ensures.gives c.args.code.now c.args.spans.now c.requires.2) c.in-Ok.is (c.compile_expr-b.ensures _) c.in_default-b.is
+    (c.return_kind-a.ensures.gives c.args.work.now.code.now c.args.work.now.spans.now c.requires.2) c.in-Ok.is (c.compile_expr-b.ensures.does _) c.in_default-b.is
 
 pub emit_op-requires : goal.emit_op-requires
 emit_op-requires c =
     let value_there = ways.return_there c.requires.1 _ c.u8_at.ensures c.if-u8_at-eq0.false c.requires.0 in
-    ran_fit value_there c.compile_expr-b.ensures c.in-Ok-b.is
+    ran_fit value_there c.compile_expr-b.ensures.does c.in-Ok-b.is
 
-pub returns : goal.returns
-returns c =
+pub returns-clause-does : goal.returns-clause-does
+returns-clause-does c =
     λ d. ways.return_done _ d _ _ c.requires.1 _ c.u8_at.ensures c.if-u8_at-eq0.false _ c.span_at-span.ensures
-    (c.return_kind-a.ensures.gives c.args.code.now c.args.spans.now c.requires.2) c.in-Ok.is (c.compile_expr-b.ensures _) c.in-Ok-b.is (c.emit_op.ensures _)
+    (c.return_kind-a.ensures.gives c.args.work.now.code.now c.args.work.now.spans.now c.requires.2) c.in-Ok.is (c.compile_expr-b.ensures.does _) c.in-Ok-b.is (c.emit_op.ensures.does _)

@@ -11,8 +11,8 @@ inherit-requires c = (
   c.requires.2,
 )
 
-pub returns-then-u8_at-eq1 : goal.returns-then-u8_at-eq1
-returns-then-u8_at-eq1 c = superclass_there _ _ _ _ (sym c.u8_at.ensures ∙ c.if-u8_at-eq1.true) c.inherit.ensures
+pub returns-then-u8_at-eq1-clause-does : goal.returns-then-u8_at-eq1-clause-does
+returns-then-u8_at-eq1-clause-does c = superclass_there _ _ _ _ (sym c.u8_at.ensures ∙ c.if-u8_at-eq1.true) c.inherit.ensures.does
 
-pub returns : goal.returns
-returns c = superclass_none _ _ _ _ (λ h. c.if-u8_at-eq1.false (c.u8_at.ensures ∙ h)) c.requires.1
+pub returns-clause-does : goal.returns-clause-does
+returns-clause-does c = superclass_none _ _ _ _ (λ h. c.if-u8_at-eq1.false (c.u8_at.ensures ∙ h)) c.requires.1

@@ -18,15 +18,15 @@ compile_expr-a-requires c =
     let value_there = ways.one_there {limit = 0} (ways.one_of _ _ _ c.requires.1) c.requires.0.there in
     (value_there, c.requires.2)
 
-pub returns-in_default : goal.returns-in_default
-returns-in_default c =
-    λ d. ways.one_stop (ways.one_of _ d _ c.requires.1) (c.compile_expr-a.ensures _) c.in_default.is
+pub returns-in_default-clause-does : goal.returns-in_default-clause-does
+returns-in_default-clause-does c =
+    λ d. ways.one_stop (ways.one_of _ d _ c.requires.1) (c.compile_expr-a.ensures.does _) c.in_default.is
 
 pub emit_op-requires : goal.emit_op-requires
 emit_op-requires c =
     let value_there = ways.one_there {limit = 0} (ways.one_of _ _ _ c.requires.1) c.requires.0.there in
-    ran_fit value_there c.compile_expr-a.ensures c.in-Ok.is
+    ran_fit value_there c.compile_expr-a.ensures.does c.in-Ok.is
 
-pub returns : goal.returns
-returns c =
-    λ d. ways.one_done (ways.one_of _ d _ c.requires.1) _ c.span_at-span.ensures (c.compile_expr-a.ensures _) c.in-Ok.is (c.emit_op.ensures _)
+pub returns-clause-does : goal.returns-clause-does
+returns-clause-does c =
+    λ d. ways.one_done (ways.one_of _ d _ c.requires.1) _ c.span_at-span.ensures (c.compile_expr-a.ensures.does _) c.in-Ok.is (c.emit_op.ensures.does _)
