@@ -43,15 +43,12 @@ abbrev pub Init : (class limit l : ℕ) → (tree : List ℕ) → (left at : ℕ
 Init class limit l tree left at m0 out m1 out1 n1 = Walked class limit l (at + 11) (stmts_at tree (word8 tree (at + 10) % 2) (left - 1) l (at + 11)) (compile_stmts limit) m0 out m1 out1 (Ok n1)
 
 -- the same of values by other names
-pub came : {tree : List ℕ} {l at limit : ℕ} {before : Mem} (p : StmtThere tree before at l limit) {class : ℕ} {m0 : Mem} {out t1 code1 spans1 out1 t2 code2 spans2 out2 : List ℕ} {n1 n2 : ℕ}
-    → t2 ≡ t1 → code2 ≡ code1 → spans2 ≡ spans1 → out2 ≡ out1 → n2 ≡ n1
-    → Init class limit l tree p.left at m0 out (mem t1 code1 spans1) out1 n1 → Init class limit l tree p.left at m0 out (mem t2 code2 spans2) out2 n2
-came {tree} {l} {at} {limit} p {class} {m0} {out} {t1} {code1} {spans1} {out1} {t2} {code2} {spans2} {out2} {n1} {n2} et ec es eo en w =
-    subst (λ (t : List ℕ). Init class limit l tree p.left at m0 out (mem t code2 spans2) out2 n2) (sym et)
-    (subst (λ (c : List ℕ). Init class limit l tree p.left at m0 out (mem t1 c spans2) out2 n2) (sym ec)
-    (subst (λ (s : List ℕ). Init class limit l tree p.left at m0 out (mem t1 code1 s) out2 n2) (sym es)
-    (subst (λ (o : List ℕ). Init class limit l tree p.left at m0 out (mem t1 code1 spans1) o n2) (sym eo)
-    (subst (λ (n : ℕ). Init class limit l tree p.left at m0 out (mem t1 code1 spans1) out1 n) (sym en) w))))
+pub came : {tree : List ℕ} {l at limit : ℕ} {before : Mem} (p : StmtThere tree before at l limit) {class : ℕ} {m0 m1 m2 : Mem} {out out1 out2 : List ℕ} {n1 n2 : ℕ}
+    → m2 ≡ m1 → out2 ≡ out1 → n2 ≡ n1 → Init class limit l tree p.left at m0 out m1 out1 n1 → Init class limit l tree p.left at m0 out m2 out2 n2
+came {tree} {l} {at} {limit} p {class} {m0} {m1} {m2} {out} {out1} {out2} {n1} {n2} em eo en w =
+    subst (λ (m : Mem). Init class limit l tree p.left at m0 out m out2 n2) (sym em)
+    (subst (λ (o : List ℕ). Init class limit l tree p.left at m0 out m1 o n2) (sym eo)
+    (subst (λ (n : ℕ). Init class limit l tree p.left at m0 out m1 out1 n) (sym en) w))
 
 module _ {tree : List ℕ} {l at limit : ℕ} {before : Mem} (p : StmtThere tree before at l limit) (mark : letters tree at ≡ marks.SO) where
   pub bound : at + 11 ≤ length tree
