@@ -7,7 +7,7 @@ ghost use Rattle.rules.specs.Limits.{first_limits};
 ghost use Rattle.rules.specs.Entry as rules;
 ghost use Rattle.tree.specs.Checked.{checked_file};
 ghost use Rattle.state.specs.Layout.{table_words};
-ghost use Rattle.steps.specs.View.{mem, Fit, steady, Did};
+ghost use Rattle.steps.specs.View.{areas, SameAreas, Fit, steady, Did};
 ghost use Rattle.entry_parts.specs.Ends.{lent_of};
 ghost use Rattle.entry.specs.Whole.{limit_of, rows_at, Rows, Clean, script_end, Scripted, Written};
 
@@ -18,23 +18,24 @@ use rules::{Answer, Refusal, Span, Stopped};
 use state::Table;
 use statements::compile_stmts;
 use step_bytes::emit_op;
-use steps::{Class, Step};
+use steps::{Class, Step, Work};
 use stmt_functions::finish;
 use tree::Script;
 
 // ## The script
 
 // The script returns nil.
-fn end_script(t: &mut [u64], code: &mut [u8], spans: &mut [u32], limit: usize) -> Step
-    requires { Fit (mem t.old code.old spans.old) 0 limit }
-    ensures { Did 0 limit 0 0 steady (script_end limit) (mem t.old code.old spans.old) (mem t.new code.new spans.new) result }
+fn end_script(work: &mut Work<'_>, limit: usize) -> Step
+    requires { Fit (areas work.old) 0 limit }
+    ensures does { Did 0 limit 0 0 steady (script_end limit) (areas work.old) (areas work.new) result }
+    ensures same { SameAreas work.old work.new }
 {
     let span = Span { start: 0, end: 0 };
-    let a = emit_op(t, code, spans, 0, limit, Op::NIL, span, 0);
+    let a = emit_op(work, 0, limit, Op::NIL, span, 0);
     let Ok(_) = a else {
         return a;
     };
-    emit_op(t, code, spans, 0, limit, Op::RETURN, span, 0)
+    emit_op(work, 0, limit, Op::RETURN, span, 0)
 }
 
 // The statements from `at` on are the script's, and it is finished last. The answer's value is how long the image is.
@@ -42,25 +43,24 @@ fn compile_script(
     tree: &[u8],
     at: usize,
     count: usize,
-    t: &mut [u64],
-    code: &mut [u8],
-    spans: &mut [u32],
+    work: &mut Work<'_>,
     out: &mut [u8],
     limit: usize,
 ) -> Step
-    requires { (Rows tree.now count at) × (Clean t.old code.old spans.old out.old limit) }
-    ensures { Scripted limit (rows_at tree.now count at) (length tree.now) t.new out.new result }
+    requires { (Rows tree.now count at) × (Clean work.old.table.now work.old.code.now work.old.spans.now out.old limit) }
+    ensures does { Scripted limit (rows_at tree.now count at) (length tree.now) work.new.table.now out.new result }
+    ensures same { SameAreas work.old work.new }
 {
-    let a = compile_stmts(tree, at, count, t, code, spans, out, 0, limit, Class::NONE);
+    let a = compile_stmts(tree, at, count, work, out, 0, limit, Class::NONE);
     let Ok(_) = a else {
         return a;
     };
-    let b = end_script(t, code, spans, limit);
+    let b = end_script(work, limit);
     let Ok(_) = b else {
         return b;
     };
-    finish(t, &code[..], &spans[..], out, 0);
-    Ok(6 + t[Table::IMAGE_BYTES] as usize)
+    finish(work, out, 0);
+    Ok(6 + work.table[Table::IMAGE_BYTES] as usize)
 }
 
 // ## The image
@@ -81,19 +81,22 @@ fn compile_sound(
     let limit = code_limit(code.len(), spans.len());
     areas::clear8(out);
     step_returns::begin_script(t);
+    let mut work = Work {
+        table: t,
+        code,
+        spans,
+    };
     let r = compile_script(
         tree,
         script.at,
         script.count as usize,
-        t,
-        code,
-        spans,
+        &mut work,
         out,
         limit,
     );
     match r {
-        Ok(n) => finish_image(out, n, t[Table::FUNCTIONS], options),
-        Err(why) => Err(stopped_of(&t[..], why)),
+        Ok(n) => finish_image(out, n, work.table[Table::FUNCTIONS], options),
+        Err(why) => Err(stopped_of(&work.table[..], why)),
     }
 }
 

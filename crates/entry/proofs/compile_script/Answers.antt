@@ -11,30 +11,30 @@ pub compile_stmts-a-requires : goal.compile_stmts-a-requires
 compile_stmts-a-requires c =
     record { left = first_limits.depth; there = there c.requires.0; ready = ready c.requires.1 _ _ c.requires.0.short }
 
-pub returns-in_default : goal.returns-in_default
-returns-in_default c =
-    stopped_first c.requires.0 c.requires.1 (c.compile_stmts-a.ensures.at_depth first_limits.depth) c.in_default.is
+pub returns-in_default-clause-does : goal.returns-in_default-clause-does
+returns-in_default-clause-does c =
+    stopped_first c.requires.0 c.requires.1 (c.compile_stmts-a.ensures.does.at_depth first_limits.depth) c.in_default.is
 
 pub end_script-b-requires : goal.end_script-b-requires
 end_script-b-requires c =
-    fit_between c.requires.0 c.requires.1 (c.compile_stmts-a.ensures.at_depth first_limits.depth) c.in-Ok.is
+    fit_between c.requires.0 c.requires.1 (c.compile_stmts-a.ensures.does.at_depth first_limits.depth) c.in-Ok.is
 
-pub returns-in_default-b : goal.returns-in_default-b
-returns-in_default-b c =
-    stopped_second c.requires.0 c.requires.1 (c.compile_stmts-a.ensures.at_depth first_limits.depth) c.in-Ok.is c.end_script-b.ensures c.in_default-b.is
+pub returns-in_default-b-clause-does : goal.returns-in_default-b-clause-does
+returns-in_default-b-clause-does c =
+    stopped_second c.requires.0 c.requires.1 (c.compile_stmts-a.ensures.does.at_depth first_limits.depth) c.in-Ok.is c.end_script-b.ensures.does c.in_default-b.is
 
 pub finish-requires : goal.finish-requires
 finish-requires c =
-    to_finish c.requires.0 c.requires.1 (c.compile_stmts-a.ensures.at_depth first_limits.depth) c.in-Ok.is c.end_script-b.ensures
+    to_finish c.requires.0 c.requires.1 (c.compile_stmts-a.ensures.does.at_depth first_limits.depth) c.in-Ok.is c.end_script-b.ensures.does
     c.in-Ok-b.is
 
 pub overflow_add-result : goal.overflow_add-result
 overflow_add-result c =
-    let f = to_finish c.requires.0 c.requires.1 (c.compile_stmts-a.ensures.at_depth first_limits.depth) c.in-Ok.is c.end_script-b.ensures
+    let f = to_finish c.requires.0 c.requires.1 (c.compile_stmts-a.ensures.does.at_depth first_limits.depth) c.in-Ok.is c.end_script-b.ensures.does
     c.in-Ok-b.is in
-    omega (arith, c.finish.ensures.bytes, f.2)
+    omega (arith, c.finish.ensures.does.bytes, f.2)
 
-pub returns : goal.returns
-returns c =
-    scripted c.requires.0 c.requires.1 (c.compile_stmts-a.ensures.at_depth first_limits.depth) c.in-Ok.is c.end_script-b.ensures c.in-Ok-b.is
-    c.finish.ensures
+pub returns-clause-does : goal.returns-clause-does
+returns-clause-does c =
+    scripted c.requires.0 c.requires.1 (c.compile_stmts-a.ensures.does.at_depth first_limits.depth) c.in-Ok.is c.end_script-b.ensures.does c.in-Ok-b.is
+    c.finish.ensures.does

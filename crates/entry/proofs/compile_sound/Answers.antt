@@ -15,7 +15,7 @@ compile_script-r-requires c = (
 
 pub finish_image-requires : goal.finish_image-requires
 finish_image-requires c =
-    let w = sound_recorded _ c.requires.0 c.compile_script-r.ensures c.in-Ok.is in
+    let w = sound_recorded _ c.requires.0 c.compile_script-r.ensures.does c.in-Ok.is in
     (omega (arith, w.long), w.small)
 
 pub stopped_of-requires : goal.stopped_of-requires
@@ -25,7 +25,7 @@ stopped_of-requires c =
 pub returns-in-Ok : goal.returns-in-Ok
 returns-in-Ok c =
     written_limit _ c.code_limit-limit.ensures
-    (written_finished (sound_recorded _ c.requires.0 c.compile_script-r.ensures
+    (written_finished (sound_recorded _ c.requires.0 c.compile_script-r.ensures.does
     c.in-Ok.is) c.finish_image.ensures)
 
 pub shape_of-out-in-Err : goal.shape_of-out-in-Err
@@ -35,4 +35,4 @@ shape_of-out-in-Err c =
 pub returns-in-Err : goal.returns-in-Err
 returns-in-Err c =
     written_limit _ c.code_limit-limit.ensures
-    (refused_as c.stopped_of.ensures (sound_refused _ c.requires.0 c.compile_script-r.ensures c.in-Err.is))
+    (refused_as c.stopped_of.ensures (sound_refused _ c.requires.0 c.compile_script-r.ensures.does c.in-Err.is))

@@ -2,11 +2,11 @@
 use Rattle.steps.proofs.Steps.{went, halt, then_on}
 use Rattle.entry.proofs.end_script.Goals as goal
 
-pub returns-in_default : goal.returns-in_default
-returns-in_default c = halt _ (c.emit_op-a.ensures 0) c.in_default.is
+pub returns-in_default-clause-does : goal.returns-in_default-clause-does
+returns-in_default-clause-does c = halt _ (c.emit_op-a.ensures.does 0) c.in_default.is
 
 pub emit_op-requires : goal.emit_op-requires
-emit_op-requires c = (went (c.emit_op-a.ensures 0) c.in-Ok.is).ahead.fit
+emit_op-requires c = (went (c.emit_op-a.ensures.does 0) c.in-Ok.is).ahead.fit
 
-pub returns : goal.returns
-returns c = then_on _ (c.emit_op-a.ensures 0) c.in-Ok.is (c.emit_op.ensures 0)
+pub returns-clause-does : goal.returns-clause-does
+returns-clause-does c = then_on _ (c.emit_op-a.ensures.does 0) c.in-Ok.is (c.emit_op.ensures.does 0)
