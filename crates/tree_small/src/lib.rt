@@ -9,8 +9,8 @@ ghost use Rattle.tree_small.specs.Places.{place, below, row, Tells};
 
 use rules::Refusal;
 
-// A record that is opened: its mark, of 2 bytes, and its span, of 8, lie within the file. The number of names, which its readers want too, stands beside it:
-// in here, where LLVM loses its bound, it made the reader 6 in 100 slower.
+// A record that is opened: its mark, of 2 bytes, and its span, of 8, lie within the file. The number of names goes beside it: LLVM does not see
+// that number's bound through a struct, and the reader is 6 in 100 slower.
 #[derive(Drop)]
 pub struct Opened<'a> {
     pub tree: &'a [u8],
