@@ -27,10 +27,6 @@ fn fold_answer(sum: u64, bytes: &[u8], directory: Option<usize>, k: usize) -> u6
     vectors::fold_all(sum, &[a.number, a.at, a.end])
 }
 
-fn digest(bytes: &[u8], directory: Option<usize>, count: usize) -> u64 {
-    (0..count).fold(0, |sum, k| fold_answer(sum, bytes, directory, k))
-}
-
 fn line(rt: &impl Print, size: u32, count: u32, sum: u64) -> io::Result<()> {
     println!(rt; "{size} bytes, {count} lookups, digest {sum}")
 }
@@ -44,7 +40,8 @@ fn replay<R: Read>(rt: &impl Print, input: &mut R, space: &mut [u8]) -> io::Resu
     let n = space.len().min(size as usize);
     let bytes = &space[..n];
     let directory = directory_at(bytes);
-    line(rt, size, count, digest(bytes, directory, count as usize))?;
+    let sum = (0..count as usize).fold(0, |sum, k| fold_answer(sum, bytes, directory, k));
+    line(rt, size, count, sum)?;
     Ok(true)
 }
 

@@ -17,10 +17,6 @@ fn fold_answer(sum: u64, words: &[u32], offset: usize) -> u64 {
     vectors::fold_all(sum, &[a.number, a.at, a.end])
 }
 
-fn digest(words: &[u32], offsets: usize) -> u64 {
-    (0..offsets).fold(0, |sum, offset| fold_answer(sum, words, offset))
-}
-
 fn line(rt: &impl Print, size: u32, offsets: u32, sum: u64) -> io::Result<()> {
     println!(rt; "{size} words, {offsets} offsets, digest {sum}")
 }
@@ -34,9 +30,10 @@ fn replay<R: Read>(rt: &impl Print, input: &mut R, words: &mut [u32]) -> io::Res
     }
     // As many words as there is room for.
     let n = words.len().min(size as usize);
-    let part = &mut words[..n];
-    fill(input, part)?;
-    line(rt, size, offsets, digest(part, offsets as usize))?;
+    fill(input, &mut words[..n])?;
+    let part = &words[..n];
+    let sum = (0..offsets as usize).fold(0, |sum, offset| fold_answer(sum, part, offset));
+    line(rt, size, offsets, sum)?;
     Ok(true)
 }
 

@@ -10,10 +10,6 @@ fn fold_answer(sum: u64, bytes: &[u8], name: u16) -> u64 {
     vectors::fold_all(sum, &[a.number, a.at, a.end, a.name, a.length])
 }
 
-fn digest(bytes: &[u8], count: u16) -> u64 {
-    (0..count).fold(0, |sum, name| fold_answer(sum, bytes, name))
-}
-
 fn line(rt: &impl Print, size: u32, count: u16, sum: u64) -> io::Result<()> {
     println!(rt; "{size} bytes, {count} names, digest {sum}")
 }
@@ -30,7 +26,8 @@ fn replay<R: Read>(rt: &impl Print, input: &mut R, space: &mut [u8]) -> io::Resu
     let size = vectors::bytes_next(input, space)?;
     let n = space.len().min(size as usize);
     let bytes = &space[..n];
-    line(rt, size, count, digest(bytes, count))?;
+    let sum = (0..count).fold(0, |sum, name| fold_answer(sum, bytes, name));
+    line(rt, size, count, sum)?;
     Ok(true)
 }
 
