@@ -41,15 +41,6 @@ written_finished w f = record {
       ∙ f.is w.functions (records_of w) w.count lent (o ∙ f.size);
 }
 
--- the same of a table by another name
-pub enough_as : {n : ℕ} {t t' : List ℕ} → (6 ≤ n) × (n + 6 + 4 * get_or t image_at 0 ≤ 1152921504606846976) → t ≡ t' →
-    (6 ≤ n) × (n + 6 + 4 * get_or t' image_at 0 ≤ 1152921504606846976)
-enough_as {n} h e = subst (λ (x : List ℕ). (6 ≤ n) × (n + 6 + 4 * get_or x image_at 0 ≤ 1152921504606846976)) e h
-
-pub finished_as : {options n : ℕ} {t t' out out' : List ℕ} {r : Result ℕ Stopped} → Finished options (get_or t image_at 0) n out out' r → t ≡ t' →
-    Finished options (get_or t' image_at 0) n out out' r
-finished_as {options} {n} {t} {t'} {out} {out'} {r} f e = subst (λ (x : List ℕ). Finished options (get_or x image_at 0) n out out' r) e f
-
 -- ## The table
 
 module _ (tree : List ℕ) (options : ℕ) (table code spans out : List ℕ) where

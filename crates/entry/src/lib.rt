@@ -95,8 +95,8 @@ fn compile_sound(
         limit,
     );
     match r {
-        Ok(n) => finish_image(out, n, t[Table::FUNCTIONS], options),
-        Err(why) => Err(stopped_of(&t[..], why)),
+        Ok(n) => finish_image(out, n, work.table[Table::FUNCTIONS], options),
+        Err(why) => Err(stopped_of(&work.table[..], why)),
     }
 }
 

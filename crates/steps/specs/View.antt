@@ -32,9 +32,10 @@ spans_of (mem t code spans) = spans
 abbrev pub areas : Work → Mem
 areas w = mem w.table.now w.code.now w.spans.now
 
--- the areas are still those that were lent
+-- the areas are still those that were lent, and as long, also where a step stops
 abbrev pub SameAreas : (before now : Work) → Type 0
 SameAreas before now = (now.table.ghost_name ≡ before.table.ghost_name) × (now.code.ghost_name ≡ before.code.ghost_name) × (now.spans.ghost_name ≡ before.spans.ghost_name)
+    × (length now.table.now ≡ length before.table.now) × (length now.code.now ≡ length before.code.now) × (length now.spans.now ≡ length before.spans.now)
 
 -- what no lent area holds word for word: the classes around the place, and the finished functions
 pub record Rest : Type 0 where

@@ -1,14 +1,9 @@
--- `compile_sound` meets its contract. The table holds in the end what the areas' struct had in it.
-use borrow.Author.Rules.{rules}
+-- `compile_sound` meets its contract.
 use native.Mathlib.Omega.{arith}
-use mathlib.Core.Path.{ap, ◌∙◌}
-use mathlib.Core.List.{List}
-use Prim.Native.Nat.{ℕ}
 use lib.ListN.{length}
-use Rattle.steps.specs.Why.{told}
 use Rattle.entry.proofs.Rows.{rows_of, sound_refused, sound_recorded}
 use Rattle.entry.proofs.Script.{clean}
-use Rattle.entry.proofs.Answers.{written_limit, written_finished, enough_as, finished_as, refused_as}
+use Rattle.entry.proofs.Answers.{written_limit, written_finished, refused_as}
 use Rattle.entry.proofs.compile_sound.Goals as goal
 
 pub compile_script-r-requires : goal.compile_script-r-requires
@@ -21,16 +16,21 @@ compile_script-r-requires c = (
 pub finish_image-requires : goal.finish_image-requires
 finish_image-requires c =
     let w = sound_recorded _ c.requires.0 c.compile_script-r.ensures.does c.in-Ok.is in
-    enough_as {t = c.compile_script-r.new.work.table.now} {t' = c.t-2-1.given.0} (omega (arith, w.long), w.small) (search rules)
+    (omega (arith, w.long), w.small)
 
 pub stopped_of-requires : goal.stopped_of-requires
-stopped_of-requires c = search rules
+stopped_of-requires c =
+    omega (arith, c.compile_script-r.ensures.same.3, c.begin_script.auto.t, c.requires.1)
+
+pub bounds-work-17410 : goal.bounds-work-17410
+bounds-work-17410 c =
+    omega (arith, c.compile_script-r.ensures.same.3, c.begin_script.auto.t, c.requires.1)
 
 pub returns-in-Ok : goal.returns-in-Ok
 returns-in-Ok c =
     written_limit _ c.code_limit-limit.ensures
     (written_finished (sound_recorded _ c.requires.0 c.compile_script-r.ensures.does
-    c.in-Ok.is) (finished_as {t = c.t-2-1.given.0} {t' = c.compile_script-r.new.work.table.now} c.finish_image.ensures (search rules)))
+    c.in-Ok.is) c.finish_image.ensures)
 
 pub shape_of-out-in-Err : goal.shape_of-out-in-Err
 shape_of-out-in-Err c =
@@ -39,5 +39,4 @@ shape_of-out-in-Err c =
 pub returns-in-Err : goal.returns-in-Err
 returns-in-Err c =
     written_limit _ c.code_limit-limit.ensures
-    (refused_as (c.stopped_of.ensures ∙ ap (λ (x : List ℕ). told x c.in-Err.why) (search rules))
-    (sound_refused _ c.requires.0 c.compile_script-r.ensures.does c.in-Err.is))
+    (refused_as c.stopped_of.ensures (sound_refused _ c.requires.0 c.compile_script-r.ensures.does c.in-Err.is))

@@ -209,7 +209,7 @@ loop-init t c =
           c.requires.0.there.is) all_left,
       ways.opened_on _ _ _ _ c.span_at-span.ensures mark c.call_open-opened.ensures.does c.in-Ok-opened.is c.call_parts-parts.ensures
           c.requires.0.there.is,
-      (refl, refl, refl),
+      (refl, refl, refl, refl, refl, refl),
     )
 
 pub compile_expr-part-requires : goal.compile_expr-part-requires

@@ -45,7 +45,7 @@ pub compile_function-loop-init : goal.compile_function-loop-init
 compile_function-loop-init t c =
     let p = c.requires in (
       functions.start p c.open_function-a.ensures c.in-Ok.is _ (all_left ∙ c.u16_at-count.ensures),
-      (refl, refl, refl),
+      (refl, refl, refl, refl, refl, refl),
     )
 
 pub compile_function-overflow_add-level : goal.compile_function-overflow_add-level
@@ -126,7 +126,7 @@ compile_stmt-loop-init t c =
     let mark = sym c.mark_at-mark.ensures ∙ c.if-mark-eq-BLOCK.true in
     let p = c.requires in (
       blocks.start p mark (c.begin_scope.ensures.gives _ _ p.ready.fit) _ (all_left ∙ c.u16_at-count.ensures),
-      (refl, refl, refl),
+      (refl, refl, refl, refl, refl, refl),
     )
 
 pub compile_stmt-compile_stmt-a-requires : goal.compile_stmt-compile_stmt-a-requires
@@ -621,7 +621,7 @@ compile_stmt-loop-method-init t c =
     let mark = sym c.mark_at-mark.ensures ∙ c.if-mark-eq-CLASS.true in
     let p = c.requires in (
       methods.start p mark c.span_at-span.ensures c.open_class-a.ensures.does c.in-Ok-a-5.is _ (all_left ∙ c.u16_at-count-then-mark-eq-CLASS.ensures),
-      (refl, refl, refl),
+      (refl, refl, refl, refl, refl, refl),
     )
 
 pub compile_stmt-overflow_add-next-in-loop-method : goal.compile_stmt-overflow_add-next-in-loop-method

@@ -7,7 +7,7 @@ use Rattle.statements.proofs.compile_stmts.Goals as goal
 
 pub loop-init : goal.loop-init
 loop-init c =
-    (row_start c.requires all_left, (refl, refl, refl))
+    (row_start c.requires all_left, (refl, refl, refl, refl, refl, refl))
 
 pub compile_stmt-s-requires : goal.compile_stmt-s-requires
 compile_stmt-s-requires c =

@@ -12,7 +12,7 @@ loop-why-init c =
     let a = c.args in (
       ways.passing_none _
           (ways.lowered a.level _ _ _ c.move_scope.ensures refl {class = 0} a.work.now.code.now a.work.now.spans.now c.requires.0).ahead.fit,
-      (refl, refl, refl),
+      (refl, refl, refl, refl, refl, refl),
     )
 
 pub returns-in-Ok-false-clause-does : goal.returns-in-Ok-false-clause-does
