@@ -19,7 +19,7 @@ use state::Table;
 use statements::compile_stmts;
 use step_bytes::emit_op;
 use steps::{Class, Step, Work};
-use stmt_functions::finish;
+use stmt_functions::finish_in;
 use tree::Script;
 
 // ## The script
@@ -59,7 +59,7 @@ fn compile_script(
     let Ok(_) = b else {
         return b;
     };
-    finish(work, out, 0);
+    finish_in(work, out, 0);
     Ok(6 + work.table[Table::IMAGE_BYTES] as usize)
 }
 

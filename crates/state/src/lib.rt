@@ -73,6 +73,36 @@ impl Kind {
     }
 }
 
+// Of any byte, as `type_of` says of a word of the table: 3 and all above are an initializer's.
+impl From<u8> for Kind {
+    ghost use Rattle.std.specs.Prelude.{◌≡◌};
+    ghost use Rattle.state.specs.Kinds.{number_of};
+    ghost use Rattle.state.specs.Layout.{type_of};
+
+    ghost from_gives = { λ byte kind. type_of (number_of kind) ≡ type_of byte };
+
+    fn from(byte: u8) -> Kind {
+        match byte {
+            0 => Kind::Script,
+            1 => Kind::Function,
+            2 => Kind::Method,
+            _ => Kind::Initializer,
+        }
+    }
+}
+
+// As such a byte.
+impl From<Kind> for u8 {
+    ghost use Rattle.std.specs.Prelude.{◌≡◌};
+    ghost use Rattle.state.specs.Kinds.{number_of};
+
+    ghost from_gives = { λ kind byte. byte ≡ number_of kind };
+
+    fn from(kind: Kind) -> u8 {
+        kind as u8
+    }
+}
+
 // A local of this name is there, and has no value yet.
 #[derive(Drop)]
 pub struct Unready;

@@ -13,13 +13,21 @@ use step_bytes::emit_op;
 use steps::{Reason, Step, Why, Work};
 
 // Where the innermost function's next byte goes: also where a loop starts.
-pub fn code_length(work: &Work<'_>, level: usize) -> usize
+pub fn code_length(t: &[u64], level: usize) -> usize
+    requires { (level < levels) × (length t.now ≡ table_words) × (start_of_code t.now level ≤ end_of_code t.now) }
+    ensures { Measured t.now level result }
+{
+    let from = t[level * Table::LEVEL_WORDS + Table::CODE_FROM] as usize;
+    let end = t[Table::CODE_END] as usize;
+    end - from
+}
+
+// The same of the areas.
+pub fn code_length_in(work: &Work<'_>, level: usize) -> usize
     requires { (level < levels) × (length work.now.table.now ≡ table_words) × (start_of_code work.now.table.now level ≤ end_of_code work.now.table.now) }
     ensures { Measured work.now.table.now level result }
 {
-    let from = work.table[level * Table::LEVEL_WORDS + Table::CODE_FROM] as usize;
-    let end = work.table[Table::CODE_END] as usize;
-    end - from
+    code_length(work.table, level)
 }
 
 // A jump with its operand open. The answer's value is the operand's place.
@@ -40,7 +48,7 @@ pub fn emit_jump(work: &mut Work<'_>, level: usize, limit: usize, op: u8, span: 
     let Ok(_) = d else {
         return d;
     };
-    let n = code_length(&*work, level);
+    let n = code_length_in(&*work, level);
     Ok(n - 2)
 }
 
@@ -87,7 +95,7 @@ pub fn emit_loop(
     ensures does { (class : ℕ) → Did class limit level next steady (emit_loop limit start span) (areas work.old) (areas work.new) result }
     ensures same { SameAreas work.old work.new }
 {
-    let back = code_length(&*work, level) + 3 - start;
+    let back = code_length_in(&*work, level) + 3 - start;
     if Limit::JUMP < back {
         return Err(Why {
             reason: Reason::JumpTooLarge,

@@ -12,7 +12,7 @@ use op::Op;
 use rules::{Name, Span};
 use state::Uncaptured;
 use step_bytes::{emit_op_name, emit_op_u8};
-use step_scopes::{declare_local, define_local, is_global};
+use step_scopes::{declare_local, define_local, is_global_in};
 use steps::{Class, Place, Reason, Step, Why, Work};
 
 pub fn resolve(t: &mut [u64], level: usize, name: u16, span: Span) -> Result<Place, Why>
@@ -169,7 +169,7 @@ pub fn define_name(
     ensures does { (class : ℕ) → Did class limit level next steady (define_name limit name span) (areas work.old) (areas work.new) result }
     ensures same { SameAreas work.old work.new }
 {
-    if is_global(&*work, level) {
+    if is_global_in(&*work, level) {
         return emit_op_name(work, level, limit, Op::DEFINE_GLOBAL, name, span, next);
     }
     let a = declare_local(work.table, level, name, span, next);

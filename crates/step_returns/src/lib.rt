@@ -37,16 +37,24 @@ pub fn need_super(level: usize, class: u8, span: Span, next: usize) -> Step
 }
 
 // The code's last byte is RETURN's, an operand or not.
-pub fn ends_in_return(work: &Work<'_>, level: usize) -> bool
-    requires { (level < levels) × (length work.now.table.now ≡ table_words) × (end_of_code work.now.table.now ≤ length work.now.code.now) }
-    ensures { Ending work.now.table.now work.now.code.now level result }
+pub fn ends_in_return(t: &[u64], code: &[u8], level: usize) -> bool
+    requires { (level < levels) × (length t.now ≡ table_words) × (end_of_code t.now ≤ length code.now) }
+    ensures { Ending t.now code.now level result }
 {
-    let from = work.table[level * Table::LEVEL_WORDS + Table::CODE_FROM] as usize;
-    let end = work.table[Table::CODE_END] as usize;
+    let from = t[level * Table::LEVEL_WORDS + Table::CODE_FROM] as usize;
+    let end = t[Table::CODE_END] as usize;
     if end <= from {
         return false;
     }
-    work.code[end - 1] == Op::RETURN
+    code[end - 1] == Op::RETURN
+}
+
+// The same of the areas.
+fn ends_in(work: &Work<'_>, level: usize) -> bool
+    requires { (level < levels) × (length work.now.table.now ≡ table_words) × (end_of_code work.now.table.now ≤ length work.now.code.now) }
+    ensures { Ending work.now.table.now work.now.code.now level result }
+{
+    ends_in_return(work.table, work.code, level)
 }
 
 // What a function of this kind returns with no value: an initializer its own object, any other NIL.
@@ -101,7 +109,7 @@ pub fn implicit_return(work: &mut Work<'_>, level: usize, limit: usize, next: us
     ensures does { (class : ℕ) → Did class limit level next steady (implicit_return limit) (areas work.old) (areas work.new) result }
     ensures same { SameAreas work.old work.new }
 {
-    if ends_in_return(&*work, level) {
+    if ends_in(&*work, level) {
         return Ok(next);
     }
     return_nothing(work, level, limit, Span { start: 0, end: 0 }, next)

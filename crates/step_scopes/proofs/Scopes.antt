@@ -10,10 +10,10 @@ use borrow.Author.Tests.{lt-ltb, le-ltb}
 use Rattle.std.specs.Prelude.{if◌then◌else◌, Result, Ok, Err, ⊤}
 use Rattle.rules.specs.Op as op
 use Rattle.rules.specs.declared.Span.{Span}
-use Rattle.rules.specs.Compiler.{Local, CompilerCtx, Compiler, with_ctx, with_locals, with_scope_depth, Outcome, ok, Compile, go_on, ◌>>=◌, ◌>>◌, done, return, the, update_ctx, declare_local, define_local, is_global, begin_scope, begin_ctx, emit_u8, emit_op, pop_locals, end_scope, end_ctx, back_to}
+use Rattle.rules.specs.Compiler.{FunctionType, Local, CompilerCtx, new_ctx, Compiler, with_ctx, with_locals, with_scope_depth, Outcome, ok, Compile, go_on, ◌>>=◌, ◌>>◌, done, return, the, update_ctx, declare_local, define_local, is_global, begin_scope, begin_ctx, emit_u8, emit_op, pop_locals, end_scope, end_ctx, back_to}
 use Rattle.rules.proofs.Slips as slips
 use Rattle.rules.proofs.Slips.{enough_locals, already_declared}
-use Rattle.state.specs.Layout.{levels, stack, local_of, locals_of, end_of_code, end_of_runs, ctx_at, start_of_code, start_of_runs, upvalues_of, parents_of, Wf, upvalues_place, depth_place, code_from_place, runs_from_place, name_place, level_words, local_count_place, word}
+use Rattle.state.specs.Layout.{levels, stack, local_of, locals_of, end_of_code, end_of_runs, ctx_at, type_of, start_of_code, start_of_runs, upvalues_of, parents_of, Wf, upvalues_place, depth_place, code_from_place, runs_from_place, name_place, level_words, local_count_place, word}
 use Rattle.state.specs.Meaning.{DeclaredAs, DeclaredAt, DefinedAt, Moved, Began, Wrote, Dropped, Closed}
 use Rattle.state.specs.declared.Undeclared.{Undeclared}
 use Rattle.state.specs.declared.Undeclared.TheVariants.{Already, Full}
@@ -274,6 +274,16 @@ entered l name arity kind t t' low w = record {
       (sym (λ i. record { ctx = c i; parents = ps i; class_ctx = rest.classes; functions = rest.functions }));
   deep = λ code spans. scope_of t' code spans (suc l) _ (w.fresh code spans);
   kept = w.kept;
+}
+
+-- it is said of the number nothing but what kind it is
+pub entered_as : (l name arity j k : ℕ) (t t' : List ℕ) → type_of j ≡ type_of k → Entered l name arity j t t' → Entered l name arity k t t'
+entered_as l name arity j k t t' e h = record {
+  fit = λ code spans. h.fit code spans;
+  comes = λ code spans rest. subst (λ (type : FunctionType). begin_ctx (new_ctx name arity type (depth_at (mem t code spans) l + 1)) (view (mem t code spans) l rest) ≡ ok tt (view (mem t' code spans) (suc l) rest))
+      e (h.comes code spans rest);
+  deep = h.deep;
+  kept = h.kept;
 }
 
 -- the level above l is left

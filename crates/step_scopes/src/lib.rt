@@ -4,7 +4,6 @@
 ghost use Rattle.std.specs.Prelude.{◌≡◌, ℕ, ◌+◌, ◌*◌, ◌<◌, get_or, if◌then◌else◌};
 ghost use Rattle.rules.specs.Compiler.{declare_local, define_local, is_global, begin_scope, end_scope};
 ghost use Rattle.rules.specs.Op as ops;
-ghost use Rattle.state.specs.Kinds.{number_of};
 ghost use Rattle.state.specs.Layout.{levels, deepest, local_of, Wf, depth_place, level_words};
 ghost use Rattle.steps.specs.View.{areas, SameAreas, Fit, steady, deeper, shallower, Did, Changed, Tried, Asked, PoppedAt, Entered, Left};
 
@@ -21,11 +20,19 @@ pub fn begin_scope(t: &mut [u64], level: usize)
     state_levels::move_scope(t, level, depth + 1);
 }
 
-pub fn is_global(work: &Work<'_>, level: usize) -> bool
+pub fn is_global(t: &[u64], level: usize) -> bool
+    requires { (level < levels) × (Wf t.now) }
+    ensures { Asked level is_global result t.now }
+{
+    t[level * Table::LEVEL_WORDS + Table::DEPTH] == 0
+}
+
+// The same of the areas.
+pub fn is_global_in(work: &Work<'_>, level: usize) -> bool
     requires { (level < levels) × (Wf work.now.table.now) }
     ensures { Asked level is_global result work.now.table.now }
 {
-    work.table[level * Table::LEVEL_WORDS + Table::DEPTH] == 0
+    is_global(work.table, level)
 }
 
 pub fn declare_local(t: &mut [u64], level: usize, name: u16, span: Span, next: usize) -> Step
@@ -121,11 +128,11 @@ pub fn end_scope(work: &mut Work<'_>, level: usize, limit: usize, span: Span, ne
 }
 
 // The context of a function is the innermost now, one scope deeper: its level is one more.
-pub fn begin_ctx(t: &mut [u64], level: usize, name: u16, arity: u8, kind: Kind)
+pub fn begin_ctx(t: &mut [u64], level: usize, name: u16, arity: u8, kind: u8)
     requires { (level + 1 < levels) × (Wf t.old) × (get_or t.old (level * level_words + depth_place) 0 < deepest) }
-    ensures { Entered level name arity (number_of kind) t.old t.new }
+    ensures { Entered level name arity kind t.old t.new }
 {
-    state_levels::begin_ctx(t, level, name, arity, kind);
+    state_levels::begin_ctx(t, level, name, arity, Kind::from(kind));
 }
 
 // The function is finished: its level's words stay, its code and runs are no more. Who calls this has taken what the image needs of it, and counts it.

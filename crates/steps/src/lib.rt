@@ -40,6 +40,34 @@ pub enum Reason {
     CodeFull,
 }
 
+// Of any byte, by the refusals' numbers: a byte that is none of the others' is CODE_FULL's.
+impl From<u8> for Reason {
+    ghost use Rattle.std.specs.Prelude.{◌≡◌};
+    ghost use Rattle.steps.specs.Numbers.{reason_of};
+
+    ghost from_gives = { λ number reason. reason ≡ reason_of number };
+
+    fn from(number: u8) -> Reason {
+        match number {
+            10 => Reason::AlreadyDefined,
+            11 => Reason::AccessInsideInitializer,
+            12 => Reason::ClassInheritFromSelf,
+            13 => Reason::JumpTooLarge,
+            14 => Reason::TooManyArgs,
+            15 => Reason::TooManyConstants,
+            16 => Reason::TooManyLocals,
+            17 => Reason::TooManyParams,
+            18 => Reason::TooManyUpvalues,
+            19 => Reason::ReturnInInitializer,
+            20 => Reason::ReturnOutsideFunction,
+            21 => Reason::SuperOutsideClass,
+            22 => Reason::SuperWithoutSuperclass,
+            23 => Reason::ThisOutsideClass,
+            _ => Reason::CodeFull,
+        }
+    }
+}
+
 // Why the compiler stops: the refusal's name, what it carries, and the level of the function it is in; specs/Why.antt says which refusal that is. All have
 // this one form: a case with fields for each would stand in every line that is proved of a function with such an answer. The function's name is in the
 // table, which nobody changes once the compiler stops: it is read in the end.

@@ -15,7 +15,7 @@ use step_returns::implicit_return;
 use steps::{Step, Work};
 use stmt_closures::emit_closure;
 pub use stmt_opening::open_function;
-pub use stmt_records::finish;
+pub use stmt_records::{finish, finish_in};
 
 // The function above `level` after its statements. It is put into the output before its level is left; its number is how many were finished before it.
 pub fn close_function(
@@ -35,7 +35,7 @@ pub fn close_function(
         return a;
     };
     let number = work.table[Table::FUNCTIONS] as u32;
-    finish(work, out, level + 1);
+    finish_in(work, out, level + 1);
     state_levels::end_ctx(work.table, level + 1);
     emit_closure(work, level, limit, number, span, next)
 }

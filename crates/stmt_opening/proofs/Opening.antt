@@ -167,3 +167,9 @@ module _ (l kind : ℕ) (tree : List ℕ) (at : ℕ) (span : Span) (t : List ℕ
 -- the parameters are there
 pub params_there : (tree : List ℕ) (at : ℕ) {count : ℕ} → count ≡ word16 tree (at + 12) → FunHead tree at → NamesThere tree count (at + 14)
 params_there tree at q h = record { fault = TreeForm at; names = h.params; next = h.mid; is = ap (λ (j : ℕ). names_at tree (TreeForm at) j (at + 14)) q ∙ h.row_is }
+
+-- what it is to begin a function says of the number nothing but what kind it is
+pub of_kind : (l j k : ℕ) (tree : List ℕ) (at : ℕ) (span : Span) (t t' : List ℕ) (r : Step) → type_of j ≡ type_of k → FunctionOpened l j tree at span t t' r → FunctionOpened l k tree at span t t' r
+of_kind l j k tree at span t t' r e h = record {
+  did = λ params mid q. subst (λ (type : FunctionType). FunctionOpenedAs l mid (open_function type (word16 tree (at + 10)) params span) t t' r) e (h.did params mid q);
+}

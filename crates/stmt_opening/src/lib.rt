@@ -78,11 +78,11 @@ pub fn open_function(
     at: usize,
     t: &mut [u64],
     level: usize,
-    kind: Kind,
+    kind: u8,
     span: Span,
 ) -> Step
     requires { (FunHead tree.now at) × (level + 1 < levels) × (Wf t.old) × (get_or t.old (level * level_words + depth_place) 0 < deepest) }
-    ensures { FunctionOpened level (number_of kind) tree.now at span t.old t.new result }
+    ensures { FunctionOpened level kind tree.now at span t.old t.new result }
 {
     let name = u16_at(tree, at + 10);
     let count = u16_at(tree, at + 12);
@@ -94,8 +94,9 @@ pub fn open_function(
             around: level,
         });
     }
-    state_levels::begin_ctx(t, level, name, (count % 256) as u8, kind);
-    let a = declare_named(t, level + 1, slot_zero(name, kind), span, 0);
+    let what = Kind::from(kind);
+    state_levels::begin_ctx(t, level, name, (count % 256) as u8, what);
+    let a = declare_named(t, level + 1, slot_zero(name, what), span, 0);
     let Ok(_) = a else {
         return a;
     };

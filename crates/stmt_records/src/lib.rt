@@ -24,7 +24,19 @@ fn put_record(out: &mut [u8], at: usize, work: &Work<'_>, level: usize) -> usize
 }
 
 // The function that stands at `level` is put behind the others, and counted. The output's first six bytes are the header's.
-pub fn finish(work: &mut Work<'_>, out: &mut [u8], level: usize)
+pub fn finish(t: &mut [u64], code: &[u8], spans: &[u32], out: &mut [u8], level: usize)
+    requires { (Closed t.old code.now spans.now level) × (get_or t.old image_at 0 ≤ max_tree) × (get_or t.old (image_at + 1) 0 ≤ max_tree * largest) }
+    ensures { Filed level t.old code.now spans.now out.old t.new out.new }
+{
+    let long = t[Table::IMAGE_BYTES] as usize;
+    let next = put_function(out, 6 + long, &t[..], code, spans, level);
+    t[Table::IMAGE_BYTES] = (next - 6) as u64;
+    t[Table::FUNCTIONS] = t[Table::FUNCTIONS] + 1;
+}
+
+// The same of the areas, whose code and runs stay as they are. It does not call `finish`: of a slice that is lent out of the areas and given back the proof
+// knows nothing.
+pub fn finish_in(work: &mut Work<'_>, out: &mut [u8], level: usize)
     requires { (Closed work.old.table.now work.old.code.now work.old.spans.now level) × (get_or work.old.table.now image_at 0 ≤ max_tree) × (get_or work.old.table.now (image_at + 1) 0 ≤ max_tree * largest) }
     ensures does { Filed level work.old.table.now work.old.code.now work.old.spans.now out.old work.new.table.now out.new }
     ensures same { SameAreas work.old work.new }

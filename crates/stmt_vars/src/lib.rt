@@ -15,7 +15,7 @@ use fields::{span_at, u8_at, u16_at};
 use op::Op;
 use rules::Span;
 use step_bytes::{emit_op, emit_op_name};
-use step_scopes::{declare_local, define_local, is_global};
+use step_scopes::{declare_local, define_local, is_global_in};
 use steps::{Step, Work};
 
 // The value at `at`, or NIL where the flag before it says that there is none.
@@ -85,7 +85,7 @@ pub fn compile_var(
     let span = span_at(tree, at + 2);
     let name = u16_at(tree, at + 10);
     let flag = u8_at(tree, at + 12);
-    let global = is_global(&*work, level);
+    let global = is_global_in(&*work, level);
     let a = open_var(work.table, level, global, name, span, at + 13);
     let Ok(_) = a else {
         return a;

@@ -23,8 +23,8 @@ pub returns-in_default-b-clause-does : goal.returns-in_default-b-clause-does
 returns-in_default-b-clause-does c =
     stopped_second c.requires.0 c.requires.1 (c.compile_stmts-a.ensures.does.at_depth first_limits.depth) c.in-Ok.is c.end_script-b.ensures.does c.in_default-b.is
 
-pub finish-requires : goal.finish-requires
-finish-requires c =
+pub finish_in-requires : goal.finish_in-requires
+finish_in-requires c =
     to_finish c.requires.0 c.requires.1 (c.compile_stmts-a.ensures.does.at_depth first_limits.depth) c.in-Ok.is c.end_script-b.ensures.does
     c.in-Ok-b.is
 
@@ -32,9 +32,9 @@ pub overflow_add-result : goal.overflow_add-result
 overflow_add-result c =
     let f = to_finish c.requires.0 c.requires.1 (c.compile_stmts-a.ensures.does.at_depth first_limits.depth) c.in-Ok.is c.end_script-b.ensures.does
     c.in-Ok-b.is in
-    omega (arith, c.finish.ensures.does.bytes, f.2)
+    omega (arith, c.finish_in.ensures.does.bytes, f.2)
 
 pub returns-clause-does : goal.returns-clause-does
 returns-clause-does c =
     scripted c.requires.0 c.requires.1 (c.compile_stmts-a.ensures.does.at_depth first_limits.depth) c.in-Ok.is c.end_script-b.ensures.does c.in-Ok-b.is
-    c.finish.ensures.does
+    c.finish_in.ensures.does

@@ -27,7 +27,7 @@ compile_function-open_function-a-requires t c =
 pub compile_function-returns-in_default-clause-does : goal.compile_function-returns-in_default-clause-does
 compile_function-returns-in_default-clause-does t c =
     let p = c.requires in
-    functions.stop p c.open_function-a.ensures _ c.in_default.is
+    functions.stop p (rw c.from.ensures at c.open_function-a.ensures) _ c.in_default.is
 
 pub compile_function-overflow_add-next : goal.compile_function-overflow_add-next
 compile_function-overflow_add-next t c =
@@ -62,7 +62,7 @@ compile_function-compile_stmt-b-requires t c =
 pub compile_function-returns-in_default-b-clause-does : goal.compile_function-returns-in_default-b-clause-does
 compile_function-returns-in_default-b-clause-does t c =
     let p = c.requires in
-    functions.stop_2 p c.open_function-a.ensures c.in-Ok.is c.loop.invariant.0 (more_left c.loop-test.true)
+    functions.stop_2 p (rw c.from.ensures at c.open_function-a.ensures) c.in-Ok.is c.loop.invariant.0 (more_left c.loop-test.true)
     c.compile_stmt-b.ensures.does c.in_default-b.is
 
 pub compile_function-loop-preserved : goal.compile_function-loop-preserved
@@ -79,7 +79,7 @@ compile_function-close_function-requires t c =
 pub compile_function-returns-clause-does : goal.compile_function-returns-clause-does
 compile_function-returns-clause-does t c =
     let p = c.requires in
-    functions.done p c.open_function-a.ensures c.in-Ok.is c.loop.invariant.0 (none_left c.loop-test.false)
+    functions.done p (rw c.from.ensures at c.open_function-a.ensures) c.in-Ok.is c.loop.invariant.0 (none_left c.loop-test.false)
     c.close_function.ensures.does
 
 -- ## A statement, before the arms
@@ -287,8 +287,8 @@ compile_stmt-returns-then-mark-eq-IF-clause-does t c =
 
 -- ## A `while`
 
-pub compile_stmt-code_length-start-requires : goal.compile_stmt-code_length-start-requires
-compile_stmt-code_length-start-requires t c =
+pub compile_stmt-code_length_in-start-requires : goal.compile_stmt-code_length_in-start-requires
+compile_stmt-code_length_in-start-requires t c =
     let p = c.requires in
     (p.ready.fit.low, p.ready.fit.wf.size, p.ready.fit.coded.top)
 
@@ -308,47 +308,47 @@ pub compile_stmt-returns-in_default-a-2-clause-does : goal.compile_stmt-returns-
 compile_stmt-returns-in_default-a-2-clause-does t c =
     let mark = sym c.mark_at-mark.ensures ∙ c.if-mark-eq-WHILE.true in
     let p = c.requires in
-    whiles.stop p mark c.span_at-span.ensures c.code_length-start.ensures c.compile_expr-a-then-mark-eq-WHILE.ensures.does _ c.in_default-a-2.is
+    whiles.stop p mark c.span_at-span.ensures c.code_length_in-start.ensures c.compile_expr-a-then-mark-eq-WHILE.ensures.does _ c.in_default-a-2.is
 
 pub compile_stmt-open_jump-b-requires-then-mark-eq-WHILE : goal.compile_stmt-open_jump-b-requires-then-mark-eq-WHILE
 compile_stmt-open_jump-b-requires-then-mark-eq-WHILE t c =
     let mark = sym c.mark_at-mark.ensures ∙ c.if-mark-eq-WHILE.true in
     let p = c.requires in
-    whiles.fit p mark c.span_at-span.ensures c.code_length-start.ensures c.compile_expr-a-then-mark-eq-WHILE.ensures.does c.in-Ok-a-2.is
+    whiles.fit p mark c.span_at-span.ensures c.code_length_in-start.ensures c.compile_expr-a-then-mark-eq-WHILE.ensures.does c.in-Ok-a-2.is
 
 pub compile_stmt-returns-in_default-b-2-clause-does : goal.compile_stmt-returns-in_default-b-2-clause-does
 compile_stmt-returns-in_default-b-2-clause-does t c =
     let mark = sym c.mark_at-mark.ensures ∙ c.if-mark-eq-WHILE.true in
     let p = c.requires in
-    whiles.stop_2 p mark c.span_at-span.ensures c.code_length-start.ensures c.compile_expr-a-then-mark-eq-WHILE.ensures.does c.in-Ok-a-2.is
+    whiles.stop_2 p mark c.span_at-span.ensures c.code_length_in-start.ensures c.compile_expr-a-then-mark-eq-WHILE.ensures.does c.in-Ok-a-2.is
     c.open_jump-b-then-mark-eq-WHILE.ensures.does _ c.in_default-b-2.is
 
 pub compile_stmt-compile_stmt-d-requires-then-mark-eq-WHILE : goal.compile_stmt-compile_stmt-d-requires-then-mark-eq-WHILE
 compile_stmt-compile_stmt-d-requires-then-mark-eq-WHILE t c =
     let mark = sym c.mark_at-mark.ensures ∙ c.if-mark-eq-WHILE.true in
     let p = c.requires in
-    whiles.body p mark c.span_at-span.ensures c.code_length-start.ensures c.compile_expr-a-then-mark-eq-WHILE.ensures.does c.in-Ok-a-2.is
+    whiles.body p mark c.span_at-span.ensures c.code_length_in-start.ensures c.compile_expr-a-then-mark-eq-WHILE.ensures.does c.in-Ok-a-2.is
     c.open_jump-b-then-mark-eq-WHILE.ensures.does c.in-Ok-b-2.is c.decreases
 
 pub compile_stmt-returns-in_default-d-2-clause-does : goal.compile_stmt-returns-in_default-d-2-clause-does
 compile_stmt-returns-in_default-d-2-clause-does t c =
     let mark = sym c.mark_at-mark.ensures ∙ c.if-mark-eq-WHILE.true in
     let p = c.requires in
-    whiles.stop_3 p mark c.span_at-span.ensures c.code_length-start.ensures c.compile_expr-a-then-mark-eq-WHILE.ensures.does c.in-Ok-a-2.is
+    whiles.stop_3 p mark c.span_at-span.ensures c.code_length_in-start.ensures c.compile_expr-a-then-mark-eq-WHILE.ensures.does c.in-Ok-a-2.is
     c.open_jump-b-then-mark-eq-WHILE.ensures.does c.in-Ok-b-2.is c.compile_stmt-d-then-mark-eq-WHILE.ensures.does c.in_default-d-2.is
 
 pub compile_stmt-close_loop-requires : goal.compile_stmt-close_loop-requires
 compile_stmt-close_loop-requires t c =
     let mark = sym c.mark_at-mark.ensures ∙ c.if-mark-eq-WHILE.true in
     let p = c.requires in
-    whiles.close p mark c.span_at-span.ensures c.code_length-start.ensures c.compile_expr-a-then-mark-eq-WHILE.ensures.does c.in-Ok-a-2.is
+    whiles.close p mark c.span_at-span.ensures c.code_length_in-start.ensures c.compile_expr-a-then-mark-eq-WHILE.ensures.does c.in-Ok-a-2.is
     c.open_jump-b-then-mark-eq-WHILE.ensures.does c.in-Ok-b-2.is c.compile_stmt-d-then-mark-eq-WHILE.ensures.does c.in-Ok-d-2.is
 
 pub compile_stmt-returns-then-mark-eq-WHILE-clause-does : goal.compile_stmt-returns-then-mark-eq-WHILE-clause-does
 compile_stmt-returns-then-mark-eq-WHILE-clause-does t c =
     let mark = sym c.mark_at-mark.ensures ∙ c.if-mark-eq-WHILE.true in
     let p = c.requires in
-    whiles.done p mark c.span_at-span.ensures c.code_length-start.ensures c.compile_expr-a-then-mark-eq-WHILE.ensures.does c.in-Ok-a-2.is
+    whiles.done p mark c.span_at-span.ensures c.code_length_in-start.ensures c.compile_expr-a-then-mark-eq-WHILE.ensures.does c.in-Ok-a-2.is
     c.open_jump-b-then-mark-eq-WHILE.ensures.does c.in-Ok-b-2.is c.compile_stmt-d-then-mark-eq-WHILE.ensures.does c.in-Ok-d-2.is c.close_loop.ensures.does
 
 -- ## A `for`, whose two ways into it meet: what its start comes to is read off the way that was taken
@@ -393,8 +393,8 @@ compile_stmt-returns-in_default-a-3-clause-does t c =
     fors.stop p mark c.u8_at-parts.ensures (c.begin_scope-then-mark-eq-FOR.ensures.gives _ _ p.ready.fit) c.if-parts-eq1.true
     c.compile_stmt-a-then-parts-eq1.ensures.does c.span_at-span.ensures c.in_default-a-3.is
 
-pub compile_stmt-code_length-start-requires-then-mark-eq-FOR : goal.compile_stmt-code_length-start-requires-then-mark-eq-FOR
-compile_stmt-code_length-start-requires-then-mark-eq-FOR t c =
+pub compile_stmt-code_length_in-start-requires-then-mark-eq-FOR : goal.compile_stmt-code_length_in-start-requires-then-mark-eq-FOR
+compile_stmt-code_length_in-start-requires-then-mark-eq-FOR t c =
     let mark = sym c.mark_at-mark.ensures ∙ c.if-mark-eq-FOR.true in
     let p = c.requires in
     let e = c.u8_at-parts.ensures in
@@ -432,7 +432,7 @@ compile_stmt-returns-in-Err-clause-does t c =
       | compile_stmt-then-parts-eq1+in-Ok-a-3 w ↦ fors.came p (ap areas w.work-is) w.out-is w.next-is
           (fors.init_one p mark e o w.if-parts-eq1.true w.compile_stmt-a-then-parts-eq1.ensures.does w.in-Ok-a-3.is)
       | compile_stmt-else-parts-eq1 w ↦ fors.came p (ap areas w.work-is) w.out-is w.next-is (fors.init_none p mark e o w.if-parts-eq1.false _)
-    ]) c.code_length-start-then-mark-eq-FOR.ensures c.for_cond-tested.ensures.does c.in-Err.is
+    ]) c.code_length_in-start-then-mark-eq-FOR.ensures c.for_cond-tested.ensures.does c.in-Err.is
 
 pub compile_stmt-compile_stmt-d-requires-then-mark-eq-FOR : goal.compile_stmt-compile_stmt-d-requires-then-mark-eq-FOR
 compile_stmt-compile_stmt-d-requires-then-mark-eq-FOR t c =
@@ -444,7 +444,7 @@ compile_stmt-compile_stmt-d-requires-then-mark-eq-FOR t c =
       | compile_stmt-then-parts-eq1+in-Ok-a-3 w ↦ fors.came p (ap areas w.work-is) w.out-is w.next-is
           (fors.init_one p mark e o w.if-parts-eq1.true w.compile_stmt-a-then-parts-eq1.ensures.does w.in-Ok-a-3.is)
       | compile_stmt-else-parts-eq1 w ↦ fors.came p (ap areas w.work-is) w.out-is w.next-is (fors.init_none p mark e o w.if-parts-eq1.false _)
-    ]) c.code_length-start-then-mark-eq-FOR.ensures c.for_cond-tested.ensures.does c.in-Ok-tested.is c.decreases
+    ]) c.code_length_in-start-then-mark-eq-FOR.ensures c.for_cond-tested.ensures.does c.in-Ok-tested.is c.decreases
 
 pub compile_stmt-returns-in_default-d-3-clause-does : goal.compile_stmt-returns-in_default-d-3-clause-does
 compile_stmt-returns-in_default-d-3-clause-does t c =
@@ -456,7 +456,7 @@ compile_stmt-returns-in_default-d-3-clause-does t c =
       | compile_stmt-then-parts-eq1+in-Ok-a-3 w ↦ fors.came p (ap areas w.work-is) w.out-is w.next-is
           (fors.init_one p mark e o w.if-parts-eq1.true w.compile_stmt-a-then-parts-eq1.ensures.does w.in-Ok-a-3.is)
       | compile_stmt-else-parts-eq1 w ↦ fors.came p (ap areas w.work-is) w.out-is w.next-is (fors.init_none p mark e o w.if-parts-eq1.false _)
-    ]) c.code_length-start-then-mark-eq-FOR.ensures c.for_cond-tested.ensures.does c.in-Ok-tested.is c.compile_stmt-d-then-mark-eq-FOR.ensures.does c.in_default-d-3.is
+    ]) c.code_length_in-start-then-mark-eq-FOR.ensures c.for_cond-tested.ensures.does c.in-Ok-tested.is c.compile_stmt-d-then-mark-eq-FOR.ensures.does c.in_default-d-3.is
 
 pub compile_stmt-for_incr-e-requires : goal.compile_stmt-for_incr-e-requires
 compile_stmt-for_incr-e-requires t c =
@@ -470,9 +470,9 @@ compile_stmt-for_incr-e-requires t c =
           (fors.init_one p mark e o w.if-parts-eq1.true w.compile_stmt-a-then-parts-eq1.ensures.does w.in-Ok-a-3.is)
       | compile_stmt-else-parts-eq1 w ↦ fors.came p (ap areas w.work-is) w.out-is w.next-is (fors.init_none p mark e o w.if-parts-eq1.false _)
     ] in (
-      fors.incr_there p mark e o c.span_at-span.ensures init c.code_length-start-then-mark-eq-FOR.ensures c.for_cond-tested.ensures.does c.in-Ok-tested.is c.compile_stmt-d-then-mark-eq-FOR.ensures.does
+      fors.incr_there p mark e o c.span_at-span.ensures init c.code_length_in-start-then-mark-eq-FOR.ensures c.for_cond-tested.ensures.does c.in-Ok-tested.is c.compile_stmt-d-then-mark-eq-FOR.ensures.does
           c.in-Ok-d-3.is,
-      fors.fit_2 p mark e o c.span_at-span.ensures init c.code_length-start-then-mark-eq-FOR.ensures c.for_cond-tested.ensures.does c.in-Ok-tested.is c.compile_stmt-d-then-mark-eq-FOR.ensures.does
+      fors.fit_2 p mark e o c.span_at-span.ensures init c.code_length_in-start-then-mark-eq-FOR.ensures c.for_cond-tested.ensures.does c.in-Ok-tested.is c.compile_stmt-d-then-mark-eq-FOR.ensures.does
           c.in-Ok-d-3.is,
     )
 
@@ -486,7 +486,7 @@ compile_stmt-returns-in_default-e-2-clause-does t c =
       | compile_stmt-then-parts-eq1+in-Ok-a-3 w ↦ fors.came p (ap areas w.work-is) w.out-is w.next-is
           (fors.init_one p mark e o w.if-parts-eq1.true w.compile_stmt-a-then-parts-eq1.ensures.does w.in-Ok-a-3.is)
       | compile_stmt-else-parts-eq1 w ↦ fors.came p (ap areas w.work-is) w.out-is w.next-is (fors.init_none p mark e o w.if-parts-eq1.false _)
-    ]) c.code_length-start-then-mark-eq-FOR.ensures c.for_cond-tested.ensures.does c.in-Ok-tested.is c.compile_stmt-d-then-mark-eq-FOR.ensures.does c.in-Ok-d-3.is
+    ]) c.code_length_in-start-then-mark-eq-FOR.ensures c.for_cond-tested.ensures.does c.in-Ok-tested.is c.compile_stmt-d-then-mark-eq-FOR.ensures.does c.in-Ok-d-3.is
     c.for_incr-e.ensures.does c.in_default-e-2.is
 
 pub compile_stmt-close_loop-f-requires : goal.compile_stmt-close_loop-f-requires
@@ -499,7 +499,7 @@ compile_stmt-close_loop-f-requires t c =
       | compile_stmt-then-parts-eq1+in-Ok-a-3 w ↦ fors.came p (ap areas w.work-is) w.out-is w.next-is
           (fors.init_one p mark e o w.if-parts-eq1.true w.compile_stmt-a-then-parts-eq1.ensures.does w.in-Ok-a-3.is)
       | compile_stmt-else-parts-eq1 w ↦ fors.came p (ap areas w.work-is) w.out-is w.next-is (fors.init_none p mark e o w.if-parts-eq1.false _)
-    ]) c.code_length-start-then-mark-eq-FOR.ensures c.for_cond-tested.ensures.does c.in-Ok-tested.is c.compile_stmt-d-then-mark-eq-FOR.ensures.does c.in-Ok-d-3.is
+    ]) c.code_length_in-start-then-mark-eq-FOR.ensures c.for_cond-tested.ensures.does c.in-Ok-tested.is c.compile_stmt-d-then-mark-eq-FOR.ensures.does c.in-Ok-d-3.is
     c.for_incr-e.ensures.does c.in-Ok-e-2.is
 
 pub compile_stmt-returns-in_default-f-2-clause-does : goal.compile_stmt-returns-in_default-f-2-clause-does
@@ -512,7 +512,7 @@ compile_stmt-returns-in_default-f-2-clause-does t c =
       | compile_stmt-then-parts-eq1+in-Ok-a-3 w ↦ fors.came p (ap areas w.work-is) w.out-is w.next-is
           (fors.init_one p mark e o w.if-parts-eq1.true w.compile_stmt-a-then-parts-eq1.ensures.does w.in-Ok-a-3.is)
       | compile_stmt-else-parts-eq1 w ↦ fors.came p (ap areas w.work-is) w.out-is w.next-is (fors.init_none p mark e o w.if-parts-eq1.false _)
-    ]) c.code_length-start-then-mark-eq-FOR.ensures c.for_cond-tested.ensures.does c.in-Ok-tested.is c.compile_stmt-d-then-mark-eq-FOR.ensures.does c.in-Ok-d-3.is
+    ]) c.code_length_in-start-then-mark-eq-FOR.ensures c.for_cond-tested.ensures.does c.in-Ok-tested.is c.compile_stmt-d-then-mark-eq-FOR.ensures.does c.in-Ok-d-3.is
     c.for_incr-e.ensures.does c.in-Ok-e-2.is c.close_loop-f.ensures.does c.in_default-f-2.is
 
 pub compile_stmt-end_scope-requires-then-mark-eq-FOR : goal.compile_stmt-end_scope-requires-then-mark-eq-FOR
@@ -525,7 +525,7 @@ compile_stmt-end_scope-requires-then-mark-eq-FOR t c =
       | compile_stmt-then-parts-eq1+in-Ok-a-3 w ↦ fors.came p (ap areas w.work-is) w.out-is w.next-is
           (fors.init_one p mark e o w.if-parts-eq1.true w.compile_stmt-a-then-parts-eq1.ensures.does w.in-Ok-a-3.is)
       | compile_stmt-else-parts-eq1 w ↦ fors.came p (ap areas w.work-is) w.out-is w.next-is (fors.init_none p mark e o w.if-parts-eq1.false _)
-    ]) c.code_length-start-then-mark-eq-FOR.ensures c.for_cond-tested.ensures.does c.in-Ok-tested.is c.compile_stmt-d-then-mark-eq-FOR.ensures.does c.in-Ok-d-3.is
+    ]) c.code_length_in-start-then-mark-eq-FOR.ensures c.for_cond-tested.ensures.does c.in-Ok-tested.is c.compile_stmt-d-then-mark-eq-FOR.ensures.does c.in-Ok-d-3.is
     c.for_incr-e.ensures.does c.in-Ok-e-2.is c.close_loop-f.ensures.does c.in-Ok-f-2.is
 
 pub compile_stmt-returns-then-mark-eq-FOR-clause-does : goal.compile_stmt-returns-then-mark-eq-FOR-clause-does
@@ -538,7 +538,7 @@ compile_stmt-returns-then-mark-eq-FOR-clause-does t c =
       | compile_stmt-then-parts-eq1+in-Ok-a-3 w ↦ fors.came p (ap areas w.work-is) w.out-is w.next-is
           (fors.init_one p mark e o w.if-parts-eq1.true w.compile_stmt-a-then-parts-eq1.ensures.does w.in-Ok-a-3.is)
       | compile_stmt-else-parts-eq1 w ↦ fors.came p (ap areas w.work-is) w.out-is w.next-is (fors.init_none p mark e o w.if-parts-eq1.false _)
-    ]) c.code_length-start-then-mark-eq-FOR.ensures c.for_cond-tested.ensures.does c.in-Ok-tested.is c.compile_stmt-d-then-mark-eq-FOR.ensures.does c.in-Ok-d-3.is
+    ]) c.code_length_in-start-then-mark-eq-FOR.ensures c.for_cond-tested.ensures.does c.in-Ok-tested.is c.compile_stmt-d-then-mark-eq-FOR.ensures.does c.in-Ok-d-3.is
     c.for_incr-e.ensures.does c.in-Ok-e-2.is c.close_loop-f.ensures.does c.in-Ok-f-2.is c.end_scope-then-mark-eq-FOR.ensures.does
 
 -- ## A function that is declared

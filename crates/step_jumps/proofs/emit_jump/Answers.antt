@@ -31,15 +31,15 @@ returns-in_default-d-clause-does c =
     (then_to _ (c.emit_op-b.ensures.does class) c.in-Ok-b.is
     (halt_to _ (c.emit_op-d.ensures.does class) c.in_default-d.is))
 
-pub code_length-n-requires : goal.code_length-n-requires
-code_length-n-requires c = let f = (went (c.emit_op-d.ensures.does 0) c.in-Ok-d.is).ahead.fit in (f.low, f.wf.size, f.coded.top)
+pub code_length_in-n-requires : goal.code_length_in-n-requires
+code_length_in-n-requires c = let f = (went (c.emit_op-d.ensures.does 0) c.in-Ok-d.is).ahead.fit in (f.low, f.wf.size, f.coded.top)
 
 pub overflow_sub-result : goal.overflow_sub-result
 unfolding emit_jump emit_op code_len
 overflow_sub-result c =
     omega (
       arith,
-      c.code_length-n.ensures.is [] [],
+      c.code_length_in-n.ensures.is [] [],
       longer _ _ (c.emit_op-b.ensures.does 0)
           c.in-Ok-b.is,
       longer _ _ (c.emit_op-d.ensures.does 0) c.in-Ok-d.is,
@@ -52,10 +52,10 @@ returns-clause-does c = λ class.
     then_to _ (c.emit_op-a.ensures.does class) c.in-Ok.is
     (then_to _ (c.emit_op-b.ensures.does class) c.in-Ok-b.is
     (then_to _ (c.emit_op-d.ensures.does class) c.in-Ok-d.is
-    (ways.open_place _ f (c.code_length-n.ensures.is [] [])
+    (ways.open_place _ f (c.code_length_in-n.ensures.is [] [])
     (omega (
       arith,
-      c.code_length-n.ensures.is [] [],
+      c.code_length_in-n.ensures.is [] [],
       longer _ _ (c.emit_op-b.ensures.does 0)
           c.in-Ok-b.is,
       longer _ _ (c.emit_op-d.ensures.does 0) c.in-Ok-d.is,

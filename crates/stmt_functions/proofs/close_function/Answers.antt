@@ -18,8 +18,8 @@ pub overflow_cast-number : goal.overflow_cast-number
 overflow_cast-number c =
     omega (arith, (went (c.implicit_return-a.ensures.does 0) c.in-Ok.is).ahead.beyond refl image_at (omega arith), c.requires.3)
 
-pub finish-requires : goal.finish-requires
-finish-requires c =
+pub finish_in-requires : goal.finish_in-requires
+finish_in-requires c =
     let g = (went (c.implicit_return-a.ensures.does 0) c.in-Ok.is).ahead in (
       can_put g.fit c.requires.2,
       omega (arith, g.beyond refl image_at (omega arith), c.requires.3),
@@ -30,9 +30,9 @@ finish-requires c =
 pub emit_closure-requires : goal.emit_closure-requires
 emit_closure-requires c =
     let a = c.args in (
-      rw c.finish.ensures.code (rw c.finish.ensures.spans (fit_after_at a.limit a.level a.span (areas a.work.now) _ _ _ _ _ _ _
+      rw c.finish_in.ensures.code (rw c.finish_in.ensures.spans (fit_after_at a.limit a.level a.span (areas a.work.now) _ _ _ _ _ _ _
           c.requires.0 (went (c.implicit_return-a.ensures.does 0)
-          c.in-Ok.is) c.finish.ensures.does
+          c.in-Ok.is) c.finish_in.ensures.does
           c.end_ctx.ensures)),
       c.requires.0,
     )
@@ -41,8 +41,8 @@ pub returns-clause-does : goal.returns-clause-does
 returns-clause-does c =
     λ class. let a = c.args in closed_last_at a.limit a.level a.span (areas a.work.now) _ _ _ _ _
     _ _ _ refl c.requires.0 (went (c.implicit_return-a.ensures.does class)
-    c.in-Ok.is) c.finish.ensures.does c.end_ctx.ensures
-    (rw c.finish.ensures.code at (rw c.finish.ensures.spans at (c.emit_closure.ensures.does class)))
+    c.in-Ok.is) c.finish_in.ensures.does c.end_ctx.ensures
+    (rw c.finish_in.ensures.code at (rw c.finish_in.ensures.spans at (c.emit_closure.ensures.does class)))
 
 pub bounds-work-17410 : goal.bounds-work-17410
 bounds-work-17410 c = omega (arith, (went (c.implicit_return-a.ensures.does 0) c.in-Ok.is).ahead.fit.wf.size)

@@ -41,7 +41,7 @@ overflow_add-at-4 c =
 
 pub returns-in_default-clause-does : goal.returns-in_default-clause-does
 returns-in_default-clause-does c =
-    λ d. ways.var_stop _ d _ _ c.requires.1 _ c.u8_at-flag.ensures _ c.span_at-span.ensures _ c.u16_at-name.ensures _ (c.is_global-global.ensures.says c.args.work.now.code.now c.args.work.now.spans.now)
+    λ d. ways.var_stop _ d _ _ c.requires.1 _ c.u8_at-flag.ensures _ c.span_at-span.ensures _ c.u16_at-name.ensures _ (c.is_global_in-global.ensures.says c.args.work.now.code.now c.args.work.now.spans.now)
     (c.open_var-a.ensures.gives c.args.work.now.code.now c.args.work.now.spans.now c.requires.2) c.in_default.is
 
 pub overflow_add-at-5 : goal.overflow_add-at-5
@@ -57,7 +57,7 @@ compile_value-b-requires c =
 pub returns-in_default-b-clause-does : goal.returns-in_default-b-clause-does
 returns-in_default-b-clause-does c =
     λ d. ways.var_value_stop _ d _ _ c.requires.1 _ c.u8_at-flag.ensures _ c.span_at-span.ensures _ c.u16_at-name.ensures _
-    (c.is_global-global.ensures.says c.args.work.now.code.now c.args.work.now.spans.now) (c.open_var-a.ensures.gives c.args.work.now.code.now c.args.work.now.spans.now c.requires.2) c.in-Ok.is
+    (c.is_global_in-global.ensures.says c.args.work.now.code.now c.args.work.now.spans.now) (c.open_var-a.ensures.gives c.args.work.now.code.now c.args.work.now.spans.now c.requires.2) c.in-Ok.is
     (c.compile_value-b.ensures.does _) c.in_default-b.is
 
 pub close_var-requires : goal.close_var-requires
@@ -67,5 +67,5 @@ close_var-requires c =
 
 pub returns-clause-does : goal.returns-clause-does
 returns-clause-does c =
-    λ d. ways.var_done _ d _ _ c.requires.1 _ c.u8_at-flag.ensures _ c.span_at-span.ensures _ c.u16_at-name.ensures _ (c.is_global-global.ensures.says c.args.work.now.code.now c.args.work.now.spans.now)
+    λ d. ways.var_done _ d _ _ c.requires.1 _ c.u8_at-flag.ensures _ c.span_at-span.ensures _ c.u16_at-name.ensures _ (c.is_global_in-global.ensures.says c.args.work.now.code.now c.args.work.now.spans.now)
     (c.open_var-a.ensures.gives c.args.work.now.code.now c.args.work.now.spans.now c.requires.2) c.in-Ok.is (c.compile_value-b.ensures.does _) c.in-Ok-b.is (c.close_var.ensures.does _)
