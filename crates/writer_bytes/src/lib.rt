@@ -1,5 +1,5 @@
 // Bytes put behind what the output holds so far. Where the output has no room the length is counted on, so that the length needed is known in
-// the end. Where room was tested once, for a record, `set_*` set its bytes with no test more; `put_*` test at each byte, for
+// the end. Where room was tested once, for a record or a stretch of code, `set_*` set its bytes with no test more; `put_*` test at each byte, for
 // what a function or an image has once, and for the record that does not fit and those behind it. The two differ in what they ask and in that test,
 // not in a constant: one function with a flag would have to ask either by the flag, and be no plainer.
 #![tactic(auto)]
@@ -40,6 +40,19 @@ pub fn set_mark(out: &mut [u8], at: usize, mark: u16) -> usize
 {
     let next = set_u8(out, at, (mark / 256) as u8);
     set_u8(out, next, (mark % 256) as u8)
+}
+
+// The bytes of a stretch of code, where there is room. One by one: the library's copy is a call of C's memmove, and a program that links the archive
+// need not have one.
+fn set_code(out: &mut [u8], at: usize, code: &[u8]) -> usize
+    requires { at + length code.now ≤ length out.old }
+    ensures { Put out.old out.new at code.now result }
+{
+    let mut next = at;
+    for b in code {
+        next = set_u8(out, next, *b);
+    }
+    next
 }
 
 // One byte.
@@ -83,8 +96,7 @@ pub fn put_code(out: &mut [u8], at: usize, code: &[u8]) -> usize
     ensures { Put out.old out.new at code.now result }
 {
     if has(&out[..], at, code.len()) {
-        out[at..at + code.len()].copy_from_slice(code);
-        return at + code.len();
+        return set_code(out, at, code);
     }
     let mut next = at;
     for b in code {

@@ -1,13 +1,11 @@
 -- `put_code`: set where there is room for all. Else, of the bytes, what is left is still to be put.
 use native.Mathlib.Omega.{arith}
 use Rattle.std.specs.Prelude.{length}
-use Rattle.writer_bytes.proofs.Padding.{putting_step, has_room, put_part, bytes_more}
+use Rattle.writer_bytes.proofs.Padding.{putting_step, has_room, bytes_more}
 use Rattle.writer_bytes.proofs.put_code.Goals as goal
 
-pub returns-then-has : goal.returns-then-has
-returns-then-has c =
-    let a = c.args in
-    put_part a.out.now a.code.now _ a.at _ (has_room a.at (length a.code.now) a.out.now c.has.ensures c.if-has.true) c.copy_from_slice.ensures.after (omega arith)
+pub set_code-requires : goal.set_code-requires
+set_code-requires c = has_room c.args.at (length c.args.code.now) c.args.out.now c.has.ensures c.if-has.true
 
 pub loop-b-preserved : goal.loop-b-preserved
 loop-b-preserved c = (
