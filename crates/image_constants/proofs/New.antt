@@ -10,8 +10,9 @@ use lib.ListN.{length, get_or, take, set, length-set, length-take}
 use lib.Seq.{get_or-take, get_or-set_same, get_or-set_other}
 use lib.Dec.{eqb}
 use borrow.Author.Tests.{eq-eqb, ne_eqb, eqb-true, eqb-false, lt-ltb, le-ltb}
+use Rattle.std.proofs.lemmas.List.{get_or_default}
 use Rattle.rules.specs.Base.{all}
-use Rattle.std.specs.Prelude.{nat_eq, if◌then◌else◌}
+use Rattle.std.specs.Prelude.{Contains, if◌then◌else◌}
 use Rattle.rules.specs.Chunk.{Constant, same_constant}
 use Rattle.rules.specs.Checker.{distinct}
 use Rattle.image_constants.specs.Words.{constant_of, constants_of, slot_in}
@@ -155,17 +156,15 @@ module _ (words : List ℕ) (mark : ℕ) where
         (get_or-take n words j 0 (omega arith) ∙ f ∙ e ∙ sym (get_or-take n words i 0 h)))
 
     -- the word is among those before
-    pub news_found : (i word : ℕ) → i < n → word ≡ get_or words i 0
-        → (x : ℕ) × (x < length (take i words)) × ((d : ℕ) → nat_eq (get_or (take i words) x d) word ≡ true) → false ≡ distinct (constants_of n words)
+    pub news_found : (i word : ℕ) → i < n → word ≡ get_or words i 0 → Contains (take i words) word → false ≡ distinct (constants_of n words)
     news_found i word h e w =
         let l : length (take i words) ≡ i = simp length-take (omega arith) in
         let x : w.0 < i = omega (arith, w.1) in
-        news_broken i w.0 word h e x (sym (get_or-take i words w.0 0 x) ∙ eqb-true _ _ (w.2 0))
+        news_broken i w.0 word h e x (sym (get_or-take i words w.0 0 x) ∙ get_or_default (take i words) w.0 0 word w.1 ∙ w.2)
 
 -- the word is not among those before
-pub news_other : (words : List ℕ) (i word : ℕ) → i ≤ length words
-    → ((x d : ℕ) → 0 ≤ x → x < length (take i words) → nat_eq (get_or (take i words) x d) word ≡ false)
-    → (j : ℕ) → j < i → get_or words j 0 ≡ word → ⊥
+pub news_other : (words : List ℕ) (i word : ℕ) → i ≤ length words → (Contains (take i words) word → ⊥) → (j : ℕ) → j < i → get_or words j 0 ≡ word → ⊥
 news_other words i word h f j l e =
     let m : length (take i words) ≡ i = simp length-take (omega arith) in
-    eqb-false _ _ (f j 0 (omega arith) (omega (arith, m))) (get_or-take i words j 0 l ∙ e)
+    let h : j < length (take i words) = omega (arith, m) in
+    f (j, h, get_or_default (take i words) j word 0 h ∙ get_or-take i words j 0 l ∙ e)

@@ -1,7 +1,7 @@
 // The constants of one function of an image: that no two are equal, that each function among them is an earlier one, and what kind each is.
 #![tactic(auto)]
 
-ghost use Rattle.std.specs.Prelude.{◌≡◌, ℕ, ◌+◌, ◌*◌, ◌%◌, ◌<◌, ◌≤◌, length, get_or, true};
+ghost use Rattle.std.specs.Prelude.{◌≡◌, ℕ, ◌+◌, ◌*◌, ◌%◌, ◌<◌, ◌≤◌, ◌↔◌, length, get_or, true, Contains};
 ghost use Rattle.rules.specs.Reader.{got, many};
 ghost use Rattle.rules.specs.ImageFile.{read_function};
 ghost use Rattle.rules.specs.Chunk.{ObjectFunction};
@@ -39,6 +39,18 @@ fn slot_of(word: u64, size: usize) -> usize
     (word % 65521) as usize
 }
 
+// Whether one of the words is this one. By a plain loop: the library's `contains` takes nearly twice the time on words.
+fn holds(words: &[u64], word: u64) -> bool
+    ensures { (result ≡ true) ↔ Contains words.now word }
+{
+    for other in words {
+        if *other == word {
+            return true;
+        }
+    }
+    false
+}
+
 // Whether no two constants are equal. A word whose slot has not this function's mark is new; the others are looked for among the words before.
 // A mark that was left there by another function costs time and nothing else, so nobody clears the stamps.
 pub fn all_new(words: &[u64], mark: u32, stamps: &mut [u32]) -> bool
@@ -49,7 +61,7 @@ pub fn all_new(words: &[u64], mark: u32, stamps: &mut [u32]) -> bool
         let slot = slot_of(*word, stamps.len());
         if stamps[slot] != mark {
             stamps[slot] = mark;
-        } else if words[..i].contains(word) {
+        } else if holds(&words[..i], *word) {
             return false;
         }
     }

@@ -21,19 +21,20 @@ use Rattle.fields.specs.Words.{word16, letters}
 use Rattle.fields.proofs.Reading.{a_u8, a_u16, then_on, then_bad, mark_is_it, mark_is_not, mark_is_cut, moved}
 use Rattle.tree_small.specs.Places.{place}
 use Rattle.tree_names.specs.Names.{text, last_name, LastFits, NameRead}
-use Rattle.std.specs.Cmp.Lexicographic.{pointwise, slice_partial_cmp}
-use Rattle.std.specs.Ordering.{is_some_and, is_lt, nat_cmp}
+use Rattle.std.specs.Cmp.Lexicographic.{pointwise, slice_cmp}
+use Rattle.std.specs.Ordering.{is_lt, nat_cmp}
+use Rattle.std.specs.declared.cmp.Ordering.{Ordering}
 use Rattle.std.specs.Prelude.{nat_eq}
 use Rattle.std.proofs.lemmas.Bool.Decides.{nat_tests}
-use Rattle.std.proofs.lemmas.Cmp.{same_from_slice_cmp_tested}
+use Rattle.std.proofs.lemmas.Cmp.{same_from_slice_cmp}
 use Rattle.fields.specs.Marks as marks
 
 -- ## Two texts
 
 -- the library's order of slices is the rules'
-pub before_is : (a b : List ℕ) (r : Bool) → r ≡ is_some_and is_lt (slice_partial_cmp (λ x y. Some (nat_cmp x y)) a b) → r ≡ before a b
+pub before_is : (a b : List ℕ) (r : Ordering) → r ≡ slice_cmp nat_cmp a b → is_lt r ≡ before a b
 unfolding before
-before_is = same_from_slice_cmp_tested nat_cmp is_lt before refl (λ y ys. refl) (λ x xs. refl) (λ x y xs ys o e. grind (arith, nat_tests))
+before_is = same_from_slice_cmp nat_cmp is_lt before refl (λ y ys. refl) (λ x xs. refl) (λ x y xs ys o e. grind (arith, nat_tests))
 
 -- and its equality
 pub differs_is : (x a b : List ℕ) → not (pointwise nat_eq a b) ≡ differs x a b
@@ -187,7 +188,7 @@ unfolding read_names ◌>>=◌
 names_some tree zero last at h = absurd (omega arith)
 names_some tree (suc left) last at h = let q : suc left - 1 ≡ left = omega arith in rw q
 
-names_none : (tree : List ℕ) (left : ℕ) (last : Option (List ℕ)) (at : ℕ) → left ≤ 0 → place (read_names tree left last at) ≡ Ok at
+pub names_none : (tree : List ℕ) (left : ℕ) (last : Option (List ℕ)) (at : ℕ) → left ≤ 0 → place (read_names tree left last at) ≡ Ok at
 unfolding read_names return place
 names_none tree zero last at h = refl
 names_none tree (suc left) last at h = absurd (omega arith)

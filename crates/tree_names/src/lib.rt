@@ -30,7 +30,8 @@ fn is_above(tree: &[u8], last: Option<usize>, end: usize, text: &[u8]) -> bool
         return true;
     };
     let from = start + 4;
-    &tree[from..end] < text
+    let before = &tree[from..end];
+    before.cmp(&text).is_lt()
 }
 
 // The name whose record starts at `at`, where that of the one before it starts at `last`.
