@@ -51,11 +51,11 @@ pub record One (limit l : ℕ) (tree : List ℕ) (left at : ℕ) (make : Span �
   comes : (w : Span) (v : Expr) → (compile_expr limit v >> emit_op limit o w) ≡ compile_stmt limit (make w v)
 
 module _ {limit l : ℕ} (tree : List ℕ) (left at : ℕ) where
-  an_expression : letters tree at ≡ marks.SE → One limit l tree left at StmtExpr op.POP
+  pub an_expression : letters tree at ≡ marks.SE → One limit l tree left at StmtExpr op.POP
   unfolding compile_stmt
   an_expression m = record { read = λ s n z. expression_at tree (word16 tree 2) left (funs_left l) at m z; comes = λ w v. refl }
 
-  a_print : letters tree at ≡ marks.SP → One limit l tree left at StmtPrint op.PRINT
+  pub a_print : letters tree at ≡ marks.SP → One limit l tree left at StmtPrint op.PRINT
   unfolding compile_stmt
   a_print m = record { read = λ s n z. print_at tree (word16 tree 2) left (funs_left l) at m z; comes = λ w v. refl }
 

@@ -2,6 +2,7 @@
 -- nothing.
 use native.Mathlib.Omega.{arith}
 use mathlib.Core.Path.{◌∙◌}
+use borrow.Author.Rules.{rules}
 use Rattle.image_directory.proofs.Directory.{nothing, no_directory, no_count, by_offsets}
 use Rattle.image_directory.proofs.behind.Goals as goal
 
@@ -22,4 +23,4 @@ pub returns : goal.returns
 returns c =
     let there = c.entry_count.ensures.there c.in-Some.said c.in-Some.is in
     c.offsets.ensures ∙ by_offsets c.args.image.now c.args.count c.args.at c.requires c.if-at-image.false (omega (arith, there.1.1))
-    there.0 c.in-Some.said there.1.0 c.if-said-count.false
+    there.0 c.in-Some.said there.1.0 (search rules)
