@@ -72,7 +72,7 @@ fn same_output(out: &[u8], image: &[u8]) -> bool {
     if front != image {
         return false;
     }
-    // a plain loop: the library's `all` takes twice the time
+    // a plain loop: the library's `all` takes nearly twice the time
     for b in rest {
         if *b != 0 {
             return false;

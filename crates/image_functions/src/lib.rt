@@ -18,7 +18,9 @@ use image_records::Header;
 // An image of at most this many bytes is small: it pays for small tables only.
 const SMALL: usize = 4096;
 
-// The constants of the next function, as many as there are words for: that they are right, where they end, and their kinds.
+// The constants of the next function, as many as there are words for: that they are right, where they end, and their kinds. Inlined into the
+// places that know the table which the words are a part of: the search for an equal word then takes two words a step.
+#[inline(always)]
 fn constants_in(
     known: &Earlier,
     at: usize,
@@ -146,12 +148,11 @@ pub fn note_count(s: &[u8], at: usize, k: usize, counts: &mut [u16])
 }
 
 // All `count` functions: how many instructions they have, and where they end. All tables are lent to each function, and none is cleared between
-// two.
+// two. The words for up to 256 constants are made here, where the search for an equal word is inlined.
 fn judge_all(
     s: &[u8],
     count: usize,
     counts: &mut [u16],
-    words: &mut [u64; 256],
     stamps: &mut [u32],
     ring: &mut [bool],
 ) -> Option<(usize, usize)>
@@ -159,10 +160,11 @@ fn judge_all(
     requires stamps_len { (stamps_least ≤ length stamps.old) × Wide (length s.now) (length ring.old) }
     ensures { result ≡ functions_done 0 [] (many count (read_function s.now) 6) }
 {
+    let mut words = [0; 256];
     let mut at = Header::FIRST;
     let mut total: usize = 0;
     for k in 0..count {
-        let (n, next) = function(&Earlier { s, k, counts }, at, words, stamps, ring)?;
+        let (n, next) = function(&Earlier { s, k, counts }, at, &mut words, stamps, ring)?;
         note_count(s, at, k, counts);
         total += n;
         at = next;
@@ -170,7 +172,7 @@ fn judge_all(
     Some((total, at))
 }
 
-// The same with tables of these sizes, and words for functions of up to 256 constants.
+// The same with tables of these sizes.
 fn judge_in<const COUNTS: usize, const STAMPS: usize, const RING: usize>(
     s: &[u8],
     count: usize,
@@ -181,10 +183,9 @@ fn judge_in<const COUNTS: usize, const STAMPS: usize, const RING: usize>(
     ensures { result ≡ functions_done 0 [] (many count (read_function s.now) 6) }
 {
     let mut counts = [0; COUNTS];
-    let mut words = [0; 256];
     let mut stamps = [0; STAMPS];
     let mut ring = [false; RING];
-    judge_all(s, count, &mut counts, &mut words, &mut stamps, &mut ring)
+    judge_all(s, count, &mut counts, &mut stamps, &mut ring)
 }
 
 // All `count` functions of an image. Tables are made of zeros, which takes a small image longer than its reading: so it gets small ones. No code
